@@ -23,9 +23,3 @@ by_words line name texts (first ∷ rest) same places is =
 -- each line with a word says what its first word says with the words after it
 pub reads_as : (line name : List ℕ) (texts : List (List ℕ)) → words line ≡ name ∷ texts → ReadsAs line name texts
 reads_as line name texts is = by_words line name texts (words_at 0 line) (words_at-texts 0 line ∙ is) (words_at-places line) refl
-
--- the bytes at the place of a word are the word
-pub bytes_in-word : (line : List ℕ) (word : Placed) → IsWordIn line word → bytes_in line (span_of word) ≡ word.text
-bytes_in-word line word is =
-    let size : word.from + length word.text - word.from ≡ length word.text = omega arith in
-    ap (λ (n : ℕ). take n (drop word.from line)) size ∙ is.text

@@ -4,4 +4,3 @@ pub mod Flags
 pub mod Meta
 pub mod Key
 pub mod Room
-pub mod Worked

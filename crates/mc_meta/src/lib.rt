@@ -3,7 +3,6 @@
 
 mod exptime;
 mod flags;
-mod laws;
 mod letters;
 mod meta_line;
 mod number;
@@ -11,10 +10,6 @@ mod reading;
 mod word;
 
 pub use exptime::is_exptime;
-pub use laws::{
-    a_key_is_a_word_of_its_line, words_are_at_their_places, worked_faults,
-    worked_gets_and_deletions, worked_other_lines, worked_sets,
-};
 pub use letters::Letters;
 pub use meta_line::{MetaLine, Span};
 pub use number::read_small_number;

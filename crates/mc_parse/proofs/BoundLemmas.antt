@@ -7,14 +7,11 @@ use Rattle.std.specs.Prelude.{IfSome}
 use Rattle.std.proofs.lemmas.List.{length-drop}
 use borrow.Author.Tests.{leb-true}
 use Rattle.zy_base.specs.declared.call.Call.{Call}
-use Rattle.zy_base.specs.declared.call.Call.TheVariants.{Flush as FlushCall, Tally}
 use Rattle.zy_base.specs.Call.{key_of}
 use Rattle.zy_base.specs.Number.{number_of}
 use Rattle.zy_base.specs.Bounds.{IsKey, IsValue, IsCall}
 use Rattle.mc_parse.specs.declared.command.Command.{Command}
-use Rattle.mc_parse.specs.declared.command.Command.TheVariants.{Store, Cas, Get, Delete, Count, Flush, Fault, Meta, Stats}
-use Rattle.mc_parse.specs.declared.meta.Meta.{Meta as MetaCommand}
-use Rattle.mc_parse.specs.declared.meta.Meta.TheVariants as Commands
+use Rattle.mc_parse.specs.declared.command.Command.TheVariants.{Fault}
 use Rattle.mc_meta.specs.declared.meta_line.Span.{Span}
 use Rattle.mc_meta.specs.declared.meta_line.MetaLine.{MetaLine}
 use Rattle.mc_meta.specs.declared.meta_line.MetaLine.TheVariants as Metas
@@ -30,11 +27,14 @@ use Rattle.mc_parse.specs.Words.{words, has_byte, pieces_of}
 use Rattle.mc_parse.specs.Name.{names, name_among, arity_of}
 use Rattle.mc_parse.specs.Number.{small_number_of, is_zero}
 use Rattle.mc_parse.specs.Arity.{Following, but_last, following, has_count, lacks_noreply, asks_silence}
-use Rattle.mc_parse.specs.MetaAsk.{MetaAsk, noops, meta_gets, meta_stores, meta_exchanges, meta_deletes}
+use Rattle.mc_parse.specs.MetaAsk.{MetaAsk, meta_gets, meta_stores, meta_exchanges, meta_deletes}
 use Rattle.mc_parse.specs.Form.{Ask, stores, exchanges, gets, deletes, counts, sets_verbosity, flushes, metas, Form, faulty, asks, is_key, first_word, keys_among, sizes_of, store_ask, store_words, cas_ask, cas_words, delete_words, count_words, verbosity_words, with_zero, ask_of, number_fault, check, find, form_with, form_after, form_of, meta_form, form_in, line_form}
 use Rattle.mc_parse.specs.Meaning.{is_ended, value_of, alone_meta, value_meta, value_command, command_for, block_command_for, large_command_for, line_command, block_command, large_command}
-use Rattle.mc_parse.specs.Calls.{calls_of, get_calls, call_alone, meta_calls, on_shard, tagged, due_at, due_from}
-use Rattle.mc_parse.specs.Bounds.{IsMeta, IsCommand, IsShardCall, IsDueWithin}
+use Rattle.mc_parse.specs.OnAll.{made_by}
+use Rattle.mc_parse.specs.Deed.{Deed, does_nothing, makes_one, gets_each, makes_on_all, deed_of}
+use Rattle.mc_parse.specs.Calls.{calls_of, calls_by, get_calls, call_alone, on_shard, tagged, due_at, due_from}
+use Rattle.mc_parse.specs.Bounds.{IsDeed, IsCommand, IsShardCall, IsDueWithin}
+use Rattle.mc_parse.proofs.DeedLemmas.{stored_bound, counted_bound, on_all_bound}
 use Rattle.mc_parse.proofs.PlainLemmas.{each-append}
 use Rattle.mc_parse.proofs.ArityLemmas.{both}
 
@@ -86,11 +86,11 @@ all_keys (word ∷ ws) some short =
 -- ---- what a line asks for
 
 abbrev IsMetaAsk : MetaAsk → Type 0
-IsMetaAsk noops = Unit {0}
 IsMetaAsk (meta_gets key flags) = IsKey key
 IsMetaAsk (meta_stores verb key flags bytes marks) = IsKey key
 IsMetaAsk (meta_exchanges key flags bytes unique marks) = IsKey key
 IsMetaAsk (meta_deletes key flags) = IsKey key
+IsMetaAsk ask = Unit {0}
 
 abbrev IsAsk : Ask → Type 0
 IsAsk (stores verb key flags bytes) = IsKey key
@@ -225,14 +225,11 @@ key_bound line key is =
     (omega (arith, size, after, is.some, is.within), omega (arith, size, after, is.some, is.within, is.short))
 
 meta_bound : (line : List ℕ) (said : MetaLine) → IfSome (key_at said) (IsKeyIn line) → IsForm (meta_form line said)
-meta_bound line Metas.Other is = tt
-meta_bound line Metas.WrongCount is = tt
-meta_bound line Metas.Bad is = tt
-meta_bound line Metas.Noop is = tt
 meta_bound line (Metas.Get key flags) is = key_bound line key is
 meta_bound line (Metas.Set key bytes flags None mode marks) is = key_bound line key is
 meta_bound line (Metas.Set key bytes flags (Some unique) mode marks) is = key_bound line key is
 meta_bound line (Metas.Delete key flags) is = key_bound line key is
+meta_bound line said is = tt
 
 line_keys : (line : List ℕ) → IsForm (line_form line)
 line_keys line = go (words line) (words_some line)
@@ -248,48 +245,39 @@ line_keys line = go (words line) (words_some line)
 -- ---- commands
 
 alone_meta_bound : (ask : MetaAsk) → IsMetaAsk ask → IsCommand (alone_meta ask)
-alone_meta_bound noops is = tt
-alone_meta_bound (meta_gets key flags) is = is
-alone_meta_bound (meta_stores verb key flags bytes marks) is = tt
-alone_meta_bound (meta_exchanges key flags bytes unique marks) is = tt
-alone_meta_bound (meta_deletes key flags) is = is
+alone_meta_bound (meta_gets key flags) is = (is, is)
+alone_meta_bound (meta_deletes key flags) is = (is, is)
+alone_meta_bound ask is = (tt, tt)
 
 value_meta_bound : (ask : MetaAsk) (value : List ℕ) → IsMetaAsk ask → IsValue value → IsCommand (value_meta ask value)
-value_meta_bound noops value is small = tt
-value_meta_bound (meta_gets key flags) value is small = tt
-value_meta_bound (meta_stores Verbs.Set key flags bytes marks) value is small = (is, (is, small))
-value_meta_bound (meta_stores Verbs.Add key flags bytes marks) value is small = (is, (is, small))
-value_meta_bound (meta_stores Verbs.Replace key flags bytes marks) value is small = (is, (is, small))
-value_meta_bound (meta_stores Verbs.Append key flags bytes marks) value is small = (is, (is, small))
-value_meta_bound (meta_stores Verbs.Prepend key flags bytes marks) value is small = (is, (is, small))
-value_meta_bound (meta_exchanges key flags bytes unique marks) value is small = (is, (is, small))
-value_meta_bound (meta_deletes key flags) value is small = tt
+value_meta_bound (meta_stores verb key flags bytes marks) value is small = (stored_bound verb key flags value is small, is)
+value_meta_bound (meta_exchanges key flags bytes unique marks) value is small = ((is, small), is)
+value_meta_bound ask value is small = (tt, tt)
 
 alone_bound : (form : Form) → IsForm form → IsCommand (command_for form)
-alone_bound (faulty line) is = tt
-alone_bound (asks (gets keys unique) quiet) is = is
-alone_bound (asks (deletes key) quiet) is = is
-alone_bound (asks (counts key up amount) quiet) is = is
+alone_bound (asks (gets keys unique) quiet) is = (is, is)
+alone_bound (asks (deletes key) quiet) is = (is, tt)
+alone_bound (asks (counts key up amount) quiet) is = (counted_bound up key amount is, tt)
 alone_bound (asks (metas ask) quiet) is = alone_meta_bound ask is
-alone_bound (asks ask quiet) is = tt
+alone_bound form is = (tt, tt)
 
 value_bound : (ask : Ask) (quiet : Bool) (value : List ℕ) → IsAsk ask → IsValue value → IsCommand (value_command ask quiet value)
-value_bound (stores verb key flags bytes) quiet value is small = (is, small)
-value_bound (exchanges key flags bytes unique) quiet value is small = (is, small)
+value_bound (stores verb key flags bytes) quiet value is small = (stored_bound verb key flags value is small, tt)
+value_bound (exchanges key flags bytes unique) quiet value is small = ((is, small), tt)
 value_bound (metas ask) quiet value is small = value_meta_bound ask value is small
-value_bound ask quiet value is small = tt
+value_bound ask quiet value is small = (tt, tt)
 
 ended_bound : (form : Form) (block : List ℕ) → IsForm form → IsValue (value_of block) → IsCommand (block_command_for block form)
-ended_bound (faulty line) block is small = tt
+ended_bound (faulty line) block is small = (tt, tt)
 ended_bound (asks ask quiet) block is small = go (is_ended block)
   where
     go : (b : Bool) → IsCommand (if b then value_command ask quiet (value_of block) else Fault Errors.BadChunk quiet)
     go true = value_bound ask quiet (value_of block) is small
-    go false = tt
+    go false = (tt, tt)
 
 refused_bound : (form : Form) → IsCommand (large_command_for form)
-refused_bound (faulty line) = tt
-refused_bound (asks ask quiet) = tt
+refused_bound (faulty line) = (tt, tt)
+refused_bound (asks ask quiet) = (tt, tt)
 
 -- the command of a line that needs nothing is within its bounds
 pub line_within : (line : List ℕ) → IsCommand (line_command line)
@@ -316,32 +304,19 @@ on_all_within : (call : Call) (first count : ℕ) → IsCall call → AllByRecur
 on_all_within call first zero is = tt
 on_all_within call first (suc count) is = (is, on_all_within call (first + 1) count is)
 
-alone_within : (shards : ℕ) (call : Call) (key : Option (List ℕ)) → IsShardCall (on_shard call 0) → AllByRecursion IsShardCall (call_alone shards call key)
+alone_within : (shards : ℕ) (call : Call) (key : Option (List ℕ)) → IsCall call → AllByRecursion IsShardCall (call_alone shards call key)
 alone_within shards call None is = tt
 alone_within shards call (Some key) is = (is, tt)
 
-metas_within : (shards : ℕ) (meta : MetaCommand) → IsMeta meta → AllByRecursion IsShardCall (meta_calls shards meta)
-metas_within shards Commands.Noop is = tt
-metas_within shards (Commands.Get key flags) is = (is, tt)
-metas_within shards (Commands.Set key call marks) is = alone_within shards call (key_of call) is.1
-metas_within shards (Commands.Delete key flags) is = (is, tt)
+deed_within : (shards : ℕ) (deed : Deed) → IsDeed deed → AllByRecursion IsShardCall (calls_by shards deed)
+deed_within shards does_nothing is = tt
+deed_within shards (makes_one call) is = alone_within shards call (key_of call) is
+deed_within shards (gets_each keys) is = gets_within shards keys is
+deed_within shards (makes_on_all made) is = on_all_within (made_by made) 0 shards (on_all_bound made)
 
 -- the calls of a command within its bounds are within their bounds
 pub calls_within : (shards : ℕ) (command : Command) → IsCommand command → AllByRecursion IsShardCall (calls_of shards command)
-calls_within shards (Store Verbs.Set key flags value quiet) is = (is, tt)
-calls_within shards (Store Verbs.Add key flags value quiet) is = (is, tt)
-calls_within shards (Store Verbs.Replace key flags value quiet) is = (is, tt)
-calls_within shards (Store Verbs.Append key flags value quiet) is = (is, tt)
-calls_within shards (Store Verbs.Prepend key flags value quiet) is = (is, tt)
-calls_within shards (Cas key flags unique value quiet) is = (is, tt)
-calls_within shards (Get keys unique) is = gets_within shards keys is
-calls_within shards (Delete key quiet) is = (is, tt)
-calls_within shards (Count key true amount quiet) is = (is, tt)
-calls_within shards (Count key false amount quiet) is = (is, tt)
-calls_within shards (Flush quiet) is = on_all_within FlushCall 0 shards tt
-calls_within shards Stats is = on_all_within Tally 0 shards tt
-calls_within shards (Meta meta) is = metas_within shards meta is
-calls_within shards command is = tt
+calls_within shards command is = deed_within shards (deed_of command) is.0
 
 tagged_within : (n conn index part : ℕ) (calls : List ShardCall) → index < n → AllByRecursion IsShardCall calls → AllByRecursion (IsDueWithin n) (tagged conn index part calls)
 tagged_within n conn index part [] within each = tt

@@ -1,45 +1,60 @@
 -- What the calls of a command have in common.
-use Rattle.std.proofs.Common.{◌≡◌, ℕ, ◌+◌, ◌<◌, ◌≤◌, true, false, List, [], ◌∷◌, ◌++◌, length, append_assoc, append-nil, ◌∙◌, map, refl, ap, sym, subst, zero, suc, arith}
-use Rattle.std.specs.Prelude.{All, Option, None, Some, IfSome, option_map}
+use Rattle.std.proofs.Common.{◌≡◌, ℕ, ◌+◌, ◌<◌, ◌≤◌, Bool, List, [], ◌∷◌, ◌++◌, length, take, append_assoc, append-nil, ◌∙◌, map, refl, ap, sym, zero, suc, arith}
+use Rattle.std.specs.Prelude.{All, Option, None, Some, option_map}
 use Rattle.std.proofs.lemmas.List.Elements.{All-nil, All-cons, All-head, All-tail, All-append}
 use Rattle.std.specs.List.{range_with_len, slice_get}
-use Rattle.std.proofs.lemmas.Option.{slice_get_past, slice_get_read, slice_get-map}
+use Rattle.std.proofs.lemmas.Option.{slice_get_past, slice_get_read, slice_get-map, slice_get_within, get_or_from_slice_get}
 use Rattle.std.proofs.lemmas.List.FromFn.{length-map-range_with_len, get_or-map-range_with_len}
-use Rattle.zy_base.specs.Key.{shard_of}
+use Rattle.std.proofs.lemmas.List.{map-append, take_more}
 use Rattle.zy_base.specs.Call.{key_of}
-use Rattle.zy_base.specs.declared.call.Call.TheVariants.{Get as GetCall, Set as SetCall, Add as AddCall, Replace as ReplaceCall, Append as AppendCall, Prepend as PrependCall, Cas as CasCall, Incr, Decr, Delete as DeleteCall, Flush as FlushCall, Tally}
+use Rattle.zy_base.specs.declared.call.Call.TheVariants.{Get as GetCall}
 use Rattle.zy_base.specs.declared.call.Call.{Call}
-use Rattle.mc_parse.specs.declared.verb.Verb.TheVariants.{Set, Add, Replace, Append, Prepend}
+use Rattle.zy_base.specs.declared.entry.Entry.{Entry}
+use Rattle.mc_parse.specs.declared.verb.Verb.{Verb}
 use Rattle.mc_parse.specs.declared.command.Command.{Command}
-use Rattle.mc_parse.specs.declared.command.Command.TheVariants.{Store, Cas, Get, Delete, Count, Flush, Meta, Stats}
 use Rattle.mc_parse.specs.declared.meta.Meta.{Meta as MetaCommand}
 use Rattle.mc_parse.specs.declared.meta.Meta.TheVariants as Metas
 use Rattle.mc_parse.specs.declared.shard_call.ShardCall.{ShardCall}
-use Rattle.zy_base.specs.declared.entry.Entry.{Entry}
-use Rattle.std.proofs.lemmas.List.{map-append}
-use Rattle.mc_parse.specs.Calls.{calls_of, calls_on_all, call_alone, meta_calls, asked_by, Due, due, due_at, due_from, due_of, dues_of, tag_of, tagged, at_key, get_at, on_shard, IsAtKey, IsOnShard, IsDueOn}
-
--- the calls of gets are the gets of the keys asked for
-pub asked_by-gets : (shards : ℕ) (keys : List (List ℕ)) → asked_by (map (get_at shards) keys) ≡ map GetCall keys
-asked_by-gets shards [] = refl
-asked_by-gets shards (key ∷ keys) = ap (λ (rest : List Call). GetCall key ∷ rest) (asked_by-gets shards keys)
+use Rattle.mc_parse.specs.OnAll.{made_by}
+use Rattle.mc_parse.specs.Deed.{Deed, does_nothing, makes_one, gets_each, makes_on_all, meta_deed, deed_of, IsOnce, stored_by, counted_by}
+use Rattle.mc_parse.specs.Calls.{calls_of, calls_by, calls_on_all, call_alone, Due, due, due_at, due_from, due_of, dues_of, tag_of, tagged, at_key, get_at, on_shard, IsOnShard, IsDueOn}
+use Rattle.mc_parse.proofs.DeedLemmas.{stored_key, counted_key, no_key}
 
 -- ---- one call
 
--- where there is one call, there is none after it
-pub none_later : (call : ShardCall) (part : ℕ) → 0 < part → slice_get (call ∷ []) part ≡ None
-none_later call part later = slice_get_past (call ∷ []) part (omega (arith, later))
+-- the calls up to a further one are those before it, and this one
+pub take_next : (calls : List ShardCall) (part : ℕ) (call : ShardCall) → slice_get calls part ≡ Some call → take (part + 1) calls ≡ take part calls ++ call ∷ []
+take_next calls part call is =
+    take_more calls part call (slice_get_within calls part call is) ∙ ap (λ (x : ShardCall). take part calls ++ x ∷ []) (get_or_from_slice_get calls part call call is)
 
--- a meta command has no second call
-pub no_later_meta : (shards : ℕ) (meta : MetaCommand) (part : ℕ) → 0 < part → slice_get (meta_calls shards meta) part ≡ None
-no_later_meta shards Metas.Noop part later = let none : List ShardCall = [] in slice_get_past none part (omega arith)
-no_later_meta shards (Metas.Get key flags) part later = none_later (get_at shards key) part later
-no_later_meta shards (Metas.Set key call marks) part later = go (key_of call)
-  where
-    go : (key : Option (List ℕ)) → slice_get (call_alone shards call key) part ≡ None
-    go None = let none : List ShardCall = [] in slice_get_past none part (omega arith)
-    go (Some key) = none_later (at_key shards key call) part later
-no_later_meta shards (Metas.Delete key flags) part later = none_later (at_key shards key (DeleteCall key)) part later
+-- the first call of what makes one call
+pub alone_first : (shards : ℕ) (call : Call) (key : List ℕ) → key_of call ≡ Some key → slice_get (call_alone shards call (key_of call)) 0 ≡ Some (at_key shards key call)
+alone_first shards call key is = rw is refl
+
+-- the call that stores
+pub stored_first : (shards : ℕ) (verb : Verb) (key : List ℕ) (flags : ℕ) (value : List ℕ)
+    → slice_get (call_alone shards (stored_by verb key flags value) (key_of (stored_by verb key flags value))) 0 ≡ Some (at_key shards key (stored_by verb key flags value))
+stored_first shards verb key flags value = alone_first shards (stored_by verb key flags value) key (stored_key verb key flags value)
+
+-- the call that counts
+pub counted_first : (shards : ℕ) (up : Bool) (key : List ℕ) (amount : ℕ)
+    → slice_get (call_alone shards (counted_by up key amount) (key_of (counted_by up key amount))) 0 ≡ Some (at_key shards key (counted_by up key amount))
+counted_first shards up key amount = alone_first shards (counted_by up key amount) key (counted_key up key amount)
+
+alone_later : (shards : ℕ) (call : Call) (key : Option (List ℕ)) (part : ℕ) → 0 < part → slice_get (call_alone shards call key) part ≡ None
+alone_later shards call None part later = let none : List ShardCall = [] in slice_get_past none part (omega arith)
+alone_later shards call (Some key) part later = slice_get_past (at_key shards key call ∷ []) part (omega (arith, later))
+
+-- what makes one call at most makes none after it
+pub once_later : (shards : ℕ) (deed : Deed) (part : ℕ) → IsOnce deed → 0 < part → slice_get (calls_by shards deed) part ≡ None
+once_later shards does_nothing part once later = let none : List ShardCall = [] in slice_get_past none part (omega arith)
+once_later shards (makes_one call) part once later = alone_later shards call (key_of call) part later
+once_later shards (gets_each keys) part once later = absurd once
+once_later shards (makes_on_all made) part once later = absurd once
+
+pub meta_once : (meta : MetaCommand) → IsOnce (meta_deed meta)
+meta_once (Metas.Set key call marks) = tt
+meta_once meta = tt
 
 -- the get of a key
 pub get_there : (shards : ℕ) (keys : List (List ℕ)) (part : ℕ) → slice_get (map (get_at shards) keys) part ≡ option_map (get_at shards) (slice_get keys part)
@@ -73,44 +88,22 @@ all_shards P call first (suc count) each =
     All-cons P (on_shard call first) (map (on_shard call) (range_with_len (first + 1) count)) (each first (omega arith) (omega arith))
     (all_shards P call (first + 1) count (λ shard low high. each shard (omega arith) (omega arith)))
 
-all_metas : (P : ShardCall → Type 0) (shards : ℕ) → ((key : List ℕ) (call : Call) → key_of call ≡ Some key → P (at_key shards key call)) → (meta : MetaCommand) → All P (meta_calls shards meta)
-all_metas P shards keyed Metas.Noop = All-nil P
-all_metas P shards keyed (Metas.Get key flags) = one P (at_key shards key (GetCall key)) (keyed key (GetCall key) refl)
-all_metas P shards keyed (Metas.Set key call marks) = go (key_of call) refl
+by_deed : (P : ShardCall → Type 0) (shards : ℕ) → ((key : List ℕ) (call : Call) → key_of call ≡ Some key → P (at_key shards key call))
+    → ((call : Call) (shard : ℕ) → key_of call ≡ None → shard < shards → P (on_shard call shard)) → (deed : Deed) → All P (calls_by shards deed)
+by_deed P shards keyed bare does_nothing = All-nil P
+by_deed P shards keyed bare (makes_one call) = go (key_of call) refl
   where
     go : (found : Option (List ℕ)) → key_of call ≡ found → All P (call_alone shards call found)
     go None is = All-nil P
     go (Some key) is = one P (at_key shards key call) (keyed key call is)
-all_metas P shards keyed (Metas.Delete key flags) = one P (at_key shards key (DeleteCall key)) (keyed key (DeleteCall key) refl)
+by_deed P shards keyed bare (gets_each keys) = all_gets P shards (λ key. keyed key (GetCall key) refl) keys
+by_deed P shards keyed bare (makes_on_all made) = all_shards P (made_by made) 0 shards (λ shard low high. bare (made_by made) shard (no_key made) (omega arith))
 
 -- what holds of each call on the shard of its key, and of a call without a key on each shard, holds of
 -- every call of a command
 pub all_calls : (P : ShardCall → Type 0) (shards : ℕ) → ((key : List ℕ) (call : Call) → key_of call ≡ Some key → P (at_key shards key call))
     → ((call : Call) (shard : ℕ) → key_of call ≡ None → shard < shards → P (on_shard call shard)) → (command : Command) → All P (calls_of shards command)
-all_calls P shards keyed bare (Store Set key flags value quiet) = one P (at_key shards key (SetCall key flags value)) (keyed key (SetCall key flags value) refl)
-all_calls P shards keyed bare (Store Add key flags value quiet) = one P (at_key shards key (AddCall key flags value)) (keyed key (AddCall key flags value) refl)
-all_calls P shards keyed bare (Store Replace key flags value quiet) = one P (at_key shards key (ReplaceCall key flags value)) (keyed key (ReplaceCall key flags value) refl)
-all_calls P shards keyed bare (Store Append key flags value quiet) = one P (at_key shards key (AppendCall key value)) (keyed key (AppendCall key value) refl)
-all_calls P shards keyed bare (Store Prepend key flags value quiet) = one P (at_key shards key (PrependCall key value)) (keyed key (PrependCall key value) refl)
-all_calls P shards keyed bare (Cas key flags unique value quiet) = one P (at_key shards key (CasCall flags key unique value)) (keyed key (CasCall flags key unique value) refl)
-all_calls P shards keyed bare (Get keys unique) = all_gets P shards (λ key. keyed key (GetCall key) refl) keys
-all_calls P shards keyed bare (Delete key quiet) = one P (at_key shards key (DeleteCall key)) (keyed key (DeleteCall key) refl)
-all_calls P shards keyed bare (Count key true amount quiet) = one P (at_key shards key (Incr key amount)) (keyed key (Incr key amount) refl)
-all_calls P shards keyed bare (Count key false amount quiet) = one P (at_key shards key (Decr key amount)) (keyed key (Decr key amount) refl)
-all_calls P shards keyed bare (Flush quiet) = all_shards P FlushCall 0 shards (λ shard low high. bare FlushCall shard refl (omega arith))
-all_calls P shards keyed bare Stats = all_shards P Tally 0 shards (λ shard low high. bare Tally shard refl (omega arith))
-all_calls P shards keyed bare (Meta meta) = all_metas P shards keyed meta
-all_calls P shards keyed bare command = All-nil P
-
--- every call is on the shard of its key
-pub all_at_keys : (shards : ℕ) (command : Command) → All (IsAtKey shards) (calls_of shards command)
-all_at_keys shards command = all_calls (IsAtKey shards) shards (at_its_key shards) (no_key shards) command
-  where
-    no_key : (shards : ℕ) (call : Call) (shard : ℕ) → key_of call ≡ None → shard < shards → IsAtKey shards (on_shard call shard)
-    no_key shards call shard is within = subst (λ (found : Option (List ℕ)). IfSome found (λ k. shard ≡ shard_of k shards)) (sym is) tt
-
-    at_its_key : (shards : ℕ) (key : List ℕ) (call : Call) → key_of call ≡ Some key → IsAtKey shards (at_key shards key call)
-    at_its_key shards key call is = subst (λ (found : Option (List ℕ)). IfSome found (λ k. shard_of key shards ≡ shard_of k shards)) (sym is) refl
+all_calls P shards keyed bare command = by_deed P shards keyed bare (deed_of command)
 
 -- every call is on one of the shards
 pub all_within : (shards : ℕ) (command : Command) → 1 ≤ shards → All (λ (c : ShardCall). c.shard < shards) (calls_of shards command)

@@ -2,13 +2,11 @@ pub mod WordLemmas
 pub mod MetaLemmas
 pub mod NumberLemmas
 pub mod ArityLemmas
-pub mod NoreplyLemmas
-pub mod CheckLemmas
+pub mod DeedLemmas
 pub mod CallLemmas
-pub mod KeyLemmas
 pub mod PlainLemmas
 pub mod BoundLemmas
 pub mod SameLemmas
 pub mod NeedLemmas
-pub mod SameCallLemmas
+pub mod GetLemmas
 pub mod WidthLemmas

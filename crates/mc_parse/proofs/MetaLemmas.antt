@@ -4,7 +4,7 @@ use Rattle.std.specs.Prelude.{◌||◌, codes, Option, None, Some}
 use Rattle.std.specs.Str.{bytes_eq}
 use Rattle.std.proofs.lemmas.Slice.Eq.{bytes_eq-Decides}
 use Rattle.mc_meta.specs.declared.meta_line.MetaLine.{MetaLine}
-use Rattle.mc_meta.specs.declared.meta_line.MetaLine.TheVariants.{Other, WrongCount, Bad, Noop, Get, Set, Delete}
+use Rattle.mc_meta.specs.declared.meta_line.MetaLine.TheVariants.{Set}
 use Rattle.mc_meta.specs.Meta.{is_meta_name, meta_line}
 use Rattle.mc_meta.proofs.SaidLemmas.{block_of, other_line, wordless_line, alone_line}
 use Rattle.mc_parse.specs.declared.error_line.ErrorLine.TheVariants.{Unknown}
@@ -14,7 +14,6 @@ use Rattle.mc_parse.specs.Words.{words}
 use Rattle.mc_parse.specs.Name.{name_of}
 use Rattle.mc_parse.specs.Form.{Ask, Form, faulty, asks, find, form_after, form_of, form_in, meta_form, line_form}
 use Rattle.mc_parse.specs.Need.{need_for}
-use Rattle.mc_parse.specs.Noreply.{is_loud, is_quiet}
 
 -- ---- names
 
@@ -81,13 +80,8 @@ wordless_form line none = ap (form_in line) none ∙ sym (ap (meta_form line) (w
 -- ---- what must come with a line
 
 need_alone : (line : List ℕ) (said : MetaLine) → block_of said ≡ None → need_for (meta_form line said) ≡ Nothing
-need_alone line Other none = refl
-need_alone line WrongCount none = refl
-need_alone line Bad none = refl
-need_alone line Noop none = refl
-need_alone line (Get key flags) none = refl
 need_alone line (Set key bytes flags unique mode marks) none = absurd (cc)
-need_alone line (Delete key flags) none = refl
+need_alone line said none = refl
 
 -- a line that begins with no name of another command needs a block only where it is a meta command that stores
 pub unstored_need : (line word : List ℕ) (ws : List (List ℕ)) → words line ≡ word ∷ ws → name_of word ≡ None → bytes_eq word (codes "ms") ≡ false → need_for (line_form line) ≡ Nothing
@@ -101,40 +95,3 @@ unnamed_needs line word ws split none = go (bytes_eq word (codes "ms")) refl
     go : (b : Bool) → bytes_eq word (codes "ms") ≡ b → (if b then need_for (meta_form line (meta_line line)) else Nothing) ≡ need_for (line_form line)
     go true is = sym (ap need_for (unnamed_form line word ws split none))
     go false is = sym (unstored_need line word ws split none is)
-
--- ---- noreply
-
--- a meta command does not take the word noreply, and is never quiet
-meta-plain : (line : List ℕ) (said : MetaLine) → (is_loud (meta_form line said) ≡ false) × (is_quiet (meta_form line said) ≡ false)
-meta-plain line Other = (refl, refl)
-meta-plain line WrongCount = (refl, refl)
-meta-plain line Bad = (refl, refl)
-meta-plain line Noop = (refl, refl)
-meta-plain line (Get key flags) = (refl, refl)
-meta-plain line (Set key bytes flags unique mode marks) = (refl, refl)
-meta-plain line (Delete key flags) = (refl, refl)
-
--- a line that is no meta command
-pub record IsPlainLine (line : List ℕ) : Type 0 where
-  pub name : List ℕ
-  pub rest : List (List ℕ)
-  pub split : words line ≡ name ∷ rest
-  pub plain : is_meta_name name ≡ false
-
-plain_by : (line : List ℕ) (tests : Form → Bool) → tests (faulty Unknown) ≡ false → tests (meta_form line (meta_line line)) ≡ false → tests (line_form line) ≡ true → IsPlainLine line
-plain_by line tests unknown meta is = go (words line) refl is
-  where
-    choose : (b : Bool) (word : List ℕ) (ws : List (List ℕ)) → words line ≡ word ∷ ws → is_meta_name word ≡ b → tests (if b then meta_form line (meta_line line) else form_of (word ∷ ws)) ≡ true → IsPlainLine line
-    choose true word ws split named is = let no : false ≡ true = sym meta ∙ is in absurd (cc)
-    choose false word ws split named is = record { name = word; rest = ws; split = split; plain = named }
-
-    go : (ws : List (List ℕ)) → words line ≡ ws → tests (form_in line ws) ≡ true → IsPlainLine line
-    go [] split is = let no : false ≡ true = sym unknown ∙ is in absurd (cc)
-    go (word ∷ ws) split is = choose (is_meta_name word) word ws split refl is
-
--- a line to which noreply may be added is no meta command, and neither is one that asks for no answer
-pub loud_plain : (line : List ℕ) → is_loud (line_form line) ≡ true → IsPlainLine line
-loud_plain line loud = plain_by line is_loud refl (meta-plain line (meta_line line)).0 loud
-
-pub quiet_plain : (line : List ℕ) → is_quiet (line_form line) ≡ true → IsPlainLine line
-quiet_plain line quiet = plain_by line is_quiet refl (meta-plain line (meta_line line)).1 quiet

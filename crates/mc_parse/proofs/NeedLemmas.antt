@@ -6,12 +6,12 @@ use Rattle.zy_base.specs.Number.{number_of}
 use Rattle.mc_parse.specs.declared.error_line.ErrorLine.{ErrorLine}
 use Rattle.mc_parse.specs.declared.error_line.ErrorLine.TheVariants.{Unknown}
 use Rattle.mc_parse.specs.declared.name.Name.{Name}
-use Rattle.mc_parse.specs.declared.name.Name.TheVariants.{Store, Cas, Get, Delete, Count, Version, Verbosity, Flush, Quit, Stats}
+use Rattle.mc_parse.specs.declared.name.Name.TheVariants.{Store, Cas, Delete, Count, Verbosity, Flush, Quit}
 use Rattle.mc_parse.specs.declared.need.Need.TheVariants.{Nothing}
 use Rattle.mc_parse.specs.Arity.{following_of}
 use Rattle.mc_parse.specs.Name.{arity_of}
 use Rattle.mc_parse.specs.Number.{small_number_of, is_zero}
-use Rattle.mc_parse.specs.Form.{Ask, deletes, counts, sets_verbosity, flushes, asks, Form, check, find, with_zero, ask_of, number_fault, form_with, form_after}
+use Rattle.mc_parse.specs.Form.{Ask, deletes, counts, sets_verbosity, flushes, asks, Form, check, find, with_zero, delete_words, count_words, verbosity_words, ask_of, number_fault, form_with, form_after}
 use Rattle.mc_parse.specs.Need.{ask_need, need_for, takes_more}
 
 -- what is found, or its fault, needs nothing
@@ -39,23 +39,30 @@ module _ (fault : ErrorLine) (quiet : Bool) where
   zeroed ask (zero ∷ []) is = when (is_zero zero) ask is
   zeroed ask (zero ∷ word ∷ words) is = refl
 
+deletion : (words : List (List ℕ)) (quiet : Bool) → need_for (find (delete_words words) (number_fault Delete) (λ a. asks a quiet)) ≡ Nothing
+deletion [] quiet = refl
+deletion (key ∷ words) quiet = zeroed (number_fault Delete) quiet (deletes key) words refl
+
+counting : (up : Bool) (words : List (List ℕ)) (quiet : Bool) → need_for (find (count_words up words) (number_fault (Count up)) (λ a. asks a quiet)) ≡ Nothing
+counting up [] quiet = refl
+counting up (key ∷ []) quiet = refl
+counting up (key ∷ amount ∷ []) quiet = mapped (number_fault (Count up)) quiet (number_of amount) (counts key up) (λ n. refl)
+counting up (key ∷ amount ∷ word ∷ words) quiet = refl
+
+level : (words : List (List ℕ)) (quiet : Bool) → need_for (find (verbosity_words words) (number_fault Verbosity) (λ a. asks a quiet)) ≡ Nothing
+level [] quiet = refl
+level (number ∷ []) quiet = mapped (number_fault Verbosity) quiet (small_number_of number) (λ _. sets_verbosity) (λ n. refl)
+level (number ∷ word ∷ words) quiet = refl
+
 asked : (name : Name) (words : List (List ℕ)) (quiet : Bool) → takes_more name ≡ false → need_for (find (ask_of name words) (number_fault name) (λ a. asks a quiet)) ≡ Nothing
 asked (Store verb) words quiet plain = absurd (true≢false plain)
 asked Cas words quiet plain = absurd (true≢false plain)
 asked Quit words quiet plain = absurd (true≢false plain)
-asked (Get unique) words quiet plain = refl
-asked Version words quiet plain = refl
-asked Stats words quiet plain = refl
-asked Delete [] quiet plain = refl
-asked Delete (key ∷ words) quiet plain = zeroed (number_fault Delete) quiet (deletes key) words refl
-asked (Count up) [] quiet plain = refl
-asked (Count up) (key ∷ []) quiet plain = refl
-asked (Count up) (key ∷ amount ∷ []) quiet plain = mapped (number_fault (Count up)) quiet (number_of amount) (counts key up) (λ n. refl)
-asked (Count up) (key ∷ amount ∷ word ∷ words) quiet plain = refl
-asked Verbosity [] quiet plain = refl
-asked Verbosity (number ∷ []) quiet plain = mapped (number_fault Verbosity) quiet (small_number_of number) (λ _. sets_verbosity) (λ n. refl)
-asked Verbosity (number ∷ word ∷ words) quiet plain = refl
+asked Delete words quiet plain = deletion words quiet
+asked (Count up) words quiet plain = counting up words quiet
+asked Verbosity words quiet plain = level words quiet
 asked Flush words quiet plain = zeroed (number_fault Flush) quiet flushes words refl
+asked name words quiet plain = refl
 
 pub needs_nothing : (name : Name) (words : List (List ℕ)) → takes_more name ≡ false → need_for (form_after name words) ≡ Nothing
 needs_nothing name words plain =

@@ -5,20 +5,21 @@ use Rattle.std.specs.Prelude.{map, All, Bool, if◌then◌else◌, Option, None,
 use Rattle.std.specs.List.{AllByRecursion, Contains}
 use Rattle.std.proofs.lemmas.List.{map-append}
 use Rattle.std.proofs.lemmas.List.Elements.{recursion_from_All, Contains-append_left, Contains-append_right}
+use Rattle.zy_base.specs.declared.call.Call.{Call}
 use Rattle.zy_base.specs.declared.call.Call.TheVariants.{Get as GetCall}
 use Rattle.zy_base.specs.Call.{key_of}
 use Rattle.mc_parse.specs.declared.command.Command.{Command}
-use Rattle.mc_parse.specs.declared.command.Command.TheVariants.{Store, Cas, Get, Delete, Count, Flush, Fault, Meta, Stats}
-use Rattle.mc_parse.specs.declared.meta.Meta.{Meta as MetaCommand}
-use Rattle.mc_parse.specs.declared.meta.Meta.TheVariants as Metas
-use Rattle.mc_parse.specs.declared.verb.Verb.TheVariants.{Set, Add, Replace, Append, Prepend}
+use Rattle.mc_parse.specs.declared.command.Command.TheVariants.{Fault}
+use Rattle.mc_parse.specs.declared.verb.Verb.{Verb}
 use Rattle.mc_parse.specs.declared.shard_call.ShardCall.{ShardCall}
 use Rattle.mc_parse.specs.declared.error_line.ErrorLine.TheVariants.{BadChunk}
 use Rattle.mc_parse.specs.MetaAsk.{MetaAsk, noops, meta_gets, meta_stores, meta_exchanges, meta_deletes}
 use Rattle.mc_parse.specs.Form.{Ask, stores, exchanges, gets, deletes, counts, flushes, tells_counts, metas, Form, faulty, asks, line_form}
 use Rattle.mc_parse.specs.Meaning.{is_ended, value_of, alone_meta, value_meta, value_command, command_for, block_command_for, large_command_for, line_command, block_command, large_command}
-use Rattle.mc_parse.specs.Calls.{Due, calls_of, call_alone, meta_calls, get_at, on_shard, tag_of, tagged, due, due_from, due_at}
-use Rattle.mc_parse.specs.Plain.{key_list, meta_keys, keys_of, all_keys_of, IsPlainMeta, IsOwnMeta, IsPlain, IsKeyed, IsDueOwn, bare, IsOwnCommand, IsOwnAsk, IsOwnForm}
+use Rattle.mc_parse.specs.Deed.{Deed, does_nothing, makes_one, gets_each, makes_on_all, deed_of, stored_by, counted_by}
+use Rattle.mc_parse.specs.Calls.{Due, calls_of, calls_by, call_alone, get_at, on_shard, tag_of, tagged, due, due_from, due_at}
+use Rattle.mc_parse.specs.Plain.{key_list, keys_by, keys_of, all_keys_of, IsSteadyDeed, IsOwnMeta, IsPlain, IsKeyed, IsDueOwn, bare, IsOwnCommand, IsOwnAsk, IsOwnForm}
+use Rattle.mc_parse.proofs.DeedLemmas.{stored_key, counted_key, stored_steady, counted_steady}
 
 -- ---- lists
 
@@ -38,35 +39,21 @@ gets_keyed shards IsOwn (key ∷ keys) own = (
   gets_keyed shards IsOwn keys (λ k inside. own k (Contains-append_right (key ∷ []) keys k inside)),
 )
 
-metas_keyed : (shards : ℕ) (IsOwn : List ℕ → Type 0) (meta : MetaCommand) → IsPlainMeta meta → ((key : List ℕ) → Contains (meta_keys meta) key → IsOwn key)
-    → AllByRecursion (IsKeyed shards IsOwn) (meta_calls shards meta)
-metas_keyed shards IsOwn Metas.Noop plain own = tt
-metas_keyed shards IsOwn (Metas.Get key flags) plain own = (record { key = key; named = refl; own = own key (first_in key []); place = refl; steady = tt }, tt)
-metas_keyed shards IsOwn (Metas.Set key call marks) plain own = go (key_of call) refl own
+deed_keyed : (shards : ℕ) (IsOwn : List ℕ → Type 0) (deed : Deed) → IsSteadyDeed deed → ((key : List ℕ) → Contains (keys_by deed) key → IsOwn key)
+    → AllByRecursion (IsKeyed shards IsOwn) (calls_by shards deed)
+deed_keyed shards IsOwn does_nothing steady own = tt
+deed_keyed shards IsOwn (makes_one call) steady own = go (key_of call) refl own
   where
     go : (found : Option (List ℕ)) → key_of call ≡ found → ((key : List ℕ) → Contains (key_list found) key → IsOwn key) → AllByRecursion (IsKeyed shards IsOwn) (call_alone shards call found)
     go None is own = tt
-    go (Some key) is own = (record { key = key; named = is; own = own key (first_in key []); place = refl; steady = plain }, tt)
-metas_keyed shards IsOwn (Metas.Delete key flags) plain own = (record { key = key; named = refl; own = own key (first_in key []); place = refl; steady = tt }, tt)
+    go (Some key) is own = (record { key = key; named = is; own = own key (first_in key []); place = refl; steady = steady }, tt)
+deed_keyed shards IsOwn (gets_each keys) steady own = gets_keyed shards IsOwn keys own
+deed_keyed shards IsOwn (makes_on_all made) steady own = absurd steady
 
 -- each call of a plain command is steady and uses one of its keys
 calls_keyed : (shards : ℕ) (IsOwn : List ℕ → Type 0) (command : Command) → IsPlain command → ((key : List ℕ) → Contains (keys_of command) key → IsOwn key)
     → AllByRecursion (IsKeyed shards IsOwn) (calls_of shards command)
-calls_keyed shards IsOwn (Store Set key flags value quiet) plain own = (record { key = key; named = refl; own = own key (first_in key []); place = refl; steady = tt }, tt)
-calls_keyed shards IsOwn (Store Add key flags value quiet) plain own = (record { key = key; named = refl; own = own key (first_in key []); place = refl; steady = tt }, tt)
-calls_keyed shards IsOwn (Store Replace key flags value quiet) plain own = (record { key = key; named = refl; own = own key (first_in key []); place = refl; steady = tt }, tt)
-calls_keyed shards IsOwn (Store Append key flags value quiet) plain own = (record { key = key; named = refl; own = own key (first_in key []); place = refl; steady = tt }, tt)
-calls_keyed shards IsOwn (Store Prepend key flags value quiet) plain own = (record { key = key; named = refl; own = own key (first_in key []); place = refl; steady = tt }, tt)
-calls_keyed shards IsOwn (Cas key flags unique value quiet) plain own = absurd plain
-calls_keyed shards IsOwn (Get keys true) plain own = absurd plain
-calls_keyed shards IsOwn (Get keys false) plain own = gets_keyed shards IsOwn keys own
-calls_keyed shards IsOwn (Delete key quiet) plain own = (record { key = key; named = refl; own = own key (first_in key []); place = refl; steady = tt }, tt)
-calls_keyed shards IsOwn (Count key true amount quiet) plain own = (record { key = key; named = refl; own = own key (first_in key []); place = refl; steady = tt }, tt)
-calls_keyed shards IsOwn (Count key false amount quiet) plain own = (record { key = key; named = refl; own = own key (first_in key []); place = refl; steady = tt }, tt)
-calls_keyed shards IsOwn (Flush quiet) plain own = absurd plain
-calls_keyed shards IsOwn Stats plain own = absurd plain
-calls_keyed shards IsOwn (Meta meta) plain own = metas_keyed shards IsOwn meta plain own
-calls_keyed shards IsOwn command plain own = tt
+calls_keyed shards IsOwn command plain own = deed_keyed shards IsOwn (deed_of command) plain.0 own
 
 -- ---- the expected calls of a connection
 
@@ -98,22 +85,18 @@ gets_bare shards others conn index part [] = refl
 gets_bare shards others conn index part (key ∷ keys) =
     ap (λ (l : List Due). record { tag = tag_of conn index part; call = on_shard (GetCall key) 0 } ∷ l) (gets_bare shards others conn index (part + 1) keys)
 
-metas_bare : (shards others conn index : ℕ) (meta : MetaCommand) → map bare (tagged conn index 0 (meta_calls shards meta)) ≡ map bare (tagged conn index 0 (meta_calls others meta))
-metas_bare shards others conn index Metas.Noop = refl
-metas_bare shards others conn index (Metas.Get key flags) = refl
-metas_bare shards others conn index (Metas.Set key call marks) = go (key_of call)
+deed_bare : (shards others conn index : ℕ) (deed : Deed) → IsSteadyDeed deed → map bare (tagged conn index 0 (calls_by shards deed)) ≡ map bare (tagged conn index 0 (calls_by others deed))
+deed_bare shards others conn index does_nothing steady = refl
+deed_bare shards others conn index (makes_one call) steady = go (key_of call)
   where
     go : (found : Option (List ℕ)) → map bare (tagged conn index 0 (call_alone shards call found)) ≡ map bare (tagged conn index 0 (call_alone others call found))
     go None = refl
     go (Some key) = refl
-metas_bare shards others conn index (Metas.Delete key flags) = refl
+deed_bare shards others conn index (gets_each keys) steady = gets_bare shards others conn index 0 keys
+deed_bare shards others conn index (makes_on_all made) steady = absurd steady
 
 calls_bare : (shards others conn index : ℕ) (command : Command) → IsPlain command → map bare (due_at shards conn index command) ≡ map bare (due_at others conn index command)
-calls_bare shards others conn index (Get keys unique) plain = gets_bare shards others conn index 0 keys
-calls_bare shards others conn index (Flush quiet) plain = absurd plain
-calls_bare shards others conn index Stats plain = absurd plain
-calls_bare shards others conn index (Meta meta) plain = metas_bare shards others conn index meta
-calls_bare shards others conn index command plain = refl
+calls_bare shards others conn index command plain = deed_bare shards others conn index (deed_of command) plain.0
 
 due_from_bare : (shards others conn index : ℕ) (commands : List Command) → AllByRecursion IsPlain commands → map bare (due_from shards conn index commands) ≡ map bare (due_from others conn index commands)
 due_from_bare shards others conn index [] plain = refl
@@ -129,54 +112,51 @@ due_bare shards others conn commands plain = due_from_bare shards others conn 0 
 
 -- ---- what lines say
 
+one_own : (IsOwn : List ℕ → Type 0) (call : Call) (key : List ℕ) → key_of call ≡ Some key → IsOwn key → AllByRecursion IsOwn (key_list (key_of call))
+one_own IsOwn call key is own = rw is (own, tt)
+
+stores_own : (IsOwn : List ℕ → Type 0) (verb : Verb) (key : List ℕ) (flags : ℕ) (value : List ℕ) → IsOwn key → AllByRecursion IsOwn (key_list (key_of (stored_by verb key flags value)))
+stores_own IsOwn verb key flags value own = one_own IsOwn (stored_by verb key flags value) key (stored_key verb key flags value) own
+
 alone_meta_own : (IsOwn : List ℕ → Type 0) (ask : MetaAsk) → IsOwnMeta IsOwn ask → IsOwnCommand IsOwn (alone_meta ask)
-alone_meta_own IsOwn noops own = record { plain = tt; keys = tt }
-alone_meta_own IsOwn (meta_gets key flags) own = record { plain = own.0; keys = (own.1, tt) }
-alone_meta_own IsOwn (meta_stores verb key flags bytes marks) own = record { plain = tt; keys = tt }
-alone_meta_own IsOwn (meta_exchanges key flags bytes unique marks) own = absurd own
-alone_meta_own IsOwn (meta_deletes key flags) own = record { plain = tt; keys = (own, tt) }
+alone_meta_own IsOwn (meta_gets key flags) own = record { plain = (tt, own.0); keys = (own.1, tt) }
+alone_meta_own IsOwn (meta_deletes key flags) own = record { plain = (tt, tt); keys = (own, tt) }
+alone_meta_own IsOwn ask own = record { plain = (tt, tt); keys = tt }
 
 value_meta_own : (IsOwn : List ℕ → Type 0) (ask : MetaAsk) (value : List ℕ) → IsOwnMeta IsOwn ask → IsOwnCommand IsOwn (value_meta ask value)
-value_meta_own IsOwn noops value own = record { plain = tt; keys = tt }
-value_meta_own IsOwn (meta_gets key flags) value own = record { plain = tt; keys = tt }
-value_meta_own IsOwn (meta_stores Set key flags bytes marks) value own = record { plain = tt; keys = (own, tt) }
-value_meta_own IsOwn (meta_stores Add key flags bytes marks) value own = record { plain = tt; keys = (own, tt) }
-value_meta_own IsOwn (meta_stores Replace key flags bytes marks) value own = record { plain = tt; keys = (own, tt) }
-value_meta_own IsOwn (meta_stores Append key flags bytes marks) value own = record { plain = tt; keys = (own, tt) }
-value_meta_own IsOwn (meta_stores Prepend key flags bytes marks) value own = record { plain = tt; keys = (own, tt) }
+value_meta_own IsOwn (meta_stores verb key flags bytes marks) value own = record { plain = (stored_steady verb key flags value, tt); keys = stores_own IsOwn verb key flags value own }
 value_meta_own IsOwn (meta_exchanges key flags bytes unique marks) value own = absurd own
-value_meta_own IsOwn (meta_deletes key flags) value own = record { plain = tt; keys = tt }
+value_meta_own IsOwn ask value own = record { plain = (tt, tt); keys = tt }
 
 -- the command of a plain line without a block is plain, and calls its keys alone
 alone_own : (IsOwn : List ℕ → Type 0) (form : Form) → IsOwnForm IsOwn form → IsOwnCommand IsOwn (command_for form)
-alone_own IsOwn (faulty line) own = record { plain = tt; keys = tt }
-alone_own IsOwn (asks (exchanges key flags bytes unique) quiet) own = absurd own
 alone_own IsOwn (asks (gets keys true) quiet) own = absurd (let is = own.0 in cc)
-alone_own IsOwn (asks (gets keys false) quiet) own = record { plain = tt; keys = own.1 }
-alone_own IsOwn (asks (deletes key) quiet) own = record { plain = tt; keys = (own, tt) }
-alone_own IsOwn (asks (counts key up amount) quiet) own = record { plain = tt; keys = (own, tt) }
+alone_own IsOwn (asks (gets keys false) quiet) own = record { plain = (tt, tt); keys = own.1 }
+alone_own IsOwn (asks (deletes key) quiet) own = record { plain = (tt, tt); keys = (own, tt) }
+alone_own IsOwn (asks (counts key up amount) quiet) own =
+    record { plain = (counted_steady up key amount, tt); keys = one_own IsOwn (counted_by up key amount) key (counted_key up key amount) own }
 alone_own IsOwn (asks flushes quiet) own = absurd own
 alone_own IsOwn (asks tells_counts quiet) own = absurd own
 alone_own IsOwn (asks (metas ask) quiet) own = alone_meta_own IsOwn ask own
-alone_own IsOwn (asks ask quiet) own = record { plain = tt; keys = tt }
+alone_own IsOwn form own = record { plain = (tt, tt); keys = tt }
 
 value_own : (IsOwn : List ℕ → Type 0) (ask : Ask) (quiet : Bool) (value : List ℕ) → IsOwnAsk IsOwn ask → IsOwnCommand IsOwn (value_command ask quiet value)
-value_own IsOwn (stores verb key flags bytes) quiet value own = record { plain = tt; keys = (own, tt) }
+value_own IsOwn (stores verb key flags bytes) quiet value own = record { plain = (stored_steady verb key flags value, tt); keys = stores_own IsOwn verb key flags value own }
 value_own IsOwn (exchanges key flags bytes unique) quiet value own = absurd own
 value_own IsOwn (metas ask) quiet value own = value_meta_own IsOwn ask value own
-value_own IsOwn ask quiet value own = record { plain = tt; keys = tt }
+value_own IsOwn ask quiet value own = record { plain = (tt, tt); keys = tt }
 
 ended_own : (IsOwn : List ℕ → Type 0) (form : Form) (block : List ℕ) → IsOwnForm IsOwn form → IsOwnCommand IsOwn (block_command_for block form)
-ended_own IsOwn (faulty line) block own = record { plain = tt; keys = tt }
+ended_own IsOwn (faulty line) block own = record { plain = (tt, tt); keys = tt }
 ended_own IsOwn (asks ask quiet) block own = go (is_ended block)
   where
     go : (b : Bool) → IsOwnCommand IsOwn (if b then value_command ask quiet (value_of block) else Fault BadChunk quiet)
     go true = value_own IsOwn ask quiet (value_of block) own
-    go false = record { plain = tt; keys = tt }
+    go false = record { plain = (tt, tt); keys = tt }
 
 refused_own : (IsOwn : List ℕ → Type 0) (form : Form) → IsOwnCommand IsOwn (large_command_for form)
-refused_own IsOwn (faulty line) = record { plain = tt; keys = tt }
-refused_own IsOwn (asks ask quiet) = record { plain = tt; keys = tt }
+refused_own IsOwn (faulty line) = record { plain = (tt, tt); keys = tt }
+refused_own IsOwn (asks ask quiet) = record { plain = (tt, tt); keys = tt }
 
 -- the same of the line
 pub line_own : (IsOwn : List ℕ → Type 0) (line : List ℕ) → IsOwnForm IsOwn (line_form line) → IsOwnCommand IsOwn (line_command line)

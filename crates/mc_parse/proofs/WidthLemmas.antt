@@ -6,7 +6,7 @@ use Rattle.std.specs.Str.{bytes_eq}
 use Rattle.std.proofs.Common.{◌≡◌, ℕ, ◌+◌, ◌*◌, ◌≤◌, List, [], ◌∷◌, length, Bool, true, false, refl, sym, ap, subst, arith}
 use Rattle.std.proofs.lemmas.List.{length-map}
 use Rattle.std.proofs.lemmas.List.FromFn.{length-map-range_with_len}
-use Rattle.zy_base.specs.declared.call.Call.TheVariants.{Flush as FlushCall, Tally}
+use Rattle.zy_base.specs.declared.call.Call.{Call}
 use Rattle.zy_base.specs.Call.{key_of}
 use Rattle.zy_base.specs.Number.{number_of}
 use Rattle.mc_meta.specs.declared.meta_line.MetaLine.{MetaLine}
@@ -15,41 +15,43 @@ use Rattle.mc_meta.specs.Words.{words}
 use Rattle.mc_meta.specs.Meta.{is_meta_name, is_key, meta_line}
 use Rattle.mc_meta.proofs.WidthLemmas.{line_width, words_few, meta_line_width}
 use Rattle.mc_parse.specs.declared.command.Command.{Command}
-use Rattle.mc_parse.specs.declared.command.Command.TheVariants.{Store, Cas, Get, Delete, Count, Version, Verbosity, Flush, Fault, Meta, Stats}
-use Rattle.mc_parse.specs.declared.meta.Meta.{Meta as MetaCommand}
-use Rattle.mc_parse.specs.declared.meta.Meta.TheVariants as Metas
+use Rattle.mc_parse.specs.declared.command.Command.TheVariants.{Fault}
 use Rattle.mc_parse.specs.declared.error_line.ErrorLine.{ErrorLine}
 use Rattle.mc_parse.specs.declared.error_line.ErrorLine.TheVariants as Errors
 use Rattle.mc_parse.specs.declared.verb.Verb.{Verb}
 use Rattle.mc_parse.specs.Number.{small_number_of, is_zero}
 use Rattle.mc_parse.specs.Name.{names, name_among, arity_of}
 use Rattle.mc_parse.specs.Arity.{Following, but_last, following, has_count, lacks_noreply, asks_silence}
-use Rattle.mc_parse.specs.MetaAsk.{MetaAsk, noops, meta_gets, meta_stores, meta_exchanges, meta_deletes}
+use Rattle.mc_parse.specs.MetaAsk.{MetaAsk, meta_gets, meta_stores, meta_exchanges, meta_deletes}
 use Rattle.mc_parse.specs.Form.{Ask, gets, deletes, counts, sets_verbosity, flushes, metas, Form, faulty, asks, keys_among, sizes_of, store_ask, store_words, cas_ask, cas_words, delete_words, count_words, verbosity_words, with_zero, ask_of, number_fault, check, find, form_with, form_after, form_of, meta_form, form_in, line_form}
 use Rattle.mc_parse.specs.Meaning.{is_ended, value_of, alone_meta, value_meta, value_command, command_for, block_command_for, large_command_for, line_command, block_command, large_command}
-use Rattle.mc_parse.specs.Calls.{calls_of, call_alone, meta_calls, on_shard, get_at}
+use Rattle.mc_parse.specs.OnAll.{made_by}
+use Rattle.mc_parse.specs.Deed.{Deed, does_nothing, makes_one, gets_each, makes_on_all, deed_of}
+use Rattle.mc_parse.specs.Says.{Says, says_marks, says_of}
+use Rattle.mc_parse.specs.Calls.{calls_of, calls_by, call_alone, on_shard, get_at}
 
 -- ---- widths
 
--- the number of letters of a meta command
-abbrev pub letters_in : MetaCommand → ℕ
-letters_in Metas.Noop = 0
-letters_in (Metas.Get key flags) = length flags
-letters_in (Metas.Set key call marks) = length marks
-letters_in (Metas.Delete key flags) = length flags
+-- the number of keys of which each is got
+abbrev pub keys_in : Deed → ℕ
+keys_in (gets_each keys) = length keys
+keys_in deed = 0
+
+-- the number of letters of which marks are shown
+abbrev pub letters_in : Says → ℕ
+letters_in (says_marks about key letters) = length letters
+letters_in says = 0
 
 -- the number of keys of a retrieval, and of letters of a meta command
 abbrev pub width : Command → ℕ
-width (Get keys unique) = length keys
-width (Meta meta) = letters_in meta
-width command = 0
+width command = keys_in (deed_of command) + letters_in (says_of command)
 
 abbrev meta_width : MetaAsk → ℕ
-meta_width noops = 0
 meta_width (meta_gets key flags) = length flags
 meta_width (meta_stores verb key flags bytes marks) = length marks
 meta_width (meta_exchanges key flags bytes unique marks) = length marks
 meta_width (meta_deletes key flags) = length flags
+meta_width ask = 0
 
 abbrev ask_width : Ask → ℕ
 ask_width (gets keys unique) = length keys
@@ -208,14 +210,9 @@ classic_width word ws =
 -- ---- lines
 
 meta_form_width : (line : List ℕ) (said : MetaLine) → form_width (meta_form line said) ≤ line_width said
-meta_form_width line Lines.Other = omega arith
-meta_form_width line Lines.WrongCount = omega arith
-meta_form_width line Lines.Bad = omega arith
-meta_form_width line Lines.Noop = omega arith
-meta_form_width line (Lines.Get key flags) = omega arith
 meta_form_width line (Lines.Set key bytes flags None mode marks) = omega arith
 meta_form_width line (Lines.Set key bytes flags (Some unique) mode marks) = omega arith
-meta_form_width line (Lines.Delete key flags) = omega arith
+meta_form_width line said = omega arith
 
 line_form_width : (line : List ℕ) → form_width (line_form line) ≤ length line
 line_form_width line = go (words line) (words_few line)
@@ -231,18 +228,14 @@ line_form_width line = go (words line) (words_few line)
 -- ---- commands
 
 alone_meta_width : (ask : MetaAsk) → width (alone_meta ask) ≤ meta_width ask
-alone_meta_width noops = omega arith
 alone_meta_width (meta_gets key flags) = omega arith
-alone_meta_width (meta_stores verb key flags bytes marks) = omega arith
-alone_meta_width (meta_exchanges key flags bytes unique marks) = omega arith
 alone_meta_width (meta_deletes key flags) = omega arith
+alone_meta_width ask = omega arith
 
 value_meta_width : (ask : MetaAsk) (value : List ℕ) → width (value_meta ask value) ≤ meta_width ask
-value_meta_width noops value = omega arith
-value_meta_width (meta_gets key flags) value = omega arith
 value_meta_width (meta_stores verb key flags bytes marks) value = omega arith
 value_meta_width (meta_exchanges key flags bytes unique marks) value = omega arith
-value_meta_width (meta_deletes key flags) value = omega arith
+value_meta_width ask value = omega arith
 
 alone_width : (form : Form) → width (command_for form) ≤ form_width form
 alone_width (faulty line) = omega arith
@@ -280,26 +273,16 @@ large_command_width line = omega (arith, refused_width (line_form line))
 
 -- ---- calls
 
-metas_few : (shards : ℕ) (meta : MetaCommand) → length (meta_calls shards meta) ≤ 1
-metas_few shards Metas.Noop = omega arith
-metas_few shards (Metas.Get key flags) = omega arith
-metas_few shards (Metas.Set key call marks) = go (key_of call)
-  where
-    go : (key : Option (List ℕ)) → length (call_alone shards call key) ≤ 1
-    go None = omega arith
-    go (Some key) = omega arith
-metas_few shards (Metas.Delete key flags) = omega arith
+alone_few : (shards : ℕ) (call : Call) (key : Option (List ℕ)) → length (call_alone shards call key) ≤ 1
+alone_few shards call None = omega arith
+alone_few shards call (Some key) = omega arith
+
+deed_few : (shards : ℕ) (deed : Deed) → shards ≤ 256 → length (calls_by shards deed) ≤ 256 * (keys_in deed + 1)
+deed_few shards does_nothing few = omega arith
+deed_few shards (makes_one call) few = omega (arith, alone_few shards call (key_of call))
+deed_few shards (gets_each keys) few = let size = length-map keys (get_at shards) in omega (arith, size)
+deed_few shards (makes_on_all made) few = let size = length-map-range_with_len (on_shard (made_by made)) 0 shards in omega (arith, size, few)
 
 -- the number of calls of a command, on at most 256 shards
 pub calls_few : (shards : ℕ) (command : Command) → shards ≤ 256 → length (calls_of shards command) ≤ 256 * (width command + 1)
-calls_few shards (Store verb key flags value quiet) few = omega arith
-calls_few shards (Cas key flags unique value quiet) few = omega arith
-calls_few shards (Get keys unique) few = let size = length-map keys (get_at shards) in omega (arith, size)
-calls_few shards (Delete key quiet) few = omega arith
-calls_few shards (Count key up amount quiet) few = omega arith
-calls_few shards (Flush quiet) few = let size = length-map-range_with_len (on_shard FlushCall) 0 shards in omega (arith, size, few)
-calls_few shards Stats few = let size = length-map-range_with_len (on_shard Tally) 0 shards in omega (arith, size, few)
-calls_few shards (Meta meta) few = omega (arith, metas_few shards meta)
-calls_few shards Version few = omega arith
-calls_few shards (Verbosity quiet) few = omega arith
-calls_few shards (Fault fault quiet) few = omega arith
+calls_few shards command few = omega (arith, deed_few shards (deed_of command) few)

@@ -1,30 +1,28 @@
 -- Which commands, and which expected calls, are within their bounds.
 use Rattle.std.specs.Prelude.{ℕ, ◌<◌}
 use Rattle.std.specs.List.{AllByRecursion}
-use Rattle.zy_base.specs.Bounds.{IsKey, IsValue, IsCall}
+use Rattle.zy_base.specs.Bounds.{IsKey, IsCall}
 use Rattle.mc_parse.specs.declared.command.Command.{Command}
-use Rattle.mc_parse.specs.declared.command.Command.TheVariants.{Store, Cas, Get, Delete, Count, Meta}
-use Rattle.mc_parse.specs.declared.meta.Meta.{Meta as MetaCommand}
-use Rattle.mc_parse.specs.declared.meta.Meta.TheVariants as Metas
 use Rattle.mc_parse.specs.declared.shard_call.ShardCall.{ShardCall}
+use Rattle.mc_parse.specs.Deed.{Deed, makes_one, gets_each, deed_of}
+use Rattle.mc_parse.specs.Says.{Says, says_items, says_marks, says_of}
 use Rattle.mc_parse.specs.Calls.{Due}
 
--- the key and the call of a meta command are within their bounds
-abbrev pub IsMeta : MetaCommand → Type 0
-IsMeta Metas.Noop = Unit {0}
-IsMeta (Metas.Get key flags) = IsKey key
-IsMeta (Metas.Set key call marks) = IsKey key × IsCall call
-IsMeta (Metas.Delete key flags) = IsKey key
+-- the keys and the value of what is done on the shards are within their bounds
+abbrev pub IsDeed : Deed → Type 0
+IsDeed (makes_one call) = IsCall call
+IsDeed (gets_each keys) = AllByRecursion IsKey keys
+IsDeed deed = Unit {0}
+
+-- the keys that an answer shows are within their bounds
+abbrev pub IsShown : Says → Type 0
+IsShown (says_items keys unique) = AllByRecursion IsKey keys
+IsShown (says_marks about key letters) = IsKey key
+IsShown says = Unit {0}
 
 -- the keys and the value of a command are within their bounds
 abbrev pub IsCommand : Command → Type 0
-IsCommand (Store verb key flags value quiet) = IsKey key × IsValue value
-IsCommand (Cas key flags unique value quiet) = IsKey key × IsValue value
-IsCommand (Get keys unique) = AllByRecursion IsKey keys
-IsCommand (Delete key quiet) = IsKey key
-IsCommand (Count key up amount quiet) = IsKey key
-IsCommand (Meta meta) = IsMeta meta
-IsCommand command = Unit {0}
+IsCommand command = IsDeed (deed_of command) × IsShown (says_of command)
 
 -- the call on a shard is within its bounds
 abbrev pub IsShardCall : ShardCall → Type 0

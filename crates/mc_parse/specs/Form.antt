@@ -56,11 +56,10 @@ pub data Form : Type 0 where
   -- it asks for this, quietly or not
   asks : Ask → Bool → Form
 
--- what is asked for, with the parts of the line as texts
+-- what is asked for, unless it is a retrieval, with the parts of the line as texts
 abbrev pub ask_seen : SeenAsk → Ask
 ask_seen (Asked.Store verb key flags bytes) = stores verb key.now flags bytes
 ask_seen (Asked.Cas key flags bytes unique) = exchanges key.now flags bytes unique
-ask_seen (Asked.Get keys unique) = gets (words keys.now) unique
 ask_seen (Asked.Delete key) = deletes key.now
 ask_seen (Asked.Count key up amount) = counts key.now up amount
 ask_seen Asked.Version = tells_version

@@ -4,14 +4,12 @@ pub mod Number
 pub mod Arity
 pub mod MetaAsk
 pub mod Form
-pub mod Checks
 pub mod Line
 pub mod Need
 pub mod Meaning
+pub mod OnAll
+pub mod Deed
 pub mod Calls
+pub mod Says
 pub mod Bounds
 pub mod Plain
-pub mod Noreply
-pub mod SameCalls
-pub mod Worked
-pub mod OnAll

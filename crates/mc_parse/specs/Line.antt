@@ -1,8 +1,11 @@
 -- What the parts of a parsed line say. No public clause cites this module.
-use Rattle.std.specs.Prelude.{ℕ, Bool, false, ◌==◌, List, map, filter, length, take, ⊤, Result, Ok, Err}
+use Rattle.std.specs.Prelude.{ℕ, Bool, false, ◌==◌, List, [], ◌∷◌, map, filter, length, take, ⊤, Result, Ok, Err}
 use Rattle.std.specs.Borrow.{Bor}
 use Rattle.mc_parse.specs.declared.args.Args.{Args}
+use Rattle.mc_parse.specs.declared.command.Command.{Command}
+use Rattle.mc_parse.specs.declared.command.Command.TheVariants.{Get}
 use Rattle.mc_parse.specs.declared.error_line.ErrorLine.{ErrorLine}
+use Rattle.mc_parse.specs.declared.error_line.ErrorLine.TheVariants.{Unknown}
 use Rattle.mc_parse.specs.declared.line.Line.{Line}
 use Rattle.mc_parse.specs.declared.name.Name.{Name}
 use Rattle.mc_parse.specs.declared.name.Name.TheVariants as Names
@@ -11,6 +14,7 @@ use Rattle.mc_parse.specs.declared.meta_ask.MetaAsk.{MetaAsk as SeenMetaAsk}
 use Rattle.mc_parse.specs.Name.{names}
 use Rattle.mc_parse.specs.MetaAsk.{meta_ask_seen}
 use Rattle.mc_parse.specs.Form.{Form, ask_seen, faulty, asks, metas}
+use Rattle.mc_parse.specs.Meaning.{fault}
 
 -- ---- words
 
@@ -48,3 +52,10 @@ form_seen (Asks ask quiet) = asks (ask_seen ask) quiet
 abbrev pub meta_seen : Result SeenMetaAsk ErrorLine → Form
 meta_seen (Ok ask) = asks (metas (meta_ask_seen ask)) false
 meta_seen (Err line) = faulty line
+
+-- ---- commands
+
+-- a retrieval of these keys, if there is one
+abbrev pub retrieval : List (List ℕ) → Bool → Command
+retrieval [] unique = fault Unknown
+retrieval (key ∷ keys) unique = Get (key ∷ keys) unique

@@ -12,7 +12,7 @@ use Rattle.zy_base.specs.declared.call.Call.TheVariants.{Cas as CasCall}
 use Rattle.zy_base.specs.Shard.{value_limit}
 use Rattle.mc_parse.specs.declared.need.Need.{Need}
 use Rattle.mc_parse.specs.declared.need.Need.TheVariants.{Nothing, Block, Quit}
-use Rattle.mc_parse.specs.Calls.{stored_by}
+use Rattle.mc_parse.specs.Deed.{stored_by}
 use Rattle.mc_parse.specs.MetaAsk.{MetaAsk, noops, meta_gets, meta_stores, meta_exchanges, meta_deletes}
 use Rattle.mc_parse.specs.Form.{Ask, stores, exchanges, gets, deletes, counts, tells_version, tells_counts}
 use Rattle.mc_parse.specs.Form.{sets_verbosity, flushes, quits, metas, Form, line_form, faulty, asks}
@@ -53,9 +53,8 @@ fault line = Fault line false
 abbrev pub alone_meta : MetaAsk → Command
 alone_meta noops = Meta Metas.Noop
 alone_meta (meta_gets key flags) = Meta (Metas.Get key flags)
-alone_meta (meta_stores verb key flags bytes marks) = fault Unknown
-alone_meta (meta_exchanges key flags bytes unique marks) = fault Unknown
 alone_meta (meta_deletes key flags) = Meta (Metas.Delete key flags)
+alone_meta ask = fault Unknown
 
 -- what a meta line asks for with a value; one that takes no value counts as unknown
 abbrev pub value_meta : MetaAsk → List ℕ → Command
@@ -68,8 +67,6 @@ value_meta ask value = fault Unknown
 -- what a line that needs nothing asks for; a request that needs a block, or ends the connection,
 -- counts as unknown
 abbrev pub alone_command : Ask → Bool → Command
-alone_command (stores verb key flags bytes) quiet = fault Unknown
-alone_command (exchanges key flags bytes unique) quiet = fault Unknown
 alone_command (gets keys unique) quiet = Get keys unique
 alone_command (deletes key) quiet = Delete key quiet
 alone_command (counts key up amount) quiet = Count key up amount quiet
@@ -77,8 +74,8 @@ alone_command tells_version quiet = Version
 alone_command tells_counts quiet = Stats
 alone_command sets_verbosity quiet = Verbosity quiet
 alone_command flushes quiet = Flush quiet
-alone_command quits quiet = fault Unknown
 alone_command (metas ask) quiet = alone_meta ask
+alone_command ask quiet = fault Unknown
 
 -- what is asked for with a value; a request that takes no value counts as unknown
 abbrev pub value_command : Ask → Bool → List ℕ → Command
@@ -120,19 +117,3 @@ large_command line = large_command_for (line_form line)
 -- the command of a line that is too long
 abbrev pub long_command : Command
 long_command = fault LongLine
-
--- ---- answers
-
--- a command without its answer; a retrieval, the version and a meta command do not take the word noreply
-abbrev pub silenced : Command → Command
-silenced (Store verb key flags value quiet) = Store verb key flags value true
-silenced (Cas key flags unique value quiet) = Cas key flags unique value true
-silenced (Get keys unique) = Get keys unique
-silenced (Delete key quiet) = Delete key true
-silenced (Count key up amount quiet) = Count key up amount true
-silenced Version = Version
-silenced Stats = Stats
-silenced (Verbosity quiet) = Verbosity true
-silenced (Flush quiet) = Flush true
-silenced (Fault line quiet) = Fault line true
-silenced (Meta meta) = Meta meta

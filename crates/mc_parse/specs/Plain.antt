@@ -7,13 +7,12 @@ use Rattle.zy_base.specs.Key.{shard_of}
 use Rattle.zy_base.specs.Told.{IsSteady}
 use Rattle.mc_parse.specs.declared.command.Command.{Command}
 use Rattle.mc_meta.specs.Flags.{is_among}
-use Rattle.mc_parse.specs.declared.command.Command.TheVariants.{Store, Cas, Get, Delete, Count, Flush, Meta, Stats}
-use Rattle.mc_parse.specs.declared.meta.Meta.{Meta as MetaCommand}
-use Rattle.mc_parse.specs.declared.meta.Meta.TheVariants as Metas
 use Rattle.mc_parse.specs.declared.shard_call.ShardCall.{ShardCall}
-use Rattle.mc_parse.specs.MetaAsk.{MetaAsk, noops, meta_gets, meta_stores, meta_exchanges, meta_deletes}
+use Rattle.mc_parse.specs.MetaAsk.{MetaAsk, meta_gets, meta_stores, meta_exchanges, meta_deletes}
 use Rattle.mc_parse.specs.Form.{Ask, stores, exchanges, gets, deletes, counts, flushes}
 use Rattle.mc_parse.specs.Form.{tells_counts, metas, Form, faulty, asks}
+use Rattle.mc_parse.specs.Deed.{Deed, does_nothing, makes_one, gets_each, makes_on_all, deed_of}
+use Rattle.mc_parse.specs.Says.{Says, says_items, says_marks, a_found, says_of}
 use Rattle.mc_parse.specs.Calls.{Due, on_shard}
 
 -- ---- commands
@@ -23,22 +22,16 @@ abbrev pub key_list : Option (List ℕ) → List (List ℕ)
 key_list None = []
 key_list (Some key) = key ∷ []
 
--- the keys that a meta command calls
-abbrev pub meta_keys : MetaCommand → List (List ℕ)
-meta_keys Metas.Noop = []
-meta_keys (Metas.Get key flags) = key ∷ []
-meta_keys (Metas.Set key call marks) = key_list (key_of call)
-meta_keys (Metas.Delete key flags) = key ∷ []
+-- the keys of what is done on the shards
+abbrev pub keys_by : Deed → List (List ℕ)
+keys_by does_nothing = []
+keys_by (makes_one call) = key_list (key_of call)
+keys_by (gets_each keys) = keys
+keys_by (makes_on_all made) = []
 
 -- the keys that a command calls
 abbrev pub keys_of : Command → List (List ℕ)
-keys_of (Store verb key flags value quiet) = key ∷ []
-keys_of (Cas key flags unique value quiet) = key ∷ []
-keys_of (Get keys unique) = keys
-keys_of (Delete key quiet) = key ∷ []
-keys_of (Count key up amount quiet) = key ∷ []
-keys_of (Meta meta) = meta_keys meta
-keys_of command = []
+keys_of command = keys_by (deed_of command)
 
 -- the keys that commands call
 abbrev pub all_keys_of : List Command → List (List ℕ)
@@ -48,20 +41,21 @@ all_keys_of commands = flat_map keys_of commands
 abbrev pub unique_letter : ℕ
 unique_letter = 99
 
--- the meta command is no `mg` with `c`, and no `ms` with `C`
-abbrev pub IsPlainMeta : MetaCommand → Type 0
-IsPlainMeta (Metas.Get key flags) = is_among flags unique_letter ≡ false
-IsPlainMeta (Metas.Set key call marks) = IsSteady call
-IsPlainMeta meta = Unit {0}
+-- what is done on the shards calls keys alone, and neither compares a unique nor depends on other keys
+abbrev pub IsSteadyDeed : Deed → Type 0
+IsSteadyDeed (makes_one call) = IsSteady call
+IsSteadyDeed (makes_on_all made) = ⊥
+IsSteadyDeed deed = Unit {0}
+
+-- an answer shows no unique
+abbrev pub HidesUniques : Says → Type 0
+HidesUniques (says_items keys true) = ⊥
+HidesUniques (says_marks a_found key letters) = is_among letters unique_letter ≡ false
+HidesUniques says = Unit {0}
 
 -- the command is no `gets`, no `cas`, no `flush_all`, no `stats`, no `mg` with `c` and no `ms` with `C`
 abbrev pub IsPlain : Command → Type 0
-IsPlain (Get keys true) = ⊥
-IsPlain (Cas key flags unique value quiet) = ⊥
-IsPlain (Flush quiet) = ⊥
-IsPlain Stats = ⊥
-IsPlain (Meta meta) = IsPlainMeta meta
-IsPlain command = Unit {0}
+IsPlain command = IsSteadyDeed (deed_of command) × HidesUniques (says_of command)
 
 -- a command is plain, and each key that it calls has this property
 pub record IsOwnCommand (IsOwn : List ℕ → Type 0) (command : Command) : Type 0 where
@@ -72,11 +66,11 @@ pub record IsOwnCommand (IsOwn : List ℕ → Type 0) (command : Command) : Type
 
 -- what a meta command asks for is plain, and its key has this property
 abbrev pub IsOwnMeta : (List ℕ → Type 0) → MetaAsk → Type 0
-IsOwnMeta IsOwn noops = Unit {0}
 IsOwnMeta IsOwn (meta_gets key flags) = (is_among flags unique_letter ≡ false) × IsOwn key
 IsOwnMeta IsOwn (meta_stores verb key flags bytes marks) = IsOwn key
 IsOwnMeta IsOwn (meta_exchanges key flags bytes unique marks) = ⊥
 IsOwnMeta IsOwn (meta_deletes key flags) = IsOwn key
+IsOwnMeta IsOwn ask = Unit {0}
 
 -- what is asked for is plain, and each of its keys has this property
 abbrev pub IsOwnAsk : (List ℕ → Type 0) → Ask → Type 0

@@ -12,7 +12,7 @@ use crate::verb::Verb;
 use mc_meta::{is_exptime, read_small_number};
 use zy_base::read_number;
 
-/// What a line asks for. Its words are parts of the line.
+/// What a line asks for that is no retrieval. Its words are parts of the line.
 #[derive(Clone, Copy)]
 pub(crate) enum Ask<'a> {
     /// Store the block.
@@ -28,11 +28,6 @@ pub(crate) enum Ask<'a> {
         flags: u32,
         bytes: u32,
         unique: u64,
-    },
-    /// Get the items of the keys, which are the words of this text.
-    Get {
-        keys: &'a [u8],
-        unique: bool,
     },
     /// Remove the item.
     Delete {

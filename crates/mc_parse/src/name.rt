@@ -33,6 +33,7 @@ pub(crate) enum Name {
 }
 
 /// The name that a word is.
+#[inline(always)]
 pub(crate) fn name_of(word: &[u8]) -> Option<Name>
     ensures value { result ≡ name_of word.now }
 {

@@ -43,7 +43,7 @@ pub fn need_of(line: &[u8]) -> Need
 }
 
 // What a line needs that has this name and this text after it.
-#[tactic(auto, using(crate::proofs::NeedLemmas::needs_nothing))]
+#[tactic(auto, using(crate::proofs::NeedLemmas::needs_nothing, crate::proofs::GetLemmas::more_few))]
 fn named_need(name: Name, text: &[u8]) -> Need
     ensures value { result ≡ need_for (form_after name (words text.now)) }
 {

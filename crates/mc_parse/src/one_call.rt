@@ -1,7 +1,8 @@
 //! One call of a command.
-ghost use Rattle.std.specs.Prelude.{◌≡◌, ◌<◌, ◌≤◌, IfOk, IfErr, IfSome, Some, Err, slice_get};
+ghost use Rattle.std.specs.Prelude.{◌≡◌, ◌≤◌, IfOk, IfErr, IfSome, Some, Err, slice_get};
 ghost use Rattle.mc_parse.specs.OnAll.{made_by};
-ghost use Rattle.mc_parse.specs.Calls.{calls_of, get_calls, calls_on_all, meta_calls, at_key, IsOnShard};
+ghost use Rattle.mc_parse.specs.Deed.{deed_of, meta_deed, IsOnce};
+ghost use Rattle.mc_parse.specs.Calls.{calls_of, calls_by, get_calls, calls_on_all, at_key, IsOnShard};
 
 use crate::command::Command;
 use crate::listing::{counted_by, deleted, exchanged, got, stored_by};
@@ -10,24 +11,28 @@ use crate::on_all::OnAll;
 use crate::shard_call::ShardCall;
 use zy_base::{Blob, Call, NoMemory, shard_of};
 
-/// The call of a command on so many shards that has this number in the list `calls`; `None` exactly where
+/// The call of a command on `shards` shards that has this number in the list `calls`; `None` exactly where
 /// the list has no such call. It has copies of key and value.
+#[tactic(auto, using(crate::proofs::CallLemmas::once_later, crate::proofs::CallLemmas::meta_once))]
 pub fn call_at(command: &Command, part: usize, shards: u32) -> Result<Option<ShardCall>, NoMemory>
     requires some { 1 ≤ shards }
     requires limit { shards ≤ 256 }
     ensures value { IfOk result (λ call. call ≡ slice_get (calls_of shards command.now) part) }
     ensures within { IfOk result (λ call. IfSome call (IsOnShard shards)) }
 {
-    if part == 0 {
-        first_call(command, shards)
-    } else {
-        later_call(command, part, shards)
+    match command {
+        Command::Get { keys, .. } => get_at(keys.items(), part, shards),
+        Command::Flush { .. } => Ok(on_all_at(OnAll::Flush, part, shards)),
+        Command::Stats => Ok(on_all_at(OnAll::Tally, part, shards)),
+        _ => { if part == 0 { only_call(command, shards) } else { Ok(None) } }
     }
 }
 
-// The first call of a command.
-fn first_call(command: &Command, shards: u32) -> Result<Option<ShardCall>, NoMemory>
+// The call of a command that makes one at most.
+#[tactic(auto, using(crate::proofs::CallLemmas::stored_first, crate::proofs::CallLemmas::counted_first))]
+fn only_call(command: &Command, shards: u32) -> Result<Option<ShardCall>, NoMemory>
     requires some { 1 ≤ shards }
+    requires once { IsOnce (deed_of command.now) }
     ensures value { IfOk result (λ call. call ≡ slice_get (calls_of shards command.now) 0) }
     ensures within { IfOk result (λ call. IfSome call (IsOnShard shards)) }
 {
@@ -38,49 +43,23 @@ fn first_call(command: &Command, shards: u32) -> Result<Option<ShardCall>, NoMem
             flags,
             value,
             ..
-        } => only_call(key, stored_by(*verb, key, *flags, value), shards),
+        } => placed(key, stored_by(*verb, key, *flags, value), shards),
         Command::Cas {
             key,
             flags,
             unique,
             value,
             ..
-        } => only_call(key, exchanged(key, *flags, *unique, value), shards),
-        Command::Get { keys, .. } => get_at(keys.items(), 0, shards),
-        Command::Delete { key, .. } => only_call(key, deleted(key), shards),
+        } => placed(key, exchanged(key, *flags, *unique, value), shards),
+        Command::Delete { key, .. } => placed(key, deleted(key), shards),
         Command::Count {
             key,
             up,
             amount,
             ..
-        } => only_call(key, counted_by(*up, key, *amount), shards),
-        Command::Flush { .. } => Ok(on_all_at(OnAll::Flush, 0, shards)),
-        Command::Stats => Ok(on_all_at(OnAll::Tally, 0, shards)),
+        } => placed(key, counted_by(*up, key, *amount), shards),
         Command::Meta { meta } => meta_call(meta, shards),
-        Command::Version | Command::Verbosity { .. } | Command::Fault { .. } => Ok(None),
-    }
-}
-
-// A call of a command that is not its first.
-#[tactic(auto, using(crate::proofs::CallLemmas::none_later, crate::proofs::CallLemmas::no_later_meta))]
-fn later_call(command: &Command, part: usize, shards: u32) -> Result<Option<ShardCall>, NoMemory>
-    requires some { 1 ≤ shards }
-    requires later { 0 < part }
-    ensures value { IfOk result (λ call. call ≡ slice_get (calls_of shards command.now) part) }
-    ensures within { IfOk result (λ call. IfSome call (IsOnShard shards)) }
-{
-    match command {
-        Command::Get { keys, .. } => get_at(keys.items(), part, shards),
-        Command::Flush { .. } => Ok(on_all_at(OnAll::Flush, part, shards)),
-        Command::Stats => Ok(on_all_at(OnAll::Tally, part, shards)),
-        Command::Store { .. }
-        | Command::Cas { .. }
-        | Command::Delete { .. }
-        | Command::Count { .. }
-        | Command::Version
-        | Command::Verbosity { .. }
-        | Command::Fault { .. }
-        | Command::Meta { .. } => Ok(None),
+        _ => Ok(None),
     }
 }
 
@@ -88,22 +67,22 @@ fn later_call(command: &Command, part: usize, shards: u32) -> Result<Option<Shar
 #[inline(always)]
 fn meta_call(meta: &Meta, shards: u32) -> Result<Option<ShardCall>, NoMemory>
     requires some { 1 ≤ shards }
-    ensures value { IfOk result (λ call. call ≡ slice_get (meta_calls shards meta.now) 0) }
+    ensures value { IfOk result (λ call. call ≡ slice_get (calls_by shards (meta_deed meta.now)) 0) }
     ensures within { IfOk result (λ call. IfSome call (IsOnShard shards)) }
 {
     match meta {
         Meta::Noop => Ok(None),
-        Meta::Get { key, .. } => only_call(key, got(key), shards),
+        Meta::Get { key, .. } => placed(key, got(key), shards),
         Meta::Set { call, .. } => match call.key() {
-            Some(key) => only_call(key, call.copy(), shards),
+            Some(key) => placed(key, call.copy(), shards),
             None => Ok(None),
         },
-        Meta::Delete { key, .. } => only_call(key, deleted(key), shards),
+        Meta::Delete { key, .. } => placed(key, deleted(key), shards),
     }
 }
 
 // The one call that was made, on the shard of its key.
-fn only_call(
+fn placed(
     key: &Blob,
     made: Result<Call, NoMemory>,
     shards: u32,
@@ -123,6 +102,7 @@ fn only_call(
 }
 
 // The get of the key with this number.
+#[inline(always)]
 #[tactic(auto, using(crate::proofs::CallLemmas::get_there))]
 fn get_at(keys: &[Blob], part: usize, shards: u32) -> Result<Option<ShardCall>, NoMemory>
     requires some { 1 ≤ shards }

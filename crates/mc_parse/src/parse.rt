@@ -1,11 +1,13 @@
 //! The command of a line, and of a line with its block.
-ghost use Rattle.std.specs.Prelude.{◌≡◌, ◌≤◌, [], ◌∷◌, ◌++◌, length, IfOk, IfErr, OnOk};
+ghost use Rattle.std.specs.Prelude.{◌≡◌, ◌≤◌, true, [], ◌∷◌, ◌++◌, length, IfOk, IfErr, OnOk};
+ghost use Rattle.std.specs.List.{list_all};
 ghost use Rattle.mc_parse.specs.declared.need.Need.{Need};
 ghost use Rattle.mc_parse.specs.declared.command.Command.{Command};
 ghost use Rattle.mc_parse.specs.Words.{words, line_limit};
 ghost use Rattle.mc_parse.specs.Need.{need};
-ghost use Rattle.mc_parse.specs.Form.{ask_seen};
-ghost use Rattle.mc_parse.specs.Line.{form_seen};
+ghost use Rattle.mc_parse.specs.declared.name.Name.TheVariants as Names;
+ghost use Rattle.mc_parse.specs.Form.{is_key, form_after, ask_seen};
+ghost use Rattle.mc_parse.specs.Line.{form_seen, retrieval};
 ghost use Rattle.mc_parse.specs.Meaning.{line_command, block_command, large_command, IsBlockFor, IsTooLarge};
 ghost use Rattle.mc_parse.specs.Meaning.{alone_command, value_command, command_for, block_command_for};
 ghost use Rattle.mc_parse.specs.Meaning.{large_command_for, fault, is_ended, value_of};
@@ -15,8 +17,10 @@ use crate::command::{Command, Keys};
 use crate::error_line::ErrorLine;
 use crate::line::Line;
 use crate::meta_command::{meta_block_command, meta_command, meta_large_command};
+use crate::name::Name;
 use crate::reading::{name_in, read_after};
 use crate::word::next_word;
+use mc_meta::is_key;
 use std::alloc::Global;
 use zy_base::{Blob, NoMemory};
 
@@ -35,14 +39,14 @@ pub fn parse_line(alloc: Global, line: &[u8]) -> Result<Command, NoMemory>
     ensures value { IfOk result (λ command. command ≡ line_command line.now) }
 {
     match name_in(line) {
-        Some(found) => command_for(alloc, read_after(found.name, found.rest)),
+        Some(found) => named_command(alloc, found.name, found.rest),
         None => meta_command(alloc, line),
     }
 }
 
 /// The command of a line that needs a block, with its block: the value, and the two bytes that must
 /// end it. The value is moved and not copied. After a refusal the block is handed back.
-#[tactic(auto, unfolding(crate::specs::Meaning::block_command))]
+#[tactic(auto, unfolding(crate::specs::Meaning::block_command), using(crate::proofs::GetLemmas::block_few))]
 pub fn parse_block(alloc: Global, line: &[u8], block: Blob) -> Result<Command, (Blob, NoMemory)>
     requires within { length line.now ≤ line_limit }
     requires fits { IsBlockFor (need line.now) block }
@@ -57,7 +61,7 @@ pub fn parse_block(alloc: Global, line: &[u8], block: Blob) -> Result<Command, (
 
 /// The command of a line that needs a block whose value is over the limit, whatever the block
 /// contains. Takes no memory.
-#[tactic(auto, unfolding(crate::specs::Meaning::large_command))]
+#[tactic(auto, unfolding(crate::specs::Meaning::large_command), using(crate::proofs::GetLemmas::large_few))]
 pub fn parse_large(line: &[u8]) -> Command
     requires within { length line.now ≤ line_limit }
     requires large { IsTooLarge (need line.now) }
@@ -66,6 +70,16 @@ pub fn parse_large(line: &[u8]) -> Command
     match name_in(line) {
         Some(found) => large_command_for(read_after(found.name, found.rest)),
         None => meta_large_command(line),
+    }
+}
+
+// The command of a name with the text after it.
+fn named_command(alloc: Global, name: Name, text: &[u8]) -> Result<Command, NoMemory>
+    ensures value { IfOk result (λ command. command ≡ command_for (form_after name (words text.now))) }
+{
+    match name {
+        Name::Get { unique } => get_command(alloc, text, unique),
+        _ => command_for(alloc, read_after(name, text)),
     }
 }
 
@@ -84,7 +98,6 @@ fn alone_command(alloc: Global, ask: Ask<'_>, quiet: bool) -> Result<Command, No
     ensures value { IfOk result (λ command. command ≡ alone_command (ask_seen ask.entry) quiet) }
 {
     match ask {
-        Ask::Get { keys, unique } => get_command(alloc, keys, unique),
         Ask::Delete { key } => delete_command(alloc, key, quiet),
         Ask::Count { key, up, amount } => count_command(alloc, key, up, amount, quiet),
         Ask::Version => Ok(Command::Version),
@@ -95,12 +108,38 @@ fn alone_command(alloc: Global, ask: Ask<'_>, quiet: bool) -> Result<Command, No
     }
 }
 
-// A retrieval of the words of a text.
+// A retrieval, whose keys are the words of a text, one at least. A word that is too long for a key is found while
+// the words are copied.
+#[tactic(auto, using(crate::proofs::GetLemmas::gets_keys, crate::proofs::GetLemmas::gets_long))]
 fn get_command(alloc: Global, text: &[u8], unique: bool) -> Result<Command, NoMemory>
-    ensures value { IfOk result (λ command. command ≡ Command.Get (words text.now) unique) }
+    ensures value { IfOk result (λ command. command
+        ≡ command_for (form_after (Names.Get unique) (words text.now))) }
 {
-    let keys = copy_words(alloc, text)?;
-    Ok(Command::Get { keys, unique })
+    let mut keys = Keys::with_capacity(alloc, (text.len() / WORD_LENGTH + 1).min(WORD_ROOM))?;
+    match copy_keys(alloc, &mut keys, text) {
+        Ok(true) => Ok(retrieval(keys, unique)),
+        Ok(false) => {
+            drop(keys);
+            Ok(fault(ErrorLine::BadLine))
+        }
+        Err(e) => {
+            drop(keys);
+            Err(e)
+        }
+    }
+}
+
+// A retrieval of these keys, if there is one.
+#[tactic(auto, using(crate::proofs::GetLemmas::retrieval_none, crate::proofs::GetLemmas::retrieval_some))]
+fn retrieval(keys: Keys, unique: bool) -> Command
+    ensures value { result ≡ retrieval keys unique }
+{
+    if keys.items().is_empty() {
+        drop(keys);
+        fault(ErrorLine::Unknown)
+    } else {
+        Command::Get { keys, unique }
+    }
 }
 
 // A deletion.
@@ -248,20 +287,20 @@ pub(crate) fn value_of(mut block: Blob) -> Blob
     block
 }
 
-// Copies of the words of a text.
-fn copy_words(alloc: Global, text: &[u8]) -> Result<Keys, NoMemory>
-    ensures value { IfOk result (λ keys. keys ≡ words text.now) }
+// Appends copies of the words of a text, up to one that is too long for a key; `false` if there is one.
+fn copy_keys(alloc: Global, keys: &mut Keys, text: &[u8]) -> Result<bool, NoMemory>
+    ensures value { IfOk result (λ are. are ≡ list_all is_key (words text.now)) }
+    ensures ok { IfOk result (λ are. are ≡ true → keys.new ≡ keys.old ++ words text.now) }
 {
-    let mut keys = Keys::with_capacity(alloc, (text.len() / WORD_LENGTH + 1).min(WORD_ROOM))?;
     let mut rest = text;
     while let Some(split) = next_word(rest) {
-        if let Err(e) = push_copy(alloc, &mut keys, split.word) {
-            drop(keys);
-            return Err(e);
+        if !is_key(split.word) {
+            return Ok(false);
         }
+        push_copy(alloc, keys, split.word)?;
         rest = split.rest;
     }
-    Ok(keys)
+    Ok(true)
 }
 
 // Appends a copy of a word.

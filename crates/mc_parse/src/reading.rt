@@ -1,14 +1,13 @@
 //! What a line says, read from its words in one pass.
 ghost use Rattle.std.specs.Prelude.{◌≡◌, not, IfSome, IfNone};
 ghost use Rattle.std.specs.List.{list_all};
-ghost use Rattle.mc_parse.specs.declared.name.Name.TheVariants as Names;
 ghost use Rattle.mc_meta.specs.Meta.{meta_line};
 ghost use Rattle.mc_parse.specs.Words.{words};
 ghost use Rattle.mc_parse.specs.Form.{is_key, keys_among, form_with, form_after, meta_form, line_form};
 ghost use Rattle.mc_parse.specs.Line.{texts, form_seen, HasFew};
 
 use crate::args::Args;
-use crate::asking::{Ask, number_fault, read_ask};
+use crate::asking::{number_fault, read_ask};
 use crate::error_line::ErrorLine;
 use crate::line::Line;
 use crate::name::{Name, arity_of, name_of};
@@ -41,34 +40,8 @@ pub(crate) fn name_in(line: &[u8]) -> Option<Named<'_>>
     }
 }
 
-/// What the text after a name says.
+/// What the text after a name says, after which few words may follow.
 pub(crate) fn read_after(name: Name, text: &[u8]) -> Line<'_>
-    ensures value { form_seen result ≡ form_after name (words text.now) }
-{
-    match name {
-        Name::Get { unique } => read_get(unique, text),
-        _ => read_few(name, text),
-    }
-}
-
-// Keys, one at least.
-fn read_get(unique: bool, text: &[u8]) -> Line<'_>
-    ensures value { form_seen result ≡ form_after (Names.Get unique) (words text.now) }
-{
-    let Some(first) = next_word(text) else {
-        return Line::Fault(ErrorLine::Unknown);
-    };
-    if !is_key(first.word) || !are_keys(first.rest) {
-        return Line::Fault(ErrorLine::BadLine);
-    }
-    Line::Asks {
-        ask: Ask::Get { keys: text, unique },
-        quiet: false,
-    }
-}
-
-// The words after any other name.
-fn read_few(name: Name, text: &[u8]) -> Line<'_>
     requires few { HasFew name }
     ensures value { form_seen result ≡ form_after name (words text.now) }
 {
@@ -114,18 +87,4 @@ fn has_long_key(name: Name, words: &[&[u8]]) -> bool
         },
         _ => false,
     }
-}
-
-// Whether no word of a text is too long for a key.
-fn are_keys(text: &[u8]) -> bool
-    ensures value { result ≡ list_all is_key (words text.now) }
-{
-    let mut rest = text;
-    while let Some(split) = next_word(rest) {
-        if !is_key(split.word) {
-            return false;
-        }
-        rest = split.rest;
-    }
-    true
 }

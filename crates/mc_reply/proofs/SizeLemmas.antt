@@ -8,20 +8,19 @@ use Rattle.zy_base.specs.declared.call_reply.CallReply.{CallReply}
 use Rattle.zy_base.specs.declared.call_reply.CallReply.TheVariants.{Miss, Hit, Stored, NotStored, Exists, NotFound, Deleted, Number, NotNumber, TooLarge, Flushed, Tally}
 use Rattle.zy_base.specs.Bounds.{IsKey, IsReply, FitsReply}
 use Rattle.mc_parse.specs.declared.command.Command.{Command}
-use Rattle.mc_parse.specs.declared.command.Command.TheVariants.{Store, Cas, Get, Delete, Count, Version, Verbosity, Flush, Fault, Meta, Stats}
 use Rattle.mc_parse.specs.declared.error_line.ErrorLine.{ErrorLine}
 use Rattle.mc_parse.specs.declared.error_line.ErrorLine.TheVariants as Errors
-use Rattle.mc_parse.specs.declared.meta.Meta.{Meta as MetaCommand}
-use Rattle.mc_parse.specs.declared.meta.Meta.TheVariants as Metas
-use Rattle.mc_parse.specs.Bounds.{IsMeta, IsCommand}
+use Rattle.mc_parse.specs.Says.{Fixed, the_version, is_done, does_noop, has_fault, About, a_found, a_stored, a_removed}
+use Rattle.mc_parse.specs.Says.{Says, says_reply, says_items, says_counts, says_line, says_marks, says_of}
+use Rattle.mc_parse.specs.Bounds.{IsShown, IsCommand}
 use Rattle.mc_parse.proofs.WidthLemmas.{letters_in, width}
 use Rattle.mc_meta.specs.Flags.{is_among}
 use Rattle.mc_reply.specs.Line.{line, line_end, unless}
-use Rattle.mc_reply.specs.MetaText.{found_of, item_mark, found_mark, mark_text, marks_text, marked, hit_text, get_text, set_text, delete_text, meta_text, has_quiet_letter, value_letter}
+use Rattle.mc_reply.specs.MetaText.{found_of, item_mark, found_mark, mark_text, marks_text, marked, hit_text, get_text, set_text, delete_text, about_text, marks_answer, has_quiet_letter, value_letter}
 use Rattle.mc_reply.specs.declared.stats.Stat.{Stat}
 use Rattle.mc_reply.specs.declared.stats.Stat.TheVariants.{Gets, Sets, Hits, Misses, Items}
 use Rattle.mc_reply.specs.StatsText.{stat_name, stat_in, sum_in, sum_line, stats_text}
-use Rattle.mc_reply.specs.Text.{error_line, reply_line, only_line, head_text, unique_text, item_line, item_text, items_text, text}
+use Rattle.mc_reply.specs.Text.{error_line, fixed_line, says_text, reply_line, only_line, head_text, unique_text, item_line, item_text, items_text, text}
 
 -- a reply whose value and whose numbers are within their bounds
 pub record IsSmall (reply : CallReply) : Type 0 where
@@ -293,32 +292,35 @@ delete_few key letters NotFound short =
     omega (arith, unless_few (has_quiet_letter letters) (22 + 252 * length letters) (marked (codes "NF") key None letters) (marked_few (codes "NF") key None letters (omega arith) short none_few))
 delete_few key letters reply short = omega arith
 
-meta_few : (meta : MetaCommand) (replies : List CallReply) → IsMeta meta → AllByRecursion IsSmall replies → length (meta_text meta replies) ≤ 300 + 252 * letters_in meta + 2097152 * length replies
-meta_few Metas.Noop replies is small = omega arith
-meta_few (Metas.Get key flags) [] is small = omega arith
-meta_few (Metas.Get key flags) (reply ∷ []) is small = omega (arith, get_few key flags reply is.1 small.0)
-meta_few (Metas.Get key flags) (reply ∷ next ∷ replies) is small = omega arith
-meta_few (Metas.Set key call marks) [] is small = omega arith
-meta_few (Metas.Set key call marks) (reply ∷ []) is small = omega (arith, set_few key marks reply is.0.1)
-meta_few (Metas.Set key call marks) (reply ∷ next ∷ replies) is small = omega arith
-meta_few (Metas.Delete key flags) [] is small = omega arith
-meta_few (Metas.Delete key flags) (reply ∷ []) is small = omega (arith, delete_few key flags reply is.1)
-meta_few (Metas.Delete key flags) (reply ∷ next ∷ replies) is small = omega arith
+about_few : (about : About) (key letters : List ℕ) (reply : CallReply) → length key ≤ 250 → IsSmall reply → length (about_text about key letters reply) ≤ 1048600 + 252 * length letters
+about_few a_found key letters reply short small = get_few key letters reply short small
+about_few a_stored key letters reply short small = omega (arith, set_few key letters reply short)
+about_few a_removed key letters reply short small = omega (arith, delete_few key letters reply short)
+
+answer_few : (about : About) (key letters : List ℕ) (replies : List CallReply) → length key ≤ 250 → AllByRecursion IsSmall replies
+    → length (marks_answer about key letters replies) ≤ 252 * length letters + 2097152 * length replies
+answer_few about key letters [] short small = omega arith
+answer_few about key letters (reply ∷ []) short small = omega (arith, about_few about key letters reply short small.0)
+answer_few about key letters (reply ∷ next ∷ replies) short small = omega arith
 
 -- ---- commands
+
+fixed_few : (fixed : Fixed) → length (fixed_line fixed) ≤ 100
+fixed_few the_version = omega arith
+fixed_few is_done = omega arith
+fixed_few does_noop = omega arith
+fixed_few (has_fault fault) = error_few fault
+
+says_few : (says : Says) (replies : List CallReply) → IsShown says → AllByRecursion IsSmall replies → length replies ≤ 1099511627776
+    → length (says_text says replies) ≤ 300 + 252 * letters_in says + 2097152 * length replies
+says_few (says_reply quiet) replies is small few = omega (arith, unless_few quiet 100 (only_line replies) (only_few replies small))
+says_few (says_items keys unique) replies is small few = omega (arith, length-append (items_text unique keys replies) (line (codes "END")), items_few unique keys replies is small)
+says_few says_counts replies is small few = omega (arith, stats_few replies small few)
+says_few (says_line fixed quiet) replies is small few = omega (arith, unless_few quiet 100 (fixed_line fixed) (fixed_few fixed))
+says_few (says_marks about key letters) replies is small few = omega (arith, answer_few about key letters replies is.1 small)
 
 -- the text of a command has at most 2 MiB for each reply beside what its keys and its letters take
 pub text_few : (command : Command) (replies : List CallReply) → IsCommand command → AllByRecursion IsSmall replies → length replies ≤ 1099511627776
     → length (text command replies) ≤ 300 + 252 * width command + 2097152 * length replies
 unfolding text
-text_few (Store verb key flags value quiet) replies is small few = omega (arith, unless_few quiet 100 (only_line replies) (only_few replies small))
-text_few (Cas key flags unique value quiet) replies is small few = omega (arith, unless_few quiet 100 (only_line replies) (only_few replies small))
-text_few (Get keys unique) replies is small few = omega (arith, length-append (items_text unique keys replies) (line (codes "END")), items_few unique keys replies is small)
-text_few (Delete key quiet) replies is small few = omega (arith, unless_few quiet 100 (only_line replies) (only_few replies small))
-text_few (Count key up amount quiet) replies is small few = omega (arith, unless_few quiet 100 (only_line replies) (only_few replies small))
-text_few Stats replies is small few = omega (arith, stats_few replies small few)
-text_few Version replies is small few = omega arith
-text_few (Verbosity quiet) replies is small few = omega (arith, unless_few quiet 100 (line (codes "OK")) (omega arith))
-text_few (Flush quiet) replies is small few = omega (arith, unless_few quiet 100 (line (codes "OK")) (omega arith))
-text_few (Fault fault quiet) replies is small few = omega (arith, unless_few quiet 100 (error_line fault) (error_few fault))
-text_few (Meta meta) replies is small few = meta_few meta replies is small
+text_few command replies is small few = omega (arith, says_few (says_of command) replies is.1 small few)

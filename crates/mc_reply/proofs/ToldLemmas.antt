@@ -1,20 +1,23 @@
 -- The texts of plain commands show no unique.
-use Rattle.std.proofs.Common.{◌≡◌, ℕ, ◌+◌, Bool, true, false, cond, List, [], ◌∷◌, ◌++◌, map, refl, ap, ◌∙◌}
+use Rattle.std.proofs.Common.{◌≡◌, ℕ, ◌+◌, Bool, true, false, cond, List, [], ◌∷◌, ◌++◌, map, refl, ap, sym, ◌∙◌}
 use Rattle.std.specs.Prelude.{◌==◌, ◌||◌, filter, codes, decimal, if◌then◌else◌, Some}
 use Rattle.std.specs.List.{AllByRecursion}
+use Rattle.std.proofs.lemmas.List.Sums.{sum_by-cons}
 use Rattle.zy_base.specs.declared.call_reply.CallReply.{CallReply}
 use Rattle.zy_base.specs.declared.call_reply.CallReply.TheVariants.{Hit}
 use Rattle.zy_base.specs.declared.entry.Entry.{Entry}
 use Rattle.zy_base.specs.Replies.{replies_at}
 use Rattle.mc_parse.specs.declared.command.Command.{Command}
-use Rattle.mc_parse.specs.declared.command.Command.TheVariants.{Store, Cas, Get, Delete, Count, Flush, Meta, Stats}
-use Rattle.mc_parse.specs.declared.meta.Meta.{Meta as MetaCommand}
-use Rattle.mc_parse.specs.declared.meta.Meta.TheVariants as Metas
-use Rattle.mc_reply.specs.Text.{text, line, reply_line, only_line, item_text, items_text, unless}
+use Rattle.mc_parse.specs.Says.{About, a_found, a_stored, a_removed}
+use Rattle.mc_parse.specs.Says.{Says, says_reply, says_items, says_counts, says_line, says_marks, says_of}
+use Rattle.mc_reply.specs.declared.stats.Stat.{Stat}
+use Rattle.mc_reply.specs.declared.stats.Stat.TheVariants.{Gets, Sets, Hits, Misses, Items}
+use Rattle.mc_reply.specs.StatsText.{stat_in, sum_in, stat_line, stats_text}
+use Rattle.mc_reply.specs.Text.{text, says_text, line, reply_line, only_line, item_text, items_text, unless}
 use Rattle.mc_reply.specs.Texts.{texts_from}
-use Rattle.mc_reply.specs.MetaText.{found_of, mark_text, marks_text, marked, hit_text, get_text, set_text, delete_text, meta_text}
+use Rattle.mc_reply.specs.MetaText.{found_of, mark_text, marks_text, marked, hit_text, get_text, set_text, delete_text, about_text, marks_answer}
 use Rattle.mc_meta.specs.Flags.{is_among}
-use Rattle.mc_parse.specs.Plain.{IsPlain, IsPlainMeta}
+use Rattle.mc_parse.specs.Plain.{IsPlain, HidesUniques}
 use Rattle.zy_base.specs.Told.{told, told_of, all_told}
 
 -- ---- one command
@@ -79,33 +82,66 @@ delete-told : (key flags : List ℕ) (reply : CallReply) → delete_text key fla
 delete-told key flags (Hit item_flags unique value) = refl
 delete-told key flags reply = refl
 
-meta-told : (meta : MetaCommand) (replies : List CallReply) → IsPlainMeta meta → meta_text meta (map told replies) ≡ meta_text meta replies
-meta-told Metas.Noop replies plain = refl
-meta-told (Metas.Get key flags) [] plain = refl
-meta-told (Metas.Get key flags) (reply ∷ []) plain = get-told key flags reply plain
-meta-told (Metas.Get key flags) (reply ∷ next ∷ replies) plain = refl
-meta-told (Metas.Set key call marks) [] plain = refl
-meta-told (Metas.Set key call marks) (reply ∷ []) plain = set-told key marks reply
-meta-told (Metas.Set key call marks) (reply ∷ next ∷ replies) plain = refl
-meta-told (Metas.Delete key flags) [] plain = refl
-meta-told (Metas.Delete key flags) (reply ∷ []) plain = delete-told key flags reply
-meta-told (Metas.Delete key flags) (reply ∷ next ∷ replies) plain = refl
+about-told : (about : About) (key letters : List ℕ) (reply : CallReply) → HidesUniques (says_marks about key letters) → about_text about key letters (told reply) ≡ about_text about key letters reply
+about-told a_found key letters reply hides = get-told key letters reply hides
+about-told a_stored key letters reply hides = set-told key letters reply
+about-told a_removed key letters reply hides = delete-told key letters reply
+
+answer-told : (about : About) (key letters : List ℕ) (replies : List CallReply) → HidesUniques (says_marks about key letters) → marks_answer about key letters (map told replies) ≡ marks_answer about key letters replies
+answer-told about key letters [] hides = refl
+answer-told about key letters (reply ∷ []) hides = about-told about key letters reply hides
+answer-told about key letters (reply ∷ next ∷ replies) hides = refl
+
+-- ---- the counts
+
+stat-told : (stat : Stat) (reply : CallReply) → stat_in stat (told reply) ≡ stat_in stat reply
+stat-told Gets (Hit flags unique value) = refl
+stat-told Gets reply = refl
+stat-told Sets (Hit flags unique value) = refl
+stat-told Sets reply = refl
+stat-told Hits (Hit flags unique value) = refl
+stat-told Hits reply = refl
+stat-told Misses (Hit flags unique value) = refl
+stat-told Misses reply = refl
+stat-told Items (Hit flags unique value) = refl
+stat-told Items reply = refl
+
+sum-told : (stat : Stat) (replies : List CallReply) → sum_in stat (map told replies) ≡ sum_in stat replies
+sum-told stat [] = refl
+sum-told stat (reply ∷ replies) =
+    sum_by-cons (stat_in stat) (told reply) (map told replies)
+    ∙ ap (λ (n : ℕ). n + sum_in stat (map told replies)) (stat-told stat reply)
+    ∙ ap (λ (n : ℕ). stat_in stat reply + n) (sum-told stat replies)
+    ∙ sym (sum_by-cons (stat_in stat) reply replies)
+
+-- the lines of five numbers, and the end
+abbrev lines_of : ℕ → ℕ → ℕ → ℕ → ℕ → List ℕ
+lines_of gets sets hits misses items =
+    stat_line Gets gets ++ (stat_line Sets sets ++ (stat_line Hits hits ++ (stat_line Misses misses ++ (stat_line Items items ++ line (codes "END")))))
+
+stats-told : (replies : List CallReply) → stats_text (map told replies) ≡ stats_text replies
+stats-told replies =
+    let seen = map told replies in
+    ap (λ (n : ℕ). lines_of n (sum_in Sets seen) (sum_in Hits seen) (sum_in Misses seen) (sum_in Items seen)) (sum-told Gets replies)
+    ∙ ap (λ (n : ℕ). lines_of (sum_in Gets replies) n (sum_in Hits seen) (sum_in Misses seen) (sum_in Items seen)) (sum-told Sets replies)
+    ∙ ap (λ (n : ℕ). lines_of (sum_in Gets replies) (sum_in Sets replies) n (sum_in Misses seen) (sum_in Items seen)) (sum-told Hits replies)
+    ∙ ap (λ (n : ℕ). lines_of (sum_in Gets replies) (sum_in Sets replies) (sum_in Hits replies) n (sum_in Items seen)) (sum-told Misses replies)
+    ∙ ap (λ (n : ℕ). lines_of (sum_in Gets replies) (sum_in Sets replies) (sum_in Hits replies) (sum_in Misses replies) n) (sum-told Items replies)
 
 -- ---- one command of any kind
+
+says-told : (says : Says) (replies : List CallReply) → HidesUniques says → says_text says (map told replies) ≡ says_text says replies
+says-told (says_reply quiet) replies hides = ap (unless quiet) (only_line-told replies)
+says-told (says_items keys true) replies hides = absurd hides
+says-told (says_items keys false) replies hides = ap (λ (items : List ℕ). items ++ line (codes "END")) (items-told keys replies)
+says-told says_counts replies hides = stats-told replies
+says-told (says_line fixed quiet) replies hides = refl
+says-told (says_marks about key letters) replies hides = answer-told about key letters replies hides
 
 -- the text of a plain command is the text of its replies without their uniques
 pub text-told : (command : Command) (replies : List CallReply) → IsPlain command → text command (map told replies) ≡ text command replies
 unfolding text
-text-told (Store verb key flags value quiet) replies plain = ap (unless quiet) (only_line-told replies)
-text-told (Cas key flags unique value quiet) replies plain = absurd plain
-text-told (Get keys true) replies plain = absurd plain
-text-told (Get keys false) replies plain = ap (λ (items : List ℕ). items ++ line (codes "END")) (items-told keys replies)
-text-told (Delete key quiet) replies plain = ap (unless quiet) (only_line-told replies)
-text-told (Count key up amount quiet) replies plain = ap (unless quiet) (only_line-told replies)
-text-told (Flush quiet) replies plain = absurd plain
-text-told Stats replies plain = absurd plain
-text-told (Meta meta) replies plain = meta-told meta replies plain
-text-told command replies plain = refl
+text-told command replies plain = says-told (says_of command) replies plain.1
 
 -- ---- all commands
 

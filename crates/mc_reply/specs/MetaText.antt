@@ -4,8 +4,7 @@ use Rattle.std.specs.Prelude.{ℕ, Bool, ◌==◌, if◌then◌else◌, List, []
 use Rattle.zy_base.specs.declared.call_reply.CallReply.{CallReply}
 use Rattle.zy_base.specs.declared.call_reply.CallReply.TheVariants.{Miss, Hit, Stored, NotStored, Exists, NotFound, Deleted, TooLarge}
 use Rattle.mc_meta.specs.Flags.{is_among}
-use Rattle.mc_parse.specs.declared.meta.Meta.{Meta}
-use Rattle.mc_parse.specs.declared.meta.Meta.TheVariants.{Noop, Get, Set, Delete}
+use Rattle.mc_parse.specs.Says.{About, a_found, a_stored, a_removed}
 use Rattle.mc_reply.specs.declared.marks.Found.{Found}
 use Rattle.mc_reply.specs.Line.{line, too_large, unless}
 
@@ -85,10 +84,13 @@ delete_text key flags Deleted = unless (has_quiet_letter flags) (marked (codes "
 delete_text key flags NotFound = unless (has_quiet_letter flags) (marked (codes "NF") key None flags)
 delete_text key flags reply = []
 
--- the text of a meta command with its reply
-abbrev pub meta_text : Meta → List CallReply → List ℕ
-meta_text Noop replies = line (codes "MN")
-meta_text (Get key flags) (reply ∷ []) = get_text key flags reply
-meta_text (Set key call marks) (reply ∷ []) = set_text key marks reply
-meta_text (Delete key flags) (reply ∷ []) = delete_text key flags reply
-meta_text meta replies = []
+-- the text of a reply with the marks of letters, by what it is about
+abbrev pub about_text : About → List ℕ → List ℕ → CallReply → List ℕ
+about_text a_found key letters reply = get_text key letters reply
+about_text a_stored key letters reply = set_text key letters reply
+about_text a_removed key letters reply = delete_text key letters reply
+
+-- the text of the one reply with the marks of letters
+abbrev pub marks_answer : About → List ℕ → List ℕ → List CallReply → List ℕ
+marks_answer about key letters (reply ∷ []) = about_text about key letters reply
+marks_answer about key letters replies = []

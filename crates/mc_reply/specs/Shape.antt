@@ -1,7 +1,5 @@
 -- The form of an answer before it is written. No public clause cites this module.
-use Rattle.std.specs.Prelude.{ℕ, Bool, true, false, List, [], ⊤, codes, decimal, ◌++◌}
-use Rattle.mc_parse.specs.declared.command.Command.{Command}
-use Rattle.mc_parse.specs.declared.command.Command.TheVariants.{Get, Meta, Stats}
+use Rattle.std.specs.Prelude.{ℕ, Bool, true, false, List, [], codes, decimal, ◌++◌}
 use Rattle.mc_reply.specs.declared.answer.Answer.{Answer}
 use Rattle.mc_reply.specs.declared.answer.Answer.TheVariants.{Nothing, Line, Number}
 use Rattle.mc_reply.specs.Text.{line_end, line}
@@ -11,13 +9,6 @@ abbrev pub answer_text : Answer → List ℕ
 answer_text Nothing = []
 answer_text (Line text) = text.now
 answer_text (Number number) = line (decimal number)
-
--- the command is no retrieval, no meta command and no `stats`
-abbrev pub IsNoRetrieval : Command → Type 0
-IsNoRetrieval (Get keys unique) = ⊥
-IsNoRetrieval (Meta meta) = ⊥
-IsNoRetrieval Stats = ⊥
-IsNoRetrieval command = ⊤
 
 -- a space and a number, in front of a text
 abbrev pub spaced_number : ℕ → List ℕ → List ℕ

@@ -6,9 +6,10 @@ use Rattle.zy_base.specs.declared.call_reply.CallReply.TheVariants.{Miss, Hit, S
 use Rattle.mc_parse.specs.declared.error_line.ErrorLine.{ErrorLine}
 use Rattle.mc_parse.specs.declared.error_line.ErrorLine.TheVariants as Errors
 use Rattle.mc_parse.specs.declared.command.Command.{Command}
-use Rattle.mc_parse.specs.declared.command.Command.TheVariants.{Store, Cas, Get, Delete, Count, Version, Verbosity, Flush, Fault, Meta, Stats}
+use Rattle.mc_parse.specs.Says.{Fixed, the_version, is_done, does_noop, has_fault}
+use Rattle.mc_parse.specs.Says.{Says, says_reply, says_items, says_counts, says_line, says_marks, says_of}
 pub use Rattle.mc_reply.specs.Line.{line_end, line, too_large, unless}
-use Rattle.mc_reply.specs.MetaText.{meta_text}
+use Rattle.mc_reply.specs.MetaText.{marks_answer}
 use Rattle.mc_reply.specs.StatsText.{stats_text}
 
 -- ---- lines
@@ -21,6 +22,13 @@ error_line Errors.BadDelta = line (codes "CLIENT_ERROR invalid numeric delta arg
 error_line Errors.LongLine = line (codes "CLIENT_ERROR line too long")
 error_line Errors.BadChunk = line (codes "CLIENT_ERROR bad data chunk")
 error_line Errors.TooLarge = line too_large
+
+-- the line that no reply changes
+abbrev pub fixed_line : Fixed → List ℕ
+fixed_line the_version = line (codes "VERSION zygos-1.0")
+fixed_line is_done = line (codes "OK")
+fixed_line does_noop = line (codes "MN")
+fixed_line (has_fault fault) = error_line fault
 
 -- the line of a reply; a retrieval and flush_all have lines of their own
 abbrev pub reply_line : CallReply → List ℕ
@@ -72,16 +80,14 @@ items_text asked keys replies = []
 
 -- ---- commands
 
+-- the text of an answer with the replies
+abbrev pub says_text : Says → List CallReply → List ℕ
+says_text (says_reply quiet) replies = unless quiet (only_line replies)
+says_text (says_items keys unique) replies = items_text unique keys replies ++ line (codes "END")
+says_text says_counts replies = stats_text replies
+says_text (says_line fixed quiet) replies = unless quiet (fixed_line fixed)
+says_text (says_marks about key letters) replies = marks_answer about key letters replies
+
 -- the text of a command with its replies
 unfoldable pub text : Command → List CallReply → List ℕ
-text (Store verb key flags value quiet) replies = unless quiet (only_line replies)
-text (Cas key flags unique value quiet) replies = unless quiet (only_line replies)
-text (Get keys unique) replies = items_text unique keys replies ++ line (codes "END")
-text (Delete key quiet) replies = unless quiet (only_line replies)
-text (Count key up amount quiet) replies = unless quiet (only_line replies)
-text Stats replies = stats_text replies
-text Version replies = line (codes "VERSION zygos-1.0")
-text (Verbosity quiet) replies = unless quiet (line (codes "OK"))
-text (Flush quiet) replies = unless quiet (line (codes "OK"))
-text (Fault fault quiet) replies = unless quiet (error_line fault)
-text (Meta meta) replies = meta_text meta replies
+text command replies = says_text (says_of command) replies

@@ -1,6 +1,6 @@
-//! Answers other than items.
+//! Answers that are one line.
 
-/// The answer to a command other than a retrieval or a meta command.
+/// An answer that is one line at most.
 #[derive(Clone, Copy)]
 pub(crate) enum Answer {
     /// Nothing, where no answer is asked for.

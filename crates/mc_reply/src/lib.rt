@@ -4,7 +4,6 @@
 mod answer;
 mod answering;
 mod item;
-mod laws;
 mod length;
 mod lines;
 mod marks;
@@ -12,8 +11,4 @@ mod meta_answer;
 mod stats;
 mod writing;
 
-pub use laws::{
-    a_plain_command_tells_no_unique, each_command_has_one_text, worked_answers, worked_faults,
-    worked_limits, worked_lines, worked_meta_answers,
-};
 pub use writing::reply_text;

@@ -1,7 +1,9 @@
 //! Appends the text that answers a meta command.
 ghost use Rattle.std.specs.Prelude.{◌≡◌, ◌++◌, [], length, codes, decimal, None, Some, OnOk, OnErr};
+ghost use Rattle.mc_parse.specs.Says.{meta_says};
 ghost use Rattle.mc_reply.specs.Line.{line, unless};
-ghost use Rattle.mc_reply.specs.MetaText.{marked, hit_text, get_text, set_text, delete_text, meta_text, has_quiet_letter};
+ghost use Rattle.mc_reply.specs.MetaText.{marked, hit_text, get_text, set_text, delete_text, has_quiet_letter};
+ghost use Rattle.mc_reply.specs.Text.{says_text};
 
 use crate::lines::{LINE_END, MISS, NOOP, TOO_LARGE};
 use crate::marks::{Found, marks_length, put_marks};
@@ -16,7 +18,7 @@ pub(crate) fn append_meta(
     meta: &Meta,
     replies: &[CallReply],
 ) -> Result<(), NoMemory>
-    ensures ok { OnOk result (out.new ≡ out.old ++ meta_text meta.now replies.now) }
+    ensures ok { OnOk result (out.new ≡ out.old ++ says_text (meta_says meta.now) replies.now) }
     ensures err { OnErr result (out.new ≡ out.old) }
 {
     match (meta, replies) {

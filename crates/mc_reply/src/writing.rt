@@ -5,10 +5,10 @@ ghost use Rattle.mc_reply.specs.Answers.{AnswerCommand};
 ghost use Rattle.mc_reply.specs.Shape.{answer_text};
 
 use crate::answer::Answer;
-use crate::answering::answer_to;
+use crate::answering::{fault_answer, only_answer, unless};
 use crate::item::put_item;
 use crate::length::items_room;
-use crate::lines::{END, LINE_END};
+use crate::lines::{self, END, LINE_END};
 use crate::meta_answer::append_meta;
 use crate::stats::append_stats;
 use mc_parse::Command;
@@ -23,13 +23,20 @@ pub fn reply_text(out: &mut Blob, command: &Command, replies: &Replies) -> Resul
     ensures ok { OnOk result (out.new ≡ out.old ++ text command.now replies.now) }
     ensures err { OnErr result (out.new ≡ out.old) }
 {
+    let replies = replies.items();
     match command {
-        Command::Get { keys, unique } => {
-            append_items(out, *unique, keys.items(), replies.items())
+        Command::Get { keys, unique } => append_items(out, *unique, keys.items(), replies),
+        Command::Stats => append_stats(out, replies),
+        Command::Meta { meta } => append_meta(out, meta, replies),
+        Command::Store { quiet, .. }
+        | Command::Cas { quiet, .. }
+        | Command::Delete { quiet, .. }
+        | Command::Count { quiet, .. } => append_answer(out, unless(*quiet, only_answer(replies))),
+        Command::Version => append_answer(out, Answer::Line(lines::VERSION)),
+        Command::Verbosity { quiet } | Command::Flush { quiet } => {
+            append_answer(out, unless(*quiet, Answer::Line(lines::OK)))
         }
-        Command::Meta { meta } => append_meta(out, meta, replies.items()),
-        Command::Stats => append_stats(out, replies.items()),
-        _ => append_answer(out, answer_to(command, replies.items())),
+        Command::Fault { line, quiet } => append_answer(out, unless(*quiet, fault_answer(*line))),
     }
 }
 

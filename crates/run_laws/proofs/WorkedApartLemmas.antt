@@ -52,8 +52,8 @@ worked_run = record { legal = worked_is_legal; connections = (omega arith, (omeg
 
 plain : (conn : ℕ) → conn < 2 → All IsPlain (commands_in apart_records conn)
 unfolding cut_of frames_of need words line_command block_command
-plain zero below = All-from_recursion IsPlain (commands_in apart_records 0) (tt, (tt, tt))
-plain (suc zero) below = All-from_recursion IsPlain (commands_in apart_records 1) (tt, tt)
+plain zero below = All-from_recursion IsPlain (commands_in apart_records 0) ((tt, tt), ((tt, tt), tt))
+plain (suc zero) below = All-from_recursion IsPlain (commands_in apart_records 1) ((tt, tt), tt)
 plain (suc (suc conn)) below = absurd (omega arith)
 
 keys_0 : all_keys_of (commands_in apart_records 0) ≡ codes "a" ∷ codes "a" ∷ []

@@ -34,7 +34,7 @@ frame_within : (frame : FrameKind) → IsSmall frame → IsCommand (command_of f
 frame_within (Kinds.Line line) small = line_within line
 frame_within (Kinds.Block line block) small = block_within line block small
 frame_within (Kinds.Large line) small = large_within line
-frame_within Kinds.Long small = tt
+frame_within Kinds.Long small = (tt, tt)
 
 value_small : (block : List ℕ) (size : ℕ) → size ≤ value_limit → Some (size + 2) ≡ Some (length block) → IsValue (value_of block)
 value_small block size most is =
@@ -83,4 +83,4 @@ frame_own IsOwn (Needs.Block bytes) line after own = go (nat_lt value_limit byte
     go : (b : Bool) → IsOwnCommand IsOwn (command_of (if b then Kinds.Large line else Kinds.Block line after))
     go true = large_own IsOwn line
     go false = block_own IsOwn line after own
-frame_own IsOwn Needs.Quit line after own = record { plain = tt; keys = tt }
+frame_own IsOwn Needs.Quit line after own = record { plain = (tt, tt); keys = tt }

@@ -1,0 +1,9 @@
+mod WordLemmas
+mod LastWordLemmas
+mod PlainLineLemmas
+mod NoreplyLemmas
+mod CheckLemmas
+mod CallLemmas
+mod KeyLemmas
+mod SaidLemmas
+mod SameCallLemmas

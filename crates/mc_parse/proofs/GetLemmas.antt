@@ -1,0 +1,62 @@
+-- What the words of a retrieval mean.
+use Rattle.std.proofs.Common.{◌≡◌, ℕ, Bool, true, false, List, [], ◌∷◌, length, ◌<◌, refl, ap, subst, ◌∙◌, arith}
+use Rattle.std.specs.List.{list_all}
+use Rattle.mc_parse.specs.declared.command.Command.{Command}
+use Rattle.mc_parse.specs.declared.command.Command.TheVariants.{Get as GetCommand}
+use Rattle.mc_parse.specs.declared.error_line.ErrorLine.TheVariants.{Unknown, BadLine}
+use Rattle.mc_parse.specs.declared.name.Name.{Name}
+use Rattle.mc_parse.specs.declared.name.Name.TheVariants.{Get}
+use Rattle.mc_parse.specs.declared.need.Need.TheVariants.{Nothing}
+use Rattle.mc_parse.specs.Form.{gets, asks, is_key, check, form_after, line_form}
+use Rattle.mc_parse.specs.Need.{need, need_for, takes_more}
+use Rattle.mc_parse.specs.Meaning.{command_for, fault, IsBlockFor, IsTooLarge}
+use Rattle.mc_parse.specs.Line.{HasFew, retrieval}
+
+-- words that are keys are got, if there is one
+pub gets_keys : (unique : Bool) (ws : List (List ℕ)) → list_all is_key ws ≡ true → command_for (form_after (Get unique) ws) ≡ retrieval ws unique
+gets_keys unique [] short = refl
+gets_keys unique (word ∷ ws) short = ap (λ (b : Bool). command_for (check b BadLine (asks (gets (word ∷ ws) unique) false))) short
+
+-- a word that is too long is a fault
+pub gets_long : (unique : Bool) (ws : List (List ℕ)) → list_all is_key ws ≡ false → command_for (form_after (Get unique) ws) ≡ fault BadLine
+gets_long unique [] long = absurd (cc)
+gets_long unique (word ∷ ws) long = ap (λ (b : Bool). command_for (check b BadLine (asks (gets (word ∷ ws) unique) false))) long
+
+checked : (b : Bool) (keys : List (List ℕ)) (unique : Bool) → need_for (check b BadLine (asks (gets keys unique) false)) ≡ Nothing
+checked true keys unique = refl
+checked false keys unique = refl
+
+got_nothing : (unique : Bool) (ws : List (List ℕ)) → need_for (form_after (Get unique) ws) ≡ Nothing
+got_nothing unique [] = refl
+got_nothing unique (word ∷ ws) = checked (list_all is_key (word ∷ ws)) (word ∷ ws) unique
+
+few_by : (name : Name) → ((unique : Bool) → name ≡ Get unique → ⊥) → HasFew name
+few_by (Get unique) other = other unique refl
+few_by name other = tt
+
+-- a line that needs a block is no retrieval
+pub block_few : (line : List ℕ) (name : Name) (ws : List (List ℕ)) (block : List ℕ) → line_form line ≡ form_after name ws → IsBlockFor (need line) block → HasFew name
+unfolding need
+block_few line name ws block is fits =
+    few_by name (λ unique get. subst (λ n. IsBlockFor n block) (ap need_for is ∙ ap (λ n. need_for (form_after n ws)) get ∙ got_nothing unique ws) fits)
+
+-- so is one whose value is too large
+pub large_few : (line : List ℕ) (name : Name) (ws : List (List ℕ)) → line_form line ≡ form_after name ws → IsTooLarge (need line) → HasFew name
+unfolding need
+large_few line name ws is large =
+    few_by name (λ unique get. subst IsTooLarge (ap need_for is ∙ ap (λ n. need_for (form_after n ws)) get ∙ got_nothing unique ws) large)
+
+-- a name that may need something is no retrieval
+pub more_few : (name : Name) → takes_more name ≡ true → HasFew name
+more_few (Get unique) more = absurd (cc)
+more_few name more = tt
+
+-- ---- keys, if there are any
+
+pub retrieval_none : (keys : List (List ℕ)) (unique : Bool) → length keys ≡ 0 → retrieval keys unique ≡ fault Unknown
+retrieval_none [] unique none = refl
+retrieval_none (key ∷ keys) unique none = absurd (omega arith)
+
+pub retrieval_some : (keys : List (List ℕ)) (unique : Bool) → 0 < length keys → retrieval keys unique ≡ GetCommand keys unique
+retrieval_some [] unique some = absurd (omega arith)
+retrieval_some (key ∷ keys) unique some = refl

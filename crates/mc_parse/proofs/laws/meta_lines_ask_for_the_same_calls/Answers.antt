@@ -1,5 +1,0 @@
-use Rattle.mc_parse.proofs.SameCallLemmas.{gets_same, sets_same, exchanges_are_same, deletes_same}
-use Rattle.mc_parse.proofs.laws.meta_lines_ask_for_the_same_calls.Goals as goal
-
-pub returns : goal.returns
-returns c = record { get = gets_same; set = sets_same; cas = exchanges_are_same; delete = deletes_same }
