@@ -11,7 +11,6 @@ mod in_line;
 mod laws;
 mod line_end;
 mod state;
-mod step;
 mod stepping;
 mod wanted;
 
