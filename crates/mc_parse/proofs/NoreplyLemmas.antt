@@ -432,7 +432,7 @@ silent-block (asks (metas (meta_deletes key flags)) quiet) block fits = absurd f
 silent-block (asks (metas (meta_stores verb key flags bytes marks)) quiet) block fits =
     let stored : Command = Meta (SetMeta key (stored_by verb key flags (value_of block)) marks) in ended_same (is_ended block) quiet stored stored refl
 silent-block (asks (metas (meta_exchanges key flags bytes unique marks)) quiet) block fits =
-    let stored : Command = Meta (SetMeta key (CasCall key flags unique (value_of block)) marks) in ended_same (is_ended block) quiet stored stored refl
+    let stored : Command = Meta (SetMeta key (CasCall flags key unique (value_of block)) marks) in ended_same (is_ended block) quiet stored stored refl
 
 -- with a block that is too large it is the same fault, silenced
 pub silent-large : (form : Form) → IsTooLarge (need_for form) → large_command_for (silent form) ≡ silenced (large_command_for form)

@@ -166,7 +166,7 @@ exchanges_same : (key : List ℕ) (flags bytes unique : ℕ) → SayTheSame (ask
 exchanges_same key flags bytes unique = record {
   wants = refl;
   alone = λ shards conn. refl;
-  with_a_block = λ block. ended_same (is_ended block) (Cas key flags unique (value_of block) false) (Meta (Commands.Set key (Calls.Cas key flags unique (value_of block)) [])) (λ shards conn. refl);
+  with_a_block = λ block. ended_same (is_ended block) (Cas key flags unique (value_of block) false) (Meta (Commands.Set key (Calls.Cas flags key unique (value_of block)) [])) (λ shards conn. refl);
   too_large = λ shards conn. refl;
 }
 

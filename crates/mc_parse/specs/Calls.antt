@@ -71,7 +71,7 @@ abbrev pub calls_of : ℕ → Command → List ShardCall
 calls_of shards (Store verb key flags value quiet) =
     at_key shards key (stored_by verb key flags value) ∷ []
 calls_of shards (Cas key flags unique value quiet) =
-    at_key shards key (CasCall key flags unique value) ∷ []
+    at_key shards key (CasCall flags key unique value) ∷ []
 calls_of shards (Get keys unique) = get_calls shards keys
 calls_of shards (Delete key quiet) = at_key shards key (DeleteCall key) ∷ []
 calls_of shards (Count key up amount quiet) = at_key shards key (counted_by up key amount) ∷ []

@@ -62,7 +62,7 @@ abbrev pub value_meta : MetaAsk → List ℕ → Command
 value_meta (meta_stores verb key flags bytes marks) value =
     Meta (Metas.Set key (stored_by verb key flags value) marks)
 value_meta (meta_exchanges key flags bytes unique marks) value =
-    Meta (Metas.Set key (CasCall key flags unique value) marks)
+    Meta (Metas.Set key (CasCall flags key unique value) marks)
 value_meta ask value = fault Unknown
 
 -- what a line that needs nothing asks for; a request that needs a block, or ends the connection,

@@ -335,7 +335,7 @@ pub fn worked_meta_commands()
     ensures append { block_command (codes "ms a 1 MA") (codes "x\r\n")
         ≡ Command.Meta (Metas.Set (codes "a") (Calls.Append (codes "a") (codes "x")) []) }
     ensures cas { block_command (codes "ms a 0 C7 k") (codes "\r\n")
-        ≡ Command.Meta (Metas.Set (codes "a") (Calls.Cas (codes "a") 0 7 []) (codes "k")) }
+        ≡ Command.Meta (Metas.Set (codes "a") (Calls.Cas 0 (codes "a") 7 []) (codes "k")) }
     ensures chunk { block_command (codes "ms a 1 q") (codes "xyz")
         ≡ Command.Fault Errors.BadChunk false }
     ensures large { large_command (codes "ms a 1048577 q") ≡ Command.Fault Errors.TooLarge false }
@@ -406,7 +406,7 @@ pub fn worked_calls()
     ensures prepend { calls_of 16 (store_of Verbs.Prepend)
         ≡ on_shard (Calls.Prepend (codes "a") (codes "v")) 12 ∷ [] }
     ensures cas { calls_of 16 (Command.Cas (codes "a") 3 7 (codes "v") true)
-        ≡ on_shard (Calls.Cas (codes "a") 3 7 (codes "v")) 12 ∷ [] }
+        ≡ on_shard (Calls.Cas 3 (codes "a") 7 (codes "v")) 12 ∷ [] }
     ensures counts { map (λ up. calls_of 16 (Command.Count (codes "a") up 5 false)) (true ∷ false ∷ [])
         ≡ (on_shard (Calls.Incr (codes "a") 5) 12 ∷ [])
         ∷ (on_shard (Calls.Decr (codes "a") 5) 12 ∷ []) ∷ [] }

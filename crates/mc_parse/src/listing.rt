@@ -98,7 +98,7 @@ pub(crate) fn storing(verb: Verb, key: Blob, flags: u32, value: Blob) -> Call
 // The call that stores where the item there has this unique.
 #[inline(always)]
 pub(crate) fn exchanged(key: &Blob, flags: u32, unique: u64, value: &Blob) -> Result<Call, NoMemory>
-    ensures value { IfOk result (λ call. call ≡ Call.Cas key.now flags unique value.now) }
+    ensures value { IfOk result (λ call. call ≡ Call.Cas flags key.now unique value.now) }
 {
     let key = key.copy()?;
     match value.copy() {

@@ -11,7 +11,7 @@ use Rattle.zy_base.specs.Shard.{State, reply_to, state_after}
 
 -- a call is a cas
 abbrev pub is_cas : Call → Bool
-is_cas (Cas key flags unique value) = true
+is_cas (Cas flags key unique value) = true
 is_cas call = false
 
 -- none of the calls is a cas

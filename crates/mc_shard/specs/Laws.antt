@@ -32,7 +32,7 @@ KeepsUnlessStored call =
 
 -- a cas that does not store is counted, and changes nothing else
 abbrev pub FailedCasKeeps : Type 0
-FailedCasKeeps = (key : List ℕ) (flags unique : ℕ) (value : List ℕ) → KeepsUnlessStored (Cas key flags unique value)
+FailedCasKeeps = (key : List ℕ) (flags unique : ℕ) (value : List ℕ) → KeepsUnlessStored (Cas flags key unique value)
 
 -- an add that does not store is counted, and changes nothing else
 abbrev pub FailedAddKeeps : Type 0

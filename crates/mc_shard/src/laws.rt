@@ -13,7 +13,7 @@ pub fn worked_calls_without_an_item()
         ≡ outcome Replies.Stored (stores (codes "a") 5 (codes "x")) }
     ensures replace { outcome_of none (Calls.Replace (codes "a") 5 (codes "x")) None ≡ outcome Replies.NotStored keeps }
     ensures append { outcome_of none (Calls.Append (codes "a") (codes "x")) None ≡ outcome Replies.NotStored keeps }
-    ensures cas { outcome_of none (Calls.Cas (codes "a") 5 19 (codes "x")) None ≡ outcome Replies.NotFound keeps }
+    ensures cas { outcome_of none (Calls.Cas 5 (codes "a") 19 (codes "x")) None ≡ outcome Replies.NotFound keeps }
     ensures incr { outcome_of none (Calls.Incr (codes "a") 1) None ≡ outcome Replies.NotFound keeps }
     ensures delete { outcome_of none (Calls.Delete (codes "a")) None ≡ outcome Replies.NotFound keeps }
     ensures flush { outcome_of none Calls.Flush None ≡ outcome Replies.Flushed empties }
@@ -32,9 +32,9 @@ pub fn worked_calls_with_an_item()
         ≡ outcome Replies.Stored (stores (codes "a") 7 (codes "one+")) }
     ensures prepend { outcome_of none (Calls.Prepend (codes "a") (codes "-")) (item_of (codes "one"))
         ≡ outcome Replies.Stored (stores (codes "a") 7 (codes "-one")) }
-    ensures exists { outcome_of none (Calls.Cas (codes "a") 5 20 (codes "x")) (item_of (codes "one"))
+    ensures exists { outcome_of none (Calls.Cas 5 (codes "a") 20 (codes "x")) (item_of (codes "one"))
         ≡ outcome Replies.Exists keeps }
-    ensures cas { outcome_of none (Calls.Cas (codes "a") 5 19 (codes "x")) (item_of (codes "one"))
+    ensures cas { outcome_of none (Calls.Cas 5 (codes "a") 19 (codes "x")) (item_of (codes "one"))
         ≡ outcome Replies.Stored (stores (codes "a") 5 (codes "x")) }
     ensures delete { outcome_of none (Calls.Delete (codes "a")) (item_of (codes "one"))
         ≡ outcome Replies.Deleted (removes (codes "a")) }

@@ -124,7 +124,7 @@ module _ (shards number : ℕ) (state : State) (keys : KeySet) (are : AreKeys ke
   joined call key flags value true small large = large
   joined call key flags value false small large = small
 
-  exchanged : (key : List ℕ) (flags unique : ℕ) (value : List ℕ) (test : Bool) → After (Cas key flags unique value) (cond test (stored key flags value) (answers Exists))
+  exchanged : (key : List ℕ) (flags unique : ℕ) (value : List ℕ) (test : Bool) → After (Cas flags key unique value) (cond test (stored key flags value) (answers Exists))
   exchanged key flags unique value true = put key flags value
   exchanged key flags unique value false = are
 
@@ -151,8 +151,8 @@ module _ (shards number : ℕ) (state : State) (keys : KeySet) (are : AreKeys ke
   after_outcome counts (Prepend key value) None = are
   after_outcome counts (Prepend key value) (Some item) =
       joined (Prepend key value) key item.flags (value ++ item.value) (nat_lt value_limit (length (value ++ item.value))) (put key _ _) are
-  after_outcome counts (Cas key flags unique value) None = are
-  after_outcome counts (Cas key flags unique value) (Some item) = exchanged key flags unique value (item.unique == unique)
+  after_outcome counts (Cas flags key unique value) None = are
+  after_outcome counts (Cas flags key unique value) (Some item) = exchanged key flags unique value (item.unique == unique)
   after_outcome counts (Incr key amount) None = are
   after_outcome counts (Incr key amount) (Some item) = up key item amount (number_of item.value)
   after_outcome counts (Decr key amount) None = are

@@ -20,7 +20,7 @@ use Rattle.zy_base.specs.Told.{told, seen, seen_at, seen_after, IsSteady, IsAtOn
 
 -- a call's answer, without its unique, depends on what is found without its unique, and not on what the shard counts
 told-outcome_of : (counts others : Tallied) (call : Call) (found : Option Item) → IsSteady call → told (outcome_of counts call found).reply ≡ told (outcome_of others call (seen found)).reply
-told-outcome_of counts others (Cas key flags unique value) found steady = absurd steady
+told-outcome_of counts others (Cas flags key unique value) found steady = absurd steady
 told-outcome_of counts others Flush found steady = absurd steady
 told-outcome_of counts others Tally found steady = absurd steady
 told-outcome_of counts others call None steady = refl
@@ -28,7 +28,7 @@ told-outcome_of counts others call (Some item) steady = refl
 
 -- and so does its effect
 effect-outcome_of : (counts others : Tallied) (call : Call) (found : Option Item) → IsSteady call → (outcome_of counts call found).effect ≡ (outcome_of others call (seen found)).effect
-effect-outcome_of counts others (Cas key flags unique value) found steady = absurd steady
+effect-outcome_of counts others (Cas flags key unique value) found steady = absurd steady
 effect-outcome_of counts others Flush found steady = absurd steady
 effect-outcome_of counts others Tally found steady = absurd steady
 effect-outcome_of counts others call None steady = refl
@@ -63,7 +63,7 @@ at-outcome_of counts key (Append at value) (Some item) steady is =
 at-outcome_of counts key (Prepend at value) None steady is = tt
 at-outcome_of counts key (Prepend at value) (Some item) steady is =
     let same : at ≡ key = cc in subst (λ k. IsAtOnly k (outcome_of counts (Prepend at value) (Some item)).effect) same (at-stored at item (value ++ item.value) (nat_lt value_limit (length (value ++ item.value))))
-at-outcome_of counts key (Cas at flags unique value) found steady is = absurd steady
+at-outcome_of counts key (Cas flags at unique value) found steady is = absurd steady
 at-outcome_of counts key (Incr at amount) None steady is = tt
 at-outcome_of counts key (Incr at amount) (Some item) steady is =
     let same : at ≡ key = cc in subst (λ k. IsAtOnly k (outcome_of counts (Incr at amount) (Some item)).effect) same (at-counted_up at item amount (number_of item.value))

@@ -38,8 +38,8 @@ outcome_answers counts (Append key value) None = tt
 outcome_answers counts (Append key value) (Some item) = chosen (Append key value) (nat_lt value_limit (length (item.value ++ value))) _ _ tt tt
 outcome_answers counts (Prepend key value) None = tt
 outcome_answers counts (Prepend key value) (Some item) = chosen (Prepend key value) (nat_lt value_limit (length (value ++ item.value))) _ _ tt tt
-outcome_answers counts (Cas key flags unique value) None = tt
-outcome_answers counts (Cas key flags unique value) (Some item) = chosen (Cas key flags unique value) (item.unique == unique) _ _ tt tt
+outcome_answers counts (Cas flags key unique value) None = tt
+outcome_answers counts (Cas flags key unique value) (Some item) = chosen (Cas flags key unique value) (item.unique == unique) _ _ tt tt
 outcome_answers counts (Incr key amount) None = tt
 outcome_answers counts (Incr key amount) (Some item) = counted_up_answers key item amount (number_of item.value)
 outcome_answers counts (Decr key amount) None = tt

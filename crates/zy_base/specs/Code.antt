@@ -61,7 +61,7 @@ call_of Add key flags number value = Calls.Add key flags value
 call_of Replace key flags number value = Calls.Replace key flags value
 call_of Append key flags number value = Calls.Append key value
 call_of Prepend key flags number value = Calls.Prepend key value
-call_of Cas key flags number value = Calls.Cas key flags number value
+call_of Cas key flags number value = Calls.Cas flags key number value
 call_of Incr key flags number value = Calls.Incr key number
 call_of Decr key flags number value = Calls.Decr key number
 call_of Delete key flags number value = Calls.Delete key
@@ -76,7 +76,7 @@ call_kind (Calls.Add key flags value) = Add
 call_kind (Calls.Replace key flags value) = Replace
 call_kind (Calls.Append key value) = Append
 call_kind (Calls.Prepend key value) = Prepend
-call_kind (Calls.Cas key flags unique value) = Cas
+call_kind (Calls.Cas flags key unique value) = Cas
 call_kind (Calls.Incr key amount) = Incr
 call_kind (Calls.Decr key amount) = Decr
 call_kind (Calls.Delete key) = Delete
@@ -92,12 +92,12 @@ abbrev pub call_flags : Call → Option ℕ
 call_flags (Calls.Set key flags value) = Some flags
 call_flags (Calls.Add key flags value) = Some flags
 call_flags (Calls.Replace key flags value) = Some flags
-call_flags (Calls.Cas key flags unique value) = Some flags
+call_flags (Calls.Cas flags key unique value) = Some flags
 call_flags call = None
 
 -- the unique of a cas, and the amount of an incr or a decr
 abbrev pub call_number : Call → Option ℕ
-call_number (Calls.Cas key flags unique value) = Some unique
+call_number (Calls.Cas flags key unique value) = Some unique
 call_number (Calls.Incr key amount) = Some amount
 call_number (Calls.Decr key amount) = Some amount
 call_number call = None
@@ -109,7 +109,7 @@ call_value (Calls.Add key flags value) = Some value
 call_value (Calls.Replace key flags value) = Some value
 call_value (Calls.Append key value) = Some value
 call_value (Calls.Prepend key value) = Some value
-call_value (Calls.Cas key flags unique value) = Some value
+call_value (Calls.Cas flags key unique value) = Some value
 call_value call = None
 
 -- the greatest code of a call

@@ -26,7 +26,7 @@ is_set (Add key flags value) = true
 is_set (Replace key flags value) = true
 is_set (Append key value) = true
 is_set (Prepend key value) = true
-is_set (Cas key flags unique value) = true
+is_set (Cas flags key unique value) = true
 is_set call = false
 
 -- the call is a get, and found an item

@@ -40,7 +40,7 @@ seen_at key state = seen (get state.items key)
 -- the reply to the call depends on its key's item alone, and not on a unique, except for the unique that it
 -- shows, and its effect is at one key
 abbrev pub IsSteady : Call → Type 0
-IsSteady (Cas key flags unique value) = ⊥
+IsSteady (Cas flags key unique value) = ⊥
 IsSteady Flush = ⊥
 IsSteady Tally = ⊥
 IsSteady call = Unit {0}

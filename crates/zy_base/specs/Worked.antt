@@ -23,10 +23,10 @@ abbrev pub exchanges : List Call
 exchanges =
     Calls.Get (codes "a")
     ∷ Calls.Set (codes "a") 0 (codes "x")
-    ∷ Calls.Cas (codes "a") 0 99 (codes "y")
+    ∷ Calls.Cas 0 (codes "a") 99 (codes "y")
     ∷ Calls.Get (codes "a")
-    ∷ Calls.Cas (codes "b") 0 1 (codes "z")
-    ∷ Calls.Cas (codes "a") 0 28 (codes "y")
+    ∷ Calls.Cas 0 (codes "b") 1 (codes "z")
+    ∷ Calls.Cas 0 (codes "a") 28 (codes "y")
     ∷ Calls.Get (codes "a")
     ∷ []
 

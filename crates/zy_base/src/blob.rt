@@ -48,6 +48,7 @@ impl Blob {
     }
 
     /// The same bytes.
+    #[inline(always)]
     pub fn copy_of(alloc: Global, bytes: &[u8]) -> Result<Blob, NoMemory>
         ensures value { IfOk result (λ copy. copy ≡ bytes.now) }
     {
@@ -87,6 +88,7 @@ impl Blob {
     }
 
     /// Lets copies share the bytes from now on.
+    #[inline(always)]
     pub fn share(&mut self) -> Result<(), NoMemory>
         ensures value { self.new ≡ self.old }
     {
@@ -119,6 +121,7 @@ impl Blob {
     }
 
     /// Appends the bytes.
+    #[inline(always)]
     pub fn append(&mut self, bytes: &[u8]) -> Result<(), NoMemory>
         ensures ok { OnOk result (self.new ≡ self.old ++ bytes.now) }
         ensures err { OnErr result (self.new ≡ self.old) }
@@ -222,6 +225,7 @@ impl PartialEq for Blob {
 
     ghost laws = { partial_equiv_from_equiv nat_list_eq_equiv };
 
+    #[inline(always)]
     fn eq(&self, other: &Blob) -> bool {
         self.bytes() == other.bytes()
     }

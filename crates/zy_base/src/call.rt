@@ -45,8 +45,9 @@ pub enum Call {
     },
     /// Stores an item where the one there has this unique.
     Cas {
-        key: Blob,
+        // The flags come first, so that they share a word with the kind of the call.
         flags: u32,
+        key: Blob,
         unique: u64,
         value: Blob,
     },
@@ -187,11 +188,11 @@ impl Call {
                 Ok(Call::Prepend { key, value })
             }
             Call::Cas {
-                key,
                 flags,
+                key,
                 unique,
                 value,
-            } => copy_cas(key, *flags, *unique, value),
+            } => copy_cas(*flags, key, *unique, value),
             Call::Incr { key, amount } => Ok(Call::Incr {
                 key: key.copy()?,
                 amount: *amount,
@@ -250,13 +251,13 @@ fn copy_both(key: &Blob, value: &Blob) -> Result<(Blob, Blob), NoMemory>
 }
 
 // A `cas` of copies of a key and of a value.
-fn copy_cas(key: &Blob, flags: u32, unique: u64, value: &Blob) -> Result<Call, NoMemory>
-    ensures value { IfOk result (λ copy. copy ≡ Cas key.now flags unique value.now) }
+fn copy_cas(flags: u32, key: &Blob, unique: u64, value: &Blob) -> Result<Call, NoMemory>
+    ensures value { IfOk result (λ copy. copy ≡ Cas flags key.now unique value.now) }
 {
     let (key, value) = copy_both(key, value)?;
     Ok(Call::Cas {
-        key,
         flags,
+        key,
         unique,
         value,
     })

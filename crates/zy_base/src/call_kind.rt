@@ -105,8 +105,8 @@ impl CallKind {
             CallKind::Append => Call::Append { key, value },
             CallKind::Prepend => Call::Prepend { key, value },
             CallKind::Cas => Call::Cas {
-                key,
                 flags,
+                key,
                 unique: number,
                 value,
             },

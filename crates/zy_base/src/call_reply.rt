@@ -178,6 +178,7 @@ impl CallReply {
     }
 
     /// The same reply.
+    #[inline(always)]
     pub fn copy(&self) -> Result<CallReply, NoMemory>
         ensures value { IfOk result (λ copy. copy ≡ self.now) }
     {

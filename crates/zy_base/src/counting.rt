@@ -1,6 +1,6 @@
 //! What a call and its reply are counted as.
 ghost use Rattle.std.specs.Prelude.{◌≡◌};
-ghost use Rattle.zy_base.specs.Counted.{is_get, is_set, is_hit, is_miss};
+ghost use Rattle.zy_base.specs.Counted.{is_get, is_set, is_hit};
 
 use crate::call::Call;
 use crate::call_reply::CallReply;
@@ -30,16 +30,6 @@ impl Call {
     {
         match self {
             Call::Get { .. } => matches!(reply, CallReply::Hit { .. }),
-            _ => false,
-        }
-    }
-
-    /// Whether the call is a get that found none by this reply.
-    pub fn is_miss(&self, reply: &CallReply) -> bool
-        ensures value { result ≡ is_miss self.now reply.now }
-    {
-        match self {
-            Call::Get { .. } => matches!(reply, CallReply::Miss),
             _ => false,
         }
     }
