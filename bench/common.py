@@ -114,6 +114,13 @@ def built(program, given=None):
     return os.path.join(TOP, "crates", program, "out", program)
 
 
+def plain(room):
+    """The path of `bench/plain.c`, built into this folder."""
+    path = os.path.join(room, "plain")
+    subprocess.run(["cc", "-O2", "-pthread", "-o", path, os.path.join(HERE, "plain.c")], check=True)
+    return path
+
+
 def machine_name():
     """The machine, in a few words."""
     kind = ""

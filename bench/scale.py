@@ -6,9 +6,10 @@ The traffic is that of `zygos gen --number 1` with 200 connections and 1,000,000
 generated one, with its own short segments: the connections are at home at all cores. In `skewed` all connections are
 at home at core 0, so that the other cores have only what they steal; it is also served by one core on one thread. In
 `large` the streams of `even` come in turn in segments of 1,400 bytes. Printed are the machine, and for each kind and
-number of threads the medians of wall seconds and of processor seconds of the runs, how these compare with one thread,
-and from the journal of one further run the number of holds, the commands of a hold, how many holds had 1, 2 to 3, 4
-to 7 and so on up to 64 commands, and the share that was by another core than the connection's home.
+number of threads the medians of wall seconds and of processor seconds of the runs, how these compare with one thread;
+the same of `bench/plain.c`, a plain server in C, with its journal, 16 locked shards and as many threads; and from the
+journal of one further run the number of holds, the commands of a hold, how many holds had 1, 2 to 3, 4 to 7 and so on
+up to 64 commands, and the share that was by another core than the connection's home.
 
 Then `even` is served by 2 and 4 cores on as many threads with `--rest 0` and with `--rest 100`: from a file, and over
 a pipe that gives it in 20 pieces, with a pause of 100 ms after each. The pauses are in the wall seconds; processor
@@ -130,6 +131,14 @@ def about_holds(program, path, threads, commands):
 # ---- what is printed and drawn
 
 
+def beside_plain(costs, plain, kind, threads):
+    """What is said of the plain server on as many threads."""
+    cost, beside, alone = map(common.medians, (costs[kind, threads], plain[kind, threads], plain[kind, 1]))
+    return (f"plain C with a journal: {beside.wall:.2f} s, {beside.used:.2f} s of processor time, "
+            f"{alone.wall / beside.wall:.2f} times as fast as one; zygos takes {cost.wall / beside.wall:.2f} times its "
+            f"time and {cost.used / beside.used:.2f} times its processor time")
+
+
 def report(costs, kind, threads, about):
     """Prints the medians of the runs, beside those of one thread."""
     cost, alone = common.medians(costs[kind, threads]), common.medians(costs[kind, 1])
@@ -181,8 +190,9 @@ def main():
     kinds = [given.only] if given.only and not given.picture else [*KINDS, "rest"]
     commands = max(1, given.commands // common.CONNECTIONS) * common.CONNECTIONS
     print(f"{commands} commands, median of {given.runs} runs, {common.machine()}", flush=True)
-    costs = {}
+    costs, plain = {}, {}
     with tempfile.TemporaryDirectory() as room:
+        server = [common.plain(room), "--journal", "--threads"]
         with open(common.generated(program, os.path.join(room, "generated"), commands), "rb") as file:
             records = read_capture(Part("capture", file.read())).records
         for kind in kinds:
@@ -194,7 +204,9 @@ def main():
                 for threads in THREADS:
                     words = [program, "run", *common.cores(threads)]
                     costs[kind, threads] = [common.run(words, path) for _ in range(given.runs)]
-                    report(costs, kind, threads, about_holds(program, path, threads, commands))
+                    plain[kind, threads] = [common.run([*server, threads], path) for _ in range(given.runs)]
+                    report(costs, kind, threads, beside_plain(costs, plain, kind, threads) + "\n  "
+                           + about_holds(program, path, threads, commands))
             os.remove(path)
     if given.picture:
         common.draw(picture(costs, commands, given.runs), given.picture)

@@ -5,7 +5,7 @@ On one thread: microseconds of processor time a command and resident memory as a
 grow from the smaller capture to the larger: of zygos, which keeps a journal, with and without writing it; and of
 `bench/plain.c`, a plain server in C, with a journal of 80 bytes a call that it keeps, and without one. The plain
 server's replies must be the same, byte for byte. Then the larger capture on more cores, with one thread and with as
-many threads.
+many threads, beside the plain server with a journal on as many threads.
 
 usage: bench/run serve [--runs N] [--commands N] [PROGRAM]
 
@@ -15,7 +15,6 @@ PROGRAM       a program that is built (if left out, the repository's, which is p
 """
 import filecmp
 import os
-import subprocess
 import tempfile
 
 import common
@@ -73,11 +72,10 @@ def main():
     sizes = (largest // 10, largest)
     print(f"best of {given.runs} runs, {common.machine()}", flush=True)
     with tempfile.TemporaryDirectory() as room:
-        plain = os.path.join(room, "plain")
-        subprocess.run(["cc", "-O2", "-o", plain, os.path.join(common.HERE, "plain.c")], check=True)
+        plain = common.plain(room)
         paths = [common.generated(program, os.path.join(room, f"{size}.cap"), size) for size in sizes]
         for path in paths:
-            same_replies(room, path, [program, *ALONE], [plain], [plain, "--journal"])
+            same_replies(room, path, [program, *ALONE], [plain], [plain, "--journal"], [plain, "--threads", 4])
         beside({ZYGOS: [program, *ALONE], WRITTEN: [program, *ALONE, "--out", "both"], JOURNAL: [plain, "--journal"],
                 PLAIN: [plain]}, paths, sizes, given.runs)
         for cores in (4, 16, 64):
@@ -86,8 +84,10 @@ def main():
                   flush=True)
         for threads in (1, 2, 4):
             cost = common.least(given.runs, [program, "run", *common.cores(threads)], paths[1])
-            print(f"{threads} cores on as many threads: {cost.wall:.2f} s, {cost.used:.2f} s of processor time",
-                  flush=True)
+            beside_it = common.least(given.runs, [plain, "--journal", "--threads", threads], paths[1])
+            print(f"{threads} cores on as many threads: {cost.wall:.2f} s, {cost.used:.2f} s of processor time; "
+                  f"{JOURNAL}: {beside_it.wall:.2f} s, {beside_it.used:.2f} s; {cost.wall / beside_it.wall:.2f} times "
+                  f"the time", flush=True)
 
 
 main()

@@ -1,5 +1,5 @@
 //! What a home receives while another core has a block.
-ghost use Rattle.std.specs.Prelude.{◌≡◌, ◌+◌, ◌<◌, ◌≤◌, ◌^◌, length, false};
+ghost use Rattle.std.specs.Prelude.{◌≡◌, ◌+◌, ◌<◌, ◌≤◌, ◌^◌, false};
 ghost use Rattle.zy_conn.specs.Block.{label_of};
 
 use crate::home_parts::{Setup, first_end, set_up};
@@ -39,14 +39,14 @@ const LAST: &[u8] = b"VALUE a 0 1\r\nx\r\nEND\r\n";
 // back when it was held.
 fn steal_while(rt: &impl Abort, alloc: Global, setup: &mut Setup, items: &[Item])
     requires home { setup.old.home.pass.table ≡ setup.old.ring.id }
-    requires few { setup.old.home.pass.count + length items.now < 2 ^ 63 }
+    requires few { setup.old.home.pass.count < 2 ^ 62 }
     requires live { setup.old.home.refused ≡ false }
     requires label { setup.old.thief.label ≡ label_of setup.old.store.id 2 }
     requires thief { setup.old.thief.table ≡ setup.old.ring.id }
     ensures table { setup.new.home.pass.table ≡ setup.old.home.pass.table }
     ensures label { setup.new.home.pass.label ≡ setup.old.home.pass.label }
     ensures cores { setup.new.home.cores ≡ setup.old.home.cores }
-    ensures count { setup.new.home.pass.count ≤ setup.old.home.pass.count + length items.now }
+    ensures count { setup.new.home.pass.count ≤ setup.old.home.pass.count + 64 }
     ensures live { setup.new.home.refused ≡ false }
     ensures same { (setup.new.ring ≡ setup.old.ring) × (setup.new.store ≡ setup.old.store) }
 {

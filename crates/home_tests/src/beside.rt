@@ -22,14 +22,14 @@ const COMMAND: [Item; 1] = [Item::Text(0, 1, b"version\r\n")];
 const TIMES: u32 = 500;
 
 // Has the home receive commands.
-fn receive_all(rt: &impl Abort, alloc: Global, ring: &Ring<Block>, mut home: Home) -> Home
+fn receive_often(rt: &impl Abort, alloc: Global, ring: &Ring<Block>, mut home: Home) -> Home
     requires table { home.pass.table ≡ ring.now.id }
-    requires few { home.pass.count ≤ 10 }
+    requires few { home.pass.count ≤ 64 }
     requires live { home.refused ≡ false }
     ensures table { result.pass.table ≡ home.pass.table }
     ensures label { result.pass.label ≡ home.pass.label }
     ensures cores { result.cores ≡ home.cores }
-    ensures count { result.pass.count ≤ 1000 }
+    ensures count { result.pass.count ≤ 32064 }
     ensures live { result.refused ≡ false }
 {
     for _time in 0..TIMES {
@@ -66,14 +66,14 @@ fn receive_beside<R: Threads + Abort + Sync>(
     block: Block,
 ) -> (Home, Block)
     requires table { home.pass.table ≡ ring.now.id }
-    requires few { home.pass.count ≤ 10 }
+    requires few { home.pass.count ≤ 64 }
     requires live { home.refused ≡ false }
     requires store { block.work.table ≡ store.now.id }
     requires cores { block.cores ≡ 2 }
     ensures table { result.0.pass.table ≡ home.pass.table }
     ensures label { result.0.pass.label ≡ home.pass.label }
     ensures cores { result.0.cores ≡ home.cores }
-    ensures count { result.0.pass.count ≤ 1000 }
+    ensures count { result.0.pass.count ≤ 32064 }
     ensures live { result.0.refused ≡ false }
     ensures block { result.1.work.table ≡ block.work.table }
     ensures held { result.1.cores ≡ block.cores }
@@ -83,14 +83,14 @@ fn receive_beside<R: Threads + Abort + Sync>(
         rt,
         move || -> Home
             requires table { home.pass.table ≡ ring.now.id }
-            requires few { home.pass.count ≤ 10 }
+            requires few { home.pass.count ≤ 64 }
             requires live { home.refused ≡ false }
             ensures table { result.pass.table ≡ home.pass.table }
             ensures label { result.pass.label ≡ home.pass.label }
             ensures cores { result.cores ≡ home.cores }
-            ensures count { result.pass.count ≤ 1000 }
+            ensures count { result.pass.count ≤ 32064 }
             ensures live { result.refused ≡ false }
-        { receive_all(rt, alloc, ring, home) },
+        { receive_often(rt, alloc, ring, home) },
         move || -> Block
             requires store { block.work.table ≡ store.now.id }
             requires cores { block.cores ≡ 2 }
@@ -104,14 +104,14 @@ fn receive_beside<R: Threads + Abort + Sync>(
 // Claims the block for the other core, and has the home receive while it is held.
 fn steal_beside<R: Threads + Abort + Sync>(rt: &R, alloc: Global, setup: Setup) -> Setup
     requires home { setup.home.pass.table ≡ setup.ring.id }
-    requires few { setup.home.pass.count ≤ 10 }
+    requires few { setup.home.pass.count ≤ 64 }
     requires live { setup.home.refused ≡ false }
     requires label { setup.thief.label ≡ label_of setup.store.id 2 }
     requires own { setup.home.pass.label ≡ label_of setup.store.id 2 }
     requires cores { setup.home.cores ≡ 2 }
     requires thief { setup.thief.table ≡ setup.ring.id }
     ensures home { result.home.pass.table ≡ result.ring.id }
-    ensures few { result.home.pass.count ≤ 1000 }
+    ensures few { result.home.pass.count ≤ 32064 }
     ensures live { result.home.refused ≡ false }
     ensures label { result.home.pass.label ≡ label_of result.store.id 2 }
     ensures cores { result.home.cores ≡ 2 }

@@ -89,7 +89,7 @@ fn hold_until<R: Wait + Abort>(
         if let HoldEnd::Busy { .. } = sure(rt, block.hold(store, &Ungated, 1)) {
             busy = true;
         }
-        sure(rt, output.carry_out(block.take_batch()));
+        sure(rt, block.send_to(&mut output));
         if busy && block.finished() >= 1_000 {
             break;
         }

@@ -1,9 +1,9 @@
 //! What a home receives, and what it does until it is settled.
-ghost use Rattle.std.specs.Prelude.{◌≡◌, ◌+◌, ◌<◌, ◌≤◌, ◌^◌, length, false};
+ghost use Rattle.std.specs.Prelude.{◌≡◌, ◌+◌, ◌<◌, ◌≤◌, ◌^◌, false};
 ghost use Rattle.zy_conn.specs.Block.{label_of};
 
 use crate::home_parts::Setup;
-use crate::sure::sure;
+use crate::sure::{must, sure};
 use std::alloc::Global;
 use std::process::Abort;
 use zy_base::{Blob, Ungated};
@@ -11,6 +11,9 @@ use zy_conn::Block;
 use zy_home::Home;
 use zy_rx::Rx;
 use zy_shuffle::Ring;
+
+// As many as a call receives.
+const SLOTS: usize = 64;
 
 /// What a home receives.
 #[derive(Clone, Copy)]
@@ -36,7 +39,7 @@ fn item_of(rt: &impl Abort, alloc: Global, item: Item) -> Rx {
     }
 }
 
-/// Has the home receive items.
+/// Has the home receive these items, at most 64, in one call.
 pub(crate) fn receive(
     rt: &impl Abort,
     alloc: Global,
@@ -45,18 +48,24 @@ pub(crate) fn receive(
     items: &[Item],
 )
     requires table { home.old.pass.table ≡ ring.now.id }
-    requires few { home.old.pass.count + length items.now < 2 ^ 63 }
+    requires few { home.old.pass.count < 2 ^ 62 }
     requires live { home.old.refused ≡ false }
     ensures table { home.new.pass.table ≡ home.old.pass.table }
     ensures label { home.new.pass.label ≡ home.old.pass.label }
     ensures cores { home.new.cores ≡ home.old.cores }
-    ensures count { home.new.pass.count ≤ home.old.pass.count + length items.now }
+    ensures count { home.new.pass.count ≤ home.old.pass.count + 64 }
     ensures live { home.new.refused ≡ false }
 {
+    let (mut inlet, mut outlet) = sure(rt, zy_rx::ring(alloc, SLOTS));
     for item in items {
-        let item = item_of(rt, alloc, *item);
-        sure(rt, home.receive(ring, item));
+        let refused = inlet.offer(item_of(rt, alloc, *item));
+        let is_offered = refused.is_none();
+        drop(refused);
+        must(rt, is_offered);
     }
+    sure(rt, home.receive_all(ring, &mut outlet));
+    drop(inlet);
+    drop(outlet);
 }
 
 /// Has the home collect and claim until it is settled.

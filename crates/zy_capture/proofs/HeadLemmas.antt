@@ -20,7 +20,7 @@ use Rattle.zy_capture.proofs.PartLemmas.{Over}
 use Rattle.zy_capture.proofs.WholeLemmas.{lawful}
 
 -- a tag and a connection lead to the length
-conn_leads : (s : CaptureState) (at : ℕ) (conn : List ℕ) → s.due ≡ Tag → length conn ≡ 4 → number conn < s.count → Over s at (83 ∷ conn) (to s (Length (number conn))) []
+pub conn_leads : (s : CaptureState) (at : ℕ) (conn : List ℕ) → s.due ≡ Tag → length conn ≡ 4 → number conn < s.count → Over s at (83 ∷ conn) (to s (Length (number conn))) []
 conn_leads s at conn is four few =
     over_join fields s (to s Connection) (to s (Length (number conn))) at (83 ∷ []) conn [] [] (over_then fields s (to s Connection) at (83 ∷ []) (rw is refl) (rw is refl))
     (over_then fields (to s Connection) (to s (Length (number conn))) (at + 1) conn four (rw (lt-ltb (number conn) s.count few) refl))
@@ -35,7 +35,7 @@ conn_read s at conn room is four few =
     ∙ runs_read fields lawful over.parts s (to s (Length (number conn))) at (at + 5) [] [] (omega (arith, size)) room over.runs
 
 -- a place where nothing of a field was read
-plain : (p : CaptureProgress) → p.fault ≡ None → p.seen ≡ [] → p ≡ at_state p.state p.at
+pub plain : (p : CaptureProgress) → p.fault ≡ None → p.seen ≡ [] → p ≡ at_state p.state p.at
 plain p none empty = ap (λ o. record { state = p.state; seen = p.seen; at = p.at; fault = o }) none ∙ ap (λ l. record { state = p.state; seen = l; at = p.at; fault = None }) empty
 
 -- they are fed

@@ -3,6 +3,7 @@ pub mod PlaceLemmas
 pub mod PartLemmas
 pub mod Feeding
 pub mod HeadLemmas
+pub mod SegmentLemmas
 pub mod WholeLemmas
 pub mod StreamLemmas
 pub mod NumberedLemmas

@@ -1,5 +1,6 @@
 pub mod Capture
 pub mod Steps
+pub mod Whole
 pub mod Verdict
 pub mod SoFar
 pub mod Standing

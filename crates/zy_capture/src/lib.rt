@@ -14,6 +14,7 @@ mod replies_state;
 mod session_bytes;
 mod sessions;
 mod streams;
+mod whole;
 mod writing;
 
 pub use capture_fault::{CaptureFault, FeedFault};
@@ -24,4 +25,5 @@ pub use record::{Record, Segment};
 pub use replies_reader::RepliesReader;
 pub use session_bytes::SessionBytes;
 pub use streams::Streams;
+pub use whole::begins_with_record;
 pub use writing::write_replies;

@@ -7,6 +7,7 @@ ghost use Rattle.zy_capture.specs.Standing.{StandsForRecords, EndsBy, IsLengthEn
 
 mod head;
 mod steps;
+mod whole;
 
 use crate::capture_fault::{CaptureFault, FeedFault};
 use crate::capture_state::CaptureState;
@@ -87,6 +88,7 @@ impl Reader {
     ///
     /// After `NoMemory` the bytes before the one that needs memory are taken; `feed` says when that
     /// is possible.
+    #[inline(always)]
     pub fn feed_piece(&mut self, bytes: &[u8]) -> Fed<Record, CaptureFault>
         requires some { 0 < length bytes.now }
         ensures within { result.taken ≤ length bytes.now }
@@ -99,7 +101,10 @@ impl Reader {
         ensures memory { result.answer ≡ Err NoMemory
             → IsLengthEnd self.new (get_or bytes.now result.taken 0) }
     {
-        feed_piece(self, bytes)
+        match self.lawful_segment(bytes) {
+            Some(head) => self.take_segment(bytes, head),
+            None => feed_piece(self, bytes),
+        }
     }
 
     /// 1 or 2; `None` exactly where the magic was not read whole or was refused.

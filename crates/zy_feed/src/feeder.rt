@@ -82,6 +82,7 @@ impl<'s, S: Source> CaptureFeeder<'s, S> {
     }
 
     // Offers an item to the core for which it is, and keeps it if it is handed back.
+    #[inline(always)]
     fn deliver(&mut self, item: Rx) -> Fed
         ensures source { self.new.source.ghost_name ≡ self.old.source.ghost_name }
         ensures steps { StepsTo self.old.inlets self.new.inlets self.new.stage result }

@@ -59,6 +59,7 @@ impl Inlets {
 
     // Offers an item to the core that it is for. It is handed back where that core's inlet then
     // knew no free slot.
+    #[inline(always)]
     pub(crate) fn deliver(&mut self, item: Rx) -> Option<Rx>
         ensures ok { IfNone result
             (OffersTo (home_in (length self.old) item) item self.old self.new) }

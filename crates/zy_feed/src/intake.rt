@@ -11,7 +11,7 @@ use crate::stop::Stop;
 use std::alloc::Global;
 use std::marker::Model;
 use zy_base::{Failed, NoMemory, Source};
-use zy_capture::{CaptureFault, FeedFault, Reader, Record};
+use zy_capture::{CaptureFault, FeedFault, Reader, Record, begins_with_record};
 use zy_read::{Fed, Pieces};
 
 /// What a capture begins with.
@@ -145,6 +145,7 @@ impl Intake {
 
     // Feeds the reader the next bytes, at most `most`; before that it reads the next piece if
     // nothing is left of this one.
+    #[inline(always)]
     fn advance<S: Source>(&mut self, source: &mut S, most: usize) -> Result<Came, Stop>
         requires some { 0 < most }
         ensures value { (first : S) (records : List Record) (bytes : List ℕ)
@@ -168,17 +169,6 @@ impl Intake {
         let Fed { taken, answer } = self.reader.feed_piece(&left[..most.min(left.len())]);
         self.pieces.pass(taken);
         answer
-    }
-}
-
-// Whether bytes of a capture hold the whole record with which they begin.
-fn begins_with_record(bytes: &[u8]) -> bool {
-    match bytes {
-        [b'S', _, _, _, _, a, b, c, d, rest @ ..] => {
-            u32::from_be_bytes([*a, *b, *c, *d]) as usize <= rest.len()
-        }
-        [b'C', rest @ ..] => rest.len() >= 4,
-        _ => false,
     }
 }
 

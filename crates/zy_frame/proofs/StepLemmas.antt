@@ -1,10 +1,11 @@
 -- What each step of a framer gives, over the values that it leads from and to.
-use Rattle.std.proofs.Common.{◌≡◌, ℕ, ◌+◌, ◌-◌, ◌<◌, ◌≤◌, true, false, List, [], ◌∷◌, ◌++◌, length, take, drop, refl, sym, ap, ◌∙◌, arith, append_assoc, length-append}
+use Rattle.std.proofs.Common.{◌≡◌, ◌≢◌, ℕ, ◌+◌, ◌-◌, ◌<◌, ◌≤◌, true, false, List, [], ◌∷◌, ◌++◌, length, take, drop, refl, sym, ap, ◌∙◌, arith, append_assoc, append-nil, length-append, ne_eqb}
 use Rattle.std.specs.Prelude.{Option, None, Some, nat_lt, if◌then◌else◌, Bool, option_to_list}
 use Rattle.std.proofs.lemmas.Bool.{ltb-true, ltb-false}
 use Rattle.std.proofs.lemmas.List.{length-take}
 use Rattle.std.proofs.Math.Seq.{drop-length}
 use Rattle.zy_base.specs.Shard.{value_limit}
+use Rattle.mc_parse.specs.declared.need.Need.{Need}
 use Rattle.mc_parse.specs.declared.need.Need.TheVariants as Needs
 use Rattle.mc_parse.specs.Need.{need}
 use Rattle.zy_frame.specs.declared.frame_kind.FrameKind.{FrameKind}
@@ -12,17 +13,13 @@ use Rattle.zy_frame.specs.declared.frame_kind.FrameKind.TheVariants as Kinds
 use Rattle.zy_frame.specs.declared.wanted.Wanted.{Wanted}
 use Rattle.zy_frame.specs.declared.state.State.{State}
 use Rattle.zy_frame.specs.declared.state.State.TheVariants.{Line, Long, Block, Large, Quit}
-use Rattle.zy_frame.specs.declared.step.Step.{Step}
 use Rattle.mc_parse.specs.Words.{line_limit}
 use Rattle.zy_frame.specs.Line.{IsShort, first_line, chomped, line_feed}
 use Rattle.zy_frame.specs.Frame.{frame_at}
 use Rattle.zy_frame.specs.Progress.{IsAwaited, IsKeptBlock, IsLargeBlock, outcome_of, with_frames, ends_long, ends_frame, goes_on}
-use Rattle.zy_frame.specs.Steps.{awaited, progress_of, Goes, Closes, waiting}
+use Rattle.zy_frame.specs.Steps.{awaited, progress_of, step_to, after_line, after_block, Goes, Moves, Closes, ClosesTo, waiting}
 use Rattle.zy_frame.proofs.LineLemmas.{ended, spelled, first_line-append, first_line-append_none, first_line-ended}
 use Rattle.zy_frame.proofs.GoingOn.{in_long, long_ends, ends_long-begun_with, ends_frame-part, ends_frame-all, line_ends, quit_ends, block_begins, kept_block, large_block, ends_frame-same}
-
-abbrev pub step : State → ℕ → Option FrameKind → Step
-step state taken frame = record { state = state; taken = taken; frame = frame }
 
 all_taken : (bytes more : List ℕ) → more ≡ drop (length bytes) bytes ++ more
 all_taken bytes more = rw (drop-length bytes) refl
@@ -35,7 +32,7 @@ is_short-nil = record { no_feed = refl; short = omega arith }
 
 -- the line goes on
 pub line_grows : (kept bytes : List ℕ) → IsShort kept → 0 < length bytes → first_line bytes ≡ None → length kept + length bytes ≤ line_limit
-    → Goes (Line kept) bytes (step (Line (kept ++ bytes)) (length bytes) None)
+    → Goes (Line kept) bytes (step_to (Line (kept ++ bytes)) (length bytes) None)
 unfolding goes_on
 line_grows kept bytes s some none fits = record {
   keeps = record { no_feed = first_line-append_none kept bytes s.no_feed none; short = omega (arith, length-append kept bytes) };
@@ -46,7 +43,7 @@ line_grows kept bytes s some none fits = record {
 
 -- it becomes too long
 pub line_too_long : (kept bytes : List ℕ) → IsShort kept → 0 < length bytes → first_line bytes ≡ None → line_limit < length kept + length bytes
-    → Goes (Line kept) bytes (step Long (length bytes) None)
+    → Goes (Line kept) bytes (step_to Long (length bytes) None)
 unfolding goes_on
 line_too_long kept bytes s some none long =
     let longer : line_limit < length (kept ++ bytes) = omega (arith, length-append kept bytes) in
@@ -74,68 +71,64 @@ split_at kept bytes more at h =
     ap (λ (x : List ℕ). kept ++ (x ++ more)) text ∙ ap (λ (x : List ℕ). kept ++ x) (append_assoc front (line_feed ∷ back) more)
     ∙ sym (append_assoc kept front (line_feed ∷ (back ++ more)))
 
-front_length : (kept bytes : List ℕ) (at : ℕ) → LineAt bytes at → length (kept ++ take at bytes) ≡ length kept + at
-front_length kept bytes at h = let within = h.within in omega (arith, length-append kept (take at bytes), length-take at bytes)
-
--- it ends, and is too long
-pub line_past : (kept bytes : List ℕ) (at : ℕ) → IsShort kept → LineAt bytes at → line_limit < length kept + at
-    → Goes (Line kept) bytes (step (Line []) (at + 1) (Some Kinds.Long))
+-- it ends, and its line feed comes
+pub line_closes : (kept bytes : List ℕ) (at : ℕ) (state : State) (frame : Option FrameKind) → LineAt bytes at → Closes (kept ++ take at bytes) state frame
+    → Goes (Line kept) bytes (step_to state (at + 1) frame)
 unfolding goes_on
-line_past kept bytes at s h long =
-    let within = h.within in
-    let longer : line_limit < length (kept ++ take at bytes) = omega (arith, front_length kept bytes at h) in
-    record {
-      keeps = is_short-nil;
-      some = omega arith;
-      within = omega arith;
-      on = λ more. ap outcome_of (split_at kept bytes more at h)
-          ∙ long_ends (kept ++ take at bytes) (drop (at + 1) bytes ++ more) (first_line-append_none kept (take at bytes) s.no_feed (front_no_feed bytes at h)) longer;
-    }
-
--- it ends, and is looked at
-pub line_closes : (kept bytes : List ℕ) (at : ℕ) (result : Step) → IsShort kept → LineAt bytes at → Closes (kept ++ take at bytes) result → result.taken ≡ at + 1
-    → Goes (Line kept) bytes result
-unfolding goes_on
-line_closes kept bytes at result s h closes taken =
+line_closes kept bytes at state frame h closes =
     let within = h.within in
     record {
       keeps = closes.keeps;
       some = omega arith;
       within = omega arith;
-      on = λ more. ap outcome_of (split_at kept bytes more at h) ∙ closes.on (drop (at + 1) bytes ++ more)
-          ∙ ap (λ (n : ℕ). with_frames (option_to_list result.frame) (goes_on (progress_of result.state) (drop n bytes ++ more))) (sym taken);
+      on = λ more. ap outcome_of (split_at kept bytes more at h) ∙ closes.on (drop (at + 1) bytes ++ more);
     }
 
--- what has come of it, with what ends it
-pub line_whole : (kept bytes : List ℕ) (at : ℕ) → IsShort kept → LineAt bytes at → length kept + at ≤ line_limit → IsShort (kept ++ take at bytes)
-line_whole kept bytes at s h fits = record {
-  no_feed = first_line-append_none kept (take at bytes) s.no_feed (front_no_feed bytes at h);
-  short = omega (arith, front_length kept bytes at h);
+pub line_moves : (kept bytes : List ℕ) (at : ℕ) (state : State) (before after : List FrameKind) → LineAt bytes at → ClosesTo (kept ++ take at bytes) state before after
+    → Moves (Line kept) state before after bytes (at + 1)
+line_moves kept bytes at state before after h closes = record {
+  frame = closes.frame;
+  goes = line_closes kept bytes at state closes.frame h closes.closes;
+  appended = closes.appended;
+}
+
+-- all bytes of a line that is not too long
+pub line_whole : (kept bytes : List ℕ) → IsShort kept → first_line bytes ≡ None → length kept + length bytes ≤ line_limit → IsShort (kept ++ bytes)
+line_whole kept bytes s none fits = record {
+  no_feed = first_line-append_none kept bytes s.no_feed none;
+  short = omega (arith, length-append kept bytes);
 }
 
 -- ---- at the end of a line
 
--- a line by itself
-pub closes_alone : (line : List ℕ) (taken : ℕ) → IsShort line → need (chomped line) ≡ Needs.Nothing → Closes line (step (Line []) taken (Some (Kinds.Line (chomped line))))
+-- a line that is too long
+pub closes_long : (kept bytes : List ℕ) → IsShort kept → first_line bytes ≡ None → line_limit < length kept + length bytes → Closes (kept ++ bytes) (Line []) (Some Kinds.Long)
 unfolding goes_on
-closes_alone line taken s is = record { keeps = is_short-nil; on = λ more. line_ends line more s is }
+closes_long kept bytes s none long =
+    let longer : line_limit < length (kept ++ bytes) = omega (arith, length-append kept bytes) in
+    record { keeps = is_short-nil; on = λ more. long_ends (kept ++ bytes) more (first_line-append_none kept bytes s.no_feed none) longer }
+
+-- a line by itself
+pub closes_alone : (line : List ℕ) → IsShort line → need (chomped line) ≡ Needs.Nothing → Closes line (Line []) (Some (Kinds.Line (chomped line)))
+unfolding goes_on
+closes_alone line s is = record { keeps = is_short-nil; on = λ more. line_ends line more s is }
 
 -- a quit line
-pub closes_quit : (line : List ℕ) (taken : ℕ) → IsShort line → need (chomped line) ≡ Needs.Quit → Closes line (step Quit taken None)
+closes_quit : (line : List ℕ) → IsShort line → need (chomped line) ≡ Needs.Quit → Closes line Quit None
 unfolding goes_on
-closes_quit line taken s is = record { keeps = tt; on = λ more. quit_ends line more s is }
+closes_quit line s is = record { keeps = tt; on = λ more. quit_ends line more s is }
 
-waiting_by : (test : Bool) (line : List ℕ) (size taken : ℕ) → nat_lt value_limit size ≡ test → IsShort line → need (chomped line) ≡ Needs.Block size
-    → let wanted : Wanted = record { line = line; size = size; left = size + 2 } in Closes line (step (if test then Large wanted else Block wanted []) taken None)
+waiting_by : (test : Bool) (line : List ℕ) (size : ℕ) → nat_lt value_limit size ≡ test → IsShort line → need (chomped line) ≡ Needs.Block size
+    → let wanted : Wanted = record { line = line; size = size; left = size + 2 } in Closes line (if test then Large wanted else Block wanted []) None
 unfolding goes_on
-waiting_by true line size taken test s is =
+waiting_by true line size test s is =
     let large : value_limit < size = ltb-true value_limit size test in
     record {
       keeps = record { awaits = record { short = s; sized = is; some = omega arith }; large = large };
       on = λ more. block_begins line more size s is
           ∙ ends_frame-same (size + 2) (frame_at line) (λ rest. Kinds.Large (chomped line)) more (λ after. large_block line after size s is large);
     }
-waiting_by false line size taken test s is =
+waiting_by false line size test s is =
     let small : size ≤ value_limit = ltb-false value_limit size test in
     record {
       keeps = record { awaits = record { short = s; sized = is; some = omega arith }; small = small; all = omega arith };
@@ -144,12 +137,18 @@ waiting_by false line size taken test s is =
     }
 
 -- a storage line
-pub closes_storage : (line : List ℕ) (size taken : ℕ) → IsShort line → need (chomped line) ≡ Needs.Block size → Closes line (step (waiting line size) taken None)
-closes_storage line size taken s is = waiting_by (nat_lt value_limit size) line size taken refl s is
+closes_storage : (line : List ℕ) (size : ℕ) → IsShort line → need (chomped line) ≡ Needs.Block size → Closes line (waiting line size) None
+closes_storage line size s is = waiting_by (nat_lt value_limit size) line size refl s is
+
+-- a line that is no frame by itself
+pub closes_other : (line : List ℕ) (what : Need) (frames : List FrameKind) → IsShort line → need (chomped line) ≡ what → what ≢ Needs.Nothing → ClosesTo line (after_line what (Line line)) frames frames
+closes_other line Needs.Nothing frames s is other = absurd (other refl)
+closes_other line Needs.Quit frames s is other = record { frame = None; closes = closes_quit line s is; appended = sym (append-nil frames) }
+closes_other line (Needs.Block size) frames s is other = record { frame = None; closes = closes_storage line size s is; appended = sym (append-nil frames) }
 
 -- ---- in a line that is too long
 
-pub long_grows : (bytes : List ℕ) → 0 < length bytes → first_line bytes ≡ None → Goes Long bytes (step Long (length bytes) None)
+pub long_grows : (bytes : List ℕ) → 0 < length bytes → first_line bytes ≡ None → Goes Long bytes (step_to Long (length bytes) None)
 unfolding goes_on
 long_grows bytes some none = record {
   keeps = tt;
@@ -158,7 +157,7 @@ long_grows bytes some none = record {
   on = λ more. ap ends_long (first_line-append bytes more none) ∙ ends_long-begun_with bytes (first_line more) ∙ ap (λ (x : List ℕ). ends_long (first_line x)) (all_taken bytes more);
 }
 
-pub long_over : (bytes : List ℕ) (at : ℕ) → LineAt bytes at → Goes Long bytes (step (Line []) (at + 1) (Some Kinds.Long))
+pub long_over : (bytes : List ℕ) (at : ℕ) → LineAt bytes at → Goes Long bytes (step_to (Line []) (at + 1) (Some Kinds.Long))
 unfolding goes_on
 long_over bytes at h =
     let within = h.within in
@@ -178,8 +177,8 @@ wanted line size left = record { line = line; size = size; left = left }
 fewer : (line : List ℕ) (size left came : ℕ) → came < left → IsAwaited (awaited (wanted line size left)) → IsAwaited (awaited (wanted line size (left - came)))
 fewer line size left came few w = record { short = w.short; sized = w.sized; some = omega arith }
 
-pub block_grows : (line block bytes : List ℕ) (size left : ℕ) → IsKeptBlock (awaited (wanted line size left)) block → 0 < length bytes → length bytes < left
-    → Goes (Block (wanted line size left) block) bytes (step (Block (wanted line size (left - length bytes)) (block ++ bytes)) (length bytes) None)
+block_grows : (line block bytes : List ℕ) (size left : ℕ) → IsKeptBlock (awaited (wanted line size left)) block → 0 < length bytes → length bytes < left
+    → Goes (Block (wanted line size left) block) bytes (step_to (Block (wanted line size (left - length bytes)) (block ++ bytes)) (length bytes) None)
 unfolding goes_on
 block_grows line block bytes size left keeps some few = record {
   keeps = record { awaits = fewer line size left (length bytes) few keeps.awaits; small = keeps.small; all = omega (arith, length-append block bytes, keeps.all) };
@@ -191,8 +190,17 @@ block_grows line block bytes size left keeps some few = record {
       ∙ ap (ends_frame (left - length bytes) (λ rest. Kinds.Block (chomped line) ((block ++ bytes) ++ rest))) (all_taken bytes more);
 }
 
+-- the block goes on
+pub block_moves : (line block bytes : List ℕ) (size left : ℕ) (frames : List FrameKind) → IsKeptBlock (awaited (wanted line size left)) block → 0 < length bytes → length bytes < left
+    → Moves (Block (wanted line size left) block) (after_block (Block (wanted line size (left - length bytes)) (block ++ bytes))) frames frames bytes (length bytes)
+block_moves line block bytes size left frames keeps some few = record {
+  frame = None;
+  goes = rw (ne_eqb (left - length bytes) 0 (λ none. absurd (omega arith))) (block_grows line block bytes size left keeps some few);
+  appended = sym (append-nil frames);
+}
+
 pub block_over : (line block bytes : List ℕ) (size left : ℕ) → IsKeptBlock (awaited (wanted line size left)) block → left ≤ length bytes
-    → Goes (Block (wanted line size left) block) bytes (step (Line []) left (Some (Kinds.Block (chomped line) (block ++ take left bytes))))
+    → Goes (Block (wanted line size left) block) bytes (step_to (Line []) left (Some (Kinds.Block (chomped line) (block ++ take left bytes))))
 unfolding goes_on
 block_over line block bytes size left keeps all = record {
   keeps = is_short-nil;
@@ -206,8 +214,8 @@ block_length line block bytes size left keeps all = omega (arith, length-append 
 
 -- ---- in a block that is too large
 
-pub large_grows : (line bytes : List ℕ) (size left : ℕ) → IsLargeBlock (awaited (wanted line size left)) → 0 < length bytes → length bytes < left
-    → Goes (Large (wanted line size left)) bytes (step (Large (wanted line size (left - length bytes))) (length bytes) None)
+large_grows : (line bytes : List ℕ) (size left : ℕ) → IsLargeBlock (awaited (wanted line size left)) → 0 < length bytes → length bytes < left
+    → Goes (Large (wanted line size left)) bytes (step_to (Large (wanted line size (left - length bytes))) (length bytes) None)
 unfolding goes_on
 large_grows line bytes size left keeps some few = record {
   keeps = record { awaits = fewer line size left (length bytes) few keeps.awaits; large = keeps.large };
@@ -217,8 +225,17 @@ large_grows line bytes size left keeps some few = record {
       ∙ ap (ends_frame (left - length bytes) (λ rest. Kinds.Large (chomped line))) (all_taken bytes more);
 }
 
+-- the block goes on
+pub large_moves : (line bytes : List ℕ) (size left : ℕ) (frames : List FrameKind) → IsLargeBlock (awaited (wanted line size left)) → 0 < length bytes → length bytes < left
+    → Moves (Large (wanted line size left)) (after_block (Large (wanted line size (left - length bytes)))) frames frames bytes (length bytes)
+large_moves line bytes size left frames keeps some few = record {
+  frame = None;
+  goes = rw (ne_eqb (left - length bytes) 0 (λ none. absurd (omega arith))) (large_grows line bytes size left keeps some few);
+  appended = sym (append-nil frames);
+}
+
 pub large_over : (line bytes : List ℕ) (size left : ℕ) → IsLargeBlock (awaited (wanted line size left)) → left ≤ length bytes
-    → Goes (Large (wanted line size left)) bytes (step (Line []) left (Some (Kinds.Large (chomped line))))
+    → Goes (Large (wanted line size left)) bytes (step_to (Line []) left (Some (Kinds.Large (chomped line))))
 unfolding goes_on
 large_over line bytes size left keeps all = record {
   keeps = is_short-nil;
@@ -229,6 +246,6 @@ large_over line bytes size left keeps all = record {
 
 -- ---- after a quit line
 
-pub quit_stays : (bytes : List ℕ) → 0 < length bytes → Goes Quit bytes (step Quit (length bytes) None)
+pub quit_stays : (bytes : List ℕ) → 0 < length bytes → Goes Quit bytes (step_to Quit (length bytes) None)
 unfolding goes_on
 quit_stays bytes some = record { keeps = tt; some = some; within = omega arith; on = λ more. refl }

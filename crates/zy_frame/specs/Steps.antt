@@ -1,14 +1,15 @@
 -- How a framer's state is seen, and what a step from one to another does. No public clause cites
 -- this module.
-use Rattle.std.specs.Prelude.{◌≡◌, ℕ, ◌+◌, ◌<◌, ◌≤◌, nat_lt, if◌then◌else◌, List, []}
-use Rattle.std.specs.Prelude.{◌∷◌, ◌++◌, length, drop, option_to_list, Result, Ok, Err}
+use Rattle.std.specs.Prelude.{◌≡◌, ℕ, ◌+◌, ◌<◌, ◌≤◌, ◌==◌, nat_lt, if◌then◌else◌, Bool, true, false, List, []}
+use Rattle.std.specs.Prelude.{◌∷◌, ◌++◌, length, drop, Option, option_to_list, Result, Ok, Err}
 use Rattle.zy_base.specs.Shard.{value_limit}
+use Rattle.mc_parse.specs.declared.need.Need.{Need}
+use Rattle.mc_parse.specs.declared.need.Need.TheVariants as Needs
 use Rattle.zy_base.specs.declared.outside.NoMemory.{NoMemory}
 use Rattle.zy_frame.specs.declared.frame_kind.FrameKind.{FrameKind}
 use Rattle.zy_frame.specs.declared.wanted.Wanted.{Wanted}
 use Rattle.zy_frame.specs.declared.state.State.{State}
 use Rattle.zy_frame.specs.declared.state.State.TheVariants.{Line, Long, Block, Large, Quit, Refused}
-use Rattle.zy_frame.specs.declared.step.Step.{Step}
 use Rattle.zy_frame.specs.Line.{line_feed}
 use Rattle.zy_frame.specs.Progress.{Awaited, Progress, in_line, in_long_line, in_block, in_large_block, behind_quit}
 use Rattle.zy_frame.specs.Progress.{without_memory, Keeps, outcome_of, with_frames, goes_on, IsRefused}
@@ -33,7 +34,34 @@ abbrev pub waiting : List ℕ → ℕ → State
 waiting line size = let wanted : Wanted = record { line = line; size = size; left = size + 2 } in
     if nat_lt value_limit size then Large wanted else Block wanted []
 
+-- the state after a line of which these bytes came, and whether it is too long
+abbrev pub grown_to : Bool → List ℕ → State
+grown_to true kept = Long
+grown_to false kept = Line kept
+
+-- the state after the line feed of a line that needs this; a storage line was kept
+abbrev pub after_line : Need → State → State
+after_line Needs.Nothing state = state
+after_line Needs.Quit state = Quit
+after_line (Needs.Block size) (Line kept) = waiting kept size
+after_line (Needs.Block size) state = state
+
+-- the state after bytes of a block: at the start of a line if none is still to come
+abbrev pub after_block : State → State
+after_block (Block wanted block) = if wanted.left == 0 then Line [] else Block wanted block
+after_block (Large wanted) = if wanted.left == 0 then Line [] else Large wanted
+after_block state = state
+
 -- ---- steps
+
+-- a step: what the framer is in the middle of then, how many bytes it took, and the frame that they ended
+pub record Step : Type 0 where
+  pub state : State
+  pub taken : ℕ
+  pub frame : Option FrameKind
+
+abbrev pub step_to : State → ℕ → Option FrameKind → Step
+step_to state taken frame = record { state = state; taken = taken; frame = frame }
 
 -- a step from a state over bytes: some were taken, and what follows gives the step's frame and
 -- then what its state gives
@@ -45,11 +73,23 @@ pub record Goes (state : State) (bytes : List ℕ) (step : Step) : Type 0 where
       ≡ with_frames (option_to_list step.frame)
       (goes_on (progress_of step.state) (drop step.taken bytes ++ more))
 
--- the line feed of a line has come
-pub record Closes (line : List ℕ) (step : Step) : Type 0 where
-  pub keeps : Keeps (progress_of step.state)
+-- a step from a state over bytes, whose frame was appended
+pub record Moves (old new : State) (before after : List FrameKind) (bytes : List ℕ) (taken : ℕ) : Type 0 where
+  pub frame : Option FrameKind
+  pub goes : Goes old bytes (step_to new taken frame)
+  pub appended : after ≡ before ++ option_to_list frame
+
+-- the line feed of a line has come: what follows gives this frame and then what this state gives
+pub record Closes (line : List ℕ) (state : State) (frame : Option FrameKind) : Type 0 where
+  pub keeps : Keeps (progress_of state)
   pub on : (more : List ℕ) → outcome_of (line ++ line_feed ∷ more)
-      ≡ with_frames (option_to_list step.frame) (goes_on (progress_of step.state) more)
+      ≡ with_frames (option_to_list frame) (goes_on (progress_of state) more)
+
+-- the same, and the frame was appended
+pub record ClosesTo (line : List ℕ) (state : State) (before after : List FrameKind) : Type 0 where
+  pub frame : Option FrameKind
+  pub closes : Closes line state frame
+  pub appended : after ≡ before ++ option_to_list frame
 
 -- some bytes were taken, and these frames given
 pub record Gives (old new : Progress) (before after : List FrameKind) (bytes : List ℕ) (taken : ℕ)

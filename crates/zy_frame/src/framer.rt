@@ -5,13 +5,11 @@ ghost use Rattle.zy_frame.specs.Progress.{StandsFor, IsQuit, IsRefused, kept_by,
 ghost use Rattle.zy_frame.specs.Feed.{Appends, AppendsFirst};
 ghost use Rattle.zy_frame.specs.Steps.{Advances};
 
-use crate::frames::{Frames, append};
-use crate::state::State;
-use crate::step::Step;
+use crate::frames::Frames;
+use crate::state::{State, put};
 use crate::stepping::step;
 use std::alloc::Global;
 use std::marker::Model;
-use std::mem;
 use zy_base::{Blob, NoMemory};
 
 /// Cuts a stream into frames as its pieces come. Contracts see what it is in the middle of, and
@@ -85,27 +83,17 @@ impl Framer {
         Ok(())
     }
 
-    // Takes some first bytes, at least one.
+    // Takes some first bytes, at least one. After a refusal every later call is refused.
     fn advance(&mut self, bytes: &[u8], frames: &mut Frames) -> Result<usize, NoMemory>
         requires some { 0 < length bytes.now }
         ensures value { Advances self.old self.new frames.old frames.new bytes.now result }
     {
-        let state = mem::replace(&mut self.state, State::Refused);
-        match step(self.alloc, state, bytes) {
-            Ok(step) => {
-                let Step {
-                    state,
-                    taken,
-                    frame,
-                } = step;
-                if let Err(e) = append(frames, frame) {
-                    drop(state);
-                    return Err(e);
-                }
-                drop(mem::replace(&mut self.state, state));
-                Ok(taken)
+        match step(self.alloc, &mut self.state, bytes, frames) {
+            Ok(taken) => Ok(taken),
+            Err(e) => {
+                put(&mut self.state, State::Refused);
+                Err(e)
             }
-            Err(e) => Err(e),
         }
     }
 

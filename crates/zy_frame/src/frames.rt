@@ -1,21 +1,21 @@
 //! Queues of frames.
-ghost use Rattle.std.specs.Prelude.{◌≡◌, ◌++◌, OnOk, OnErr, option_to_list};
+ghost use Rattle.std.specs.Prelude.{◌≡◌, [], ◌∷◌, ◌++◌, OnOk, OnErr};
+ghost use Rattle.zy_frame.specs.Frame.{IsFrame};
 
 use crate::frame::Frame;
+use crate::frame_kind::FrameKind;
 use zy_base::{NoMemory, Queue};
 
 /// A queue of frames. Contracts see it as the list of its frames, the first one to come first.
 pub type Frames = Queue<Frame>;
 
-// Puts the frame at the end that a step gave, if it gave one; after a refusal nothing has changed.
-pub(crate) fn append(frames: &mut Frames, frame: Option<Frame>) -> Result<(), NoMemory>
-    ensures ok { OnOk result (frames.new ≡ frames.old ++ option_to_list frame) }
+// Puts a frame at the end; after a refusal nothing has changed.
+pub(crate) fn append(frames: &mut Frames, kind: FrameKind) -> Result<(), NoMemory>
+    requires frame { IsFrame kind }
+    ensures ok { OnOk result (frames.new ≡ frames.old ++ kind ∷ []) }
     ensures err { OnErr result (frames.new ≡ frames.old) }
 {
-    let Some(frame) = frame else {
-        return Ok(());
-    };
-    match frames.push(frame) {
+    match frames.push(Frame { kind }) {
         Ok(()) => Ok(()),
         Err((frame, e)) => {
             drop(frame);

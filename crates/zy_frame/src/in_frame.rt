@@ -1,69 +1,46 @@
-//! Steps in a line that is too long, and in blocks.
-ghost use Rattle.std.specs.Prelude.{◌≡◌, ◌<◌, ◌≤◌, ◌+◌, ◌++◌, length, IfOk, OnOk, OnErr};
-ghost use Rattle.zy_frame.specs.declared.state.State.TheVariants.{Long, Block, Large};
+//! In blocks.
+ghost use Rattle.std.specs.Prelude.{◌≡◌, ◌<◌, ◌++◌, length, IfOk, OnOk, OnErr};
+ghost use Rattle.zy_frame.specs.declared.state.State.TheVariants.{Block, Large};
 ghost use Rattle.zy_frame.specs.Progress.{IsKeptBlock, IsLargeBlock};
-ghost use Rattle.zy_frame.specs.Steps.{awaited, Goes};
+ghost use Rattle.zy_frame.specs.Steps.{awaited, after_block, Moves};
 
-use crate::frame::Frame;
 use crate::frame_kind::FrameKind;
-use crate::in_line::at_start;
-use crate::line_end::{chomp_kept, line_end};
-use crate::state::State;
-use crate::step::Step;
+use crate::frames::{Frames, append};
+use crate::line_end::chomp_kept;
 use crate::wanted::Wanted;
 use std::alloc::Global;
+use std::mem;
 use zy_base::{Blob, NoMemory};
 
 // The most room that is taken for a block before its bytes have come.
 const BLOCK_ROOM: usize = 1_024;
 
-// In a line that is too long: its bytes are not kept.
-pub(crate) fn step_in_long(alloc: Global, bytes: &[u8]) -> Step
-    requires some { 0 < length bytes.now }
-    ensures value { Goes Long bytes.now result }
-{
-    match line_end(bytes) {
-        Some(at) => Step {
-            state: at_start(alloc),
-            taken: at + 1,
-            frame: Some(Frame {
-                kind: FrameKind::Long,
-            }),
-        },
-        None => Step {
-            state: State::Long,
-            taken: bytes.len(),
-            frame: None,
-        },
-    }
-}
-
-// In a block.
-pub(crate) fn step_in_block(
+// Takes bytes of a block. Its frame is appended once none is still to come.
+pub(crate) fn take_block(
     alloc: Global,
-    mut wanted: Wanted,
-    mut block: Blob,
+    wanted: &mut Wanted,
+    block: &mut Blob,
     bytes: &[u8],
-) -> Result<Step, NoMemory>
-    requires keeps { IsKeptBlock (awaited wanted) block }
+    frames: &mut Frames,
+) -> Result<usize, NoMemory>
+    requires keeps { IsKeptBlock (awaited wanted.old) block.old }
     requires some { 0 < length bytes.now }
-    ensures value { IfOk result (λ step. Goes (Block wanted block) bytes.now step) }
+    ensures value { IfOk result (λ taken. Moves (Block wanted.old block.old)
+        (after_block (Block wanted.new block.new)) frames.old frames.new bytes.now taken) }
+    ensures err { OnErr result (frames.new ≡ frames.old) }
 {
-    let taken = bytes.len();
-    if taken < wanted.left {
-        if let Err(e) = grow_block(&mut block, wanted.left, bytes) {
-            drop(wanted);
-            drop(block);
-            return Err(e);
-        }
-        wanted.left -= taken;
-        return Ok(Step {
-            state: State::Block { wanted, block },
-            taken,
-            frame: None,
-        });
+    let left = wanted.left;
+    if bytes.len() < left {
+        grow_block(block, left, bytes)?;
+        wanted.left = left - bytes.len();
+        return Ok(bytes.len());
     }
-    end_block(alloc, wanted, block, bytes)
+    block.append(&bytes[..left])?;
+    wanted.left = 0;
+    let line = chomp_kept(mem::replace(&mut wanted.line, Blob::new(alloc)));
+    let block = mem::replace(block, Blob::new(alloc));
+    append(frames, FrameKind::Block { line, block })?;
+    Ok(left)
 }
 
 // Bytes of a block have come, of which `left` were still to come. The first take room for the others, or
@@ -78,52 +55,26 @@ pub(crate) fn grow_block(block: &mut Blob, left: usize, bytes: &[u8]) -> Result<
     block.append(bytes)
 }
 
-// The last bytes of a block have come.
-fn end_block(alloc: Global, wanted: Wanted, mut block: Blob, bytes: &[u8]) -> Result<Step, NoMemory>
-    requires keeps { IsKeptBlock (awaited wanted) block }
-    requires all { wanted.left ≤ length bytes.now }
-    ensures value { IfOk result (λ step. Goes (Block wanted block) bytes.now step) }
-{
-    let taken = wanted.left;
-    if let Err(e) = block.append(&bytes[..taken]) {
-        drop(wanted);
-        drop(block);
-        return Err(e);
-    }
-    Ok(Step {
-        state: at_start(alloc),
-        taken,
-        frame: Some(Frame {
-            kind: FrameKind::Block {
-                line: chomp_kept(wanted.line),
-                block,
-            },
-        }),
-    })
-}
-
-// In a block that is too large: its bytes are not kept.
-pub(crate) fn step_in_large(alloc: Global, mut wanted: Wanted, bytes: &[u8]) -> Step
-    requires keeps { IsLargeBlock (awaited wanted) }
+// Takes bytes of a block that is too large: they are not kept.
+pub(crate) fn pass_block(
+    alloc: Global,
+    wanted: &mut Wanted,
+    bytes: &[u8],
+    frames: &mut Frames,
+) -> Result<usize, NoMemory>
+    requires keeps { IsLargeBlock (awaited wanted.old) }
     requires some { 0 < length bytes.now }
-    ensures value { Goes (Large wanted) bytes.now result }
+    ensures value { IfOk result (λ taken. Moves (Large wanted.old)
+        (after_block (Large wanted.new)) frames.old frames.new bytes.now taken) }
+    ensures err { OnErr result (frames.new ≡ frames.old) }
 {
-    let taken = bytes.len();
-    if taken < wanted.left {
-        wanted.left -= taken;
-        return Step {
-            state: State::Large { wanted },
-            taken,
-            frame: None,
-        };
+    let left = wanted.left;
+    if bytes.len() < left {
+        wanted.left = left - bytes.len();
+        return Ok(bytes.len());
     }
-    Step {
-        state: at_start(alloc),
-        taken: wanted.left,
-        frame: Some(Frame {
-            kind: FrameKind::Large {
-                line: chomp_kept(wanted.line),
-            },
-        }),
-    }
+    wanted.left = 0;
+    let line = chomp_kept(mem::replace(&mut wanted.line, Blob::new(alloc)));
+    append(frames, FrameKind::Large { line })?;
+    Ok(left)
 }

@@ -10,7 +10,6 @@ mod in_frame;
 mod in_line;
 mod line_end;
 mod state;
-mod step;
 mod stepping;
 mod wanted;
 

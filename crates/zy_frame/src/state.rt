@@ -1,6 +1,13 @@
 //! What a framer is in the middle of.
+ghost use Rattle.std.specs.Prelude.{◌≡◌, []};
+ghost use Rattle.zy_frame.specs.declared.state.State.TheVariants.{Line};
+ghost use Rattle.zy_frame.specs.Steps.{after_line, after_block, waiting};
+
 use crate::wanted::Wanted;
-use zy_base::Blob;
+use mc_parse::Need;
+use std::alloc::Global;
+use std::mem;
+use zy_base::{Blob, VALUE_LIMIT};
 
 // What a framer is in the middle of. Lines are kept with the carriage return at their end, if they
 // have one.
@@ -18,4 +25,71 @@ pub(crate) enum State {
     Quit,
     // What follows after a refused allocation.
     Refused,
+}
+
+// Goes on in another state.
+pub(crate) fn put(state: &mut State, next: State)
+    ensures value { state.new ≡ next }
+{
+    drop(mem::replace(state, next));
+}
+
+// Begins a line.
+pub(crate) fn begin_line(alloc: Global, state: &mut State)
+    ensures value { state.new ≡ Line [] }
+{
+    put(
+        state,
+        State::Line {
+            kept: Blob::new(alloc),
+        },
+    );
+}
+
+// A line has ended that needs this: what follows it is a line, what comes after quit, or its block.
+pub(crate) fn take_line(alloc: Global, state: &mut State, need: Need)
+    ensures value { state.new ≡ after_line need state.old }
+{
+    match need {
+        Need::Nothing => {}
+        Need::Quit => put(state, State::Quit),
+        Need::Block { bytes } => {
+            if let State::Line { kept } = state {
+                let line = mem::replace(kept, Blob::new(alloc));
+                put(state, wait_for_block(alloc, line, bytes));
+            }
+        }
+    }
+}
+
+// A storage line has ended.
+fn wait_for_block(alloc: Global, line: Blob, size: u32) -> State
+    ensures value { result ≡ waiting line size }
+{
+    let wanted = Wanted {
+        line,
+        size,
+        left: size as usize + 2,
+    };
+    if size > VALUE_LIMIT {
+        return State::Large { wanted };
+    }
+    State::Block {
+        wanted,
+        block: Blob::new(alloc),
+    }
+}
+
+// Begins a line where a block has come whole.
+pub(crate) fn end_block(alloc: Global, state: &mut State)
+    ensures value { state.new ≡ after_block state.old }
+{
+    let left = match state {
+        State::Block { wanted, block: _ } => wanted.left,
+        State::Large { wanted } => wanted.left,
+        _ => return,
+    };
+    if left == 0 {
+        begin_line(alloc, state);
+    }
 }

@@ -1,31 +1,63 @@
 //! Steps in every state.
-ghost use Rattle.std.specs.Prelude.{◌≡◌, ◌<◌, length, IfOk};
+ghost use Rattle.std.specs.Prelude.{◌≡◌, ◌<◌, length, IfOk, OnErr};
 ghost use Rattle.zy_frame.specs.Progress.{Keeps};
-ghost use Rattle.zy_frame.specs.Steps.{progress_of, Goes};
+ghost use Rattle.zy_frame.specs.Steps.{progress_of, Moves};
 
-use crate::in_frame::{step_in_block, step_in_large, step_in_long};
-use crate::in_line::step_in_line;
-use crate::state::State;
-use crate::step::Step;
+use crate::frame_kind::FrameKind;
+use crate::frames::{Frames, append};
+use crate::in_frame::{pass_block, take_block};
+use crate::in_line::{end_line, grow_line};
+use crate::line_end::line_end;
+use crate::state::{State, begin_line, end_block, put, take_line};
 use std::alloc::Global;
 use zy_base::NoMemory;
 
-// Takes some first bytes, at least one.
-pub(crate) fn step(alloc: Global, state: State, bytes: &[u8]) -> Result<Step, NoMemory>
-    requires keeps { Keeps (progress_of state) }
+// Takes some first bytes, at least one, and appends the frame that they end. After a refusal the state
+// may be any.
+pub(crate) fn step(
+    alloc: Global,
+    state: &mut State,
+    bytes: &[u8],
+    frames: &mut Frames,
+) -> Result<usize, NoMemory>
+    requires keeps { Keeps (progress_of state.old) }
     requires some { 0 < length bytes.now }
-    ensures value { IfOk result (λ step. Goes state bytes.now step) }
+    ensures value { IfOk result (λ taken. Moves state.old state.new frames.old frames.new bytes.now taken) }
+    ensures err { OnErr result (frames.new ≡ frames.old) }
 {
     match state {
-        State::Line { kept } => step_in_line(alloc, kept, bytes),
-        State::Long => Ok(step_in_long(alloc, bytes)),
-        State::Block { wanted, block } => step_in_block(alloc, wanted, block, bytes),
-        State::Large { wanted } => Ok(step_in_large(alloc, wanted, bytes)),
-        State::Quit => Ok(Step {
-            state: State::Quit,
-            taken: bytes.len(),
-            frame: None,
-        }),
+        State::Line { kept } => match line_end(bytes) {
+            Some(at) => {
+                let need = end_line(alloc, kept, &bytes[..at], frames)?;
+                take_line(alloc, state, need);
+                Ok(at + 1)
+            }
+            None => {
+                if grow_line(kept, bytes)? {
+                    put(state, State::Long);
+                }
+                Ok(bytes.len())
+            }
+        },
+        State::Long => match line_end(bytes) {
+            Some(at) => {
+                append(frames, FrameKind::Long)?;
+                begin_line(alloc, state);
+                Ok(at + 1)
+            }
+            None => Ok(bytes.len()),
+        },
+        State::Block { wanted, block } => {
+            let taken = take_block(alloc, wanted, block, bytes, frames)?;
+            end_block(alloc, state);
+            Ok(taken)
+        }
+        State::Large { wanted } => {
+            let taken = pass_block(alloc, wanted, bytes, frames)?;
+            end_block(alloc, state);
+            Ok(taken)
+        }
+        State::Quit => Ok(bytes.len()),
         State::Refused => Err(NoMemory),
     }
 }

@@ -7,5 +7,6 @@ pub mod TurnLemmas
 pub mod SettleLemmas
 pub mod JoinLemmas
 pub mod ReceiveLemmas
+pub mod TableLemmas
 pub mod ItemLemmas
 pub mod MakeLemmas

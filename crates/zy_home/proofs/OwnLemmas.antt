@@ -68,22 +68,6 @@ rising_apart links rises p q l m ep eq same = dite (dec_lt p q)
     (λ lt. absurd (let less = rises q p (conn_of m) (conn_of l) (conn_at links q m eq) (conn_at links p l ep) lt in omega arith))
     (λ nor. omega arith))
 
--- ---- the search for a place
-
--- the middle of what is left
-module _ (links : List Link) (rises : IsRising (conns_in links)) (conn middle : ℕ) (l : Link) (there : slice_get links middle ≡ Some l) where
-  -- the connections up to the middle are below, where that of the middle is
-  pub below_middle : conn_of l < conn → (at : ℕ) (x : Link) → at < middle + 1 → slice_get links at ≡ Some x → conn_of x < conn
-  below_middle less at x near e = dite (dec_lt at middle)
-      (λ lt. let r = rises at middle (conn_of x) (conn_of l) (conn_at links at x e) (conn_at links middle l there) lt in omega arith)
-      (λ no. let same : at ≡ middle = omega arith in let is : Some x ≡ Some l = sym e ∙ ap (slice_get links) same ∙ there in let one : x ≡ l = cc in let two = ap conn_of one in omega arith)
-
-  -- and those from the middle on are above, where that of the middle is
-  pub above_middle : conn_of l ≢ conn → (conn ≤ conn_of l) → (at : ℕ) (x : Link) → middle ≤ at → slice_get links at ≡ Some x → conn < conn_of x
-  above_middle other more at x near e = dite (dec_lt middle at)
-      (λ lt. let r = rises middle at (conn_of l) (conn_of x) (conn_at links middle l there) (conn_at links at x e) lt in omega arith)
-      (λ no. let same : at ≡ middle = omega arith in let is : Some x ≡ Some l = sym e ∙ ap (slice_get links) same ∙ there in let one : x ≡ l = cc in let two = ap conn_of one in omega arith)
-
 -- ---- one further connection
 
 range-last : (a n : ℕ) → range_with_len a (n + 1) ≡ range_with_len a n ++ (a + n) ∷ []

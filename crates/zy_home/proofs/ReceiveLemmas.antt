@@ -185,7 +185,3 @@ module _ (h : Homed) (k : IsSoundHome h) (p : ℕ) (item : Rx) (comes : ComesTo 
   -- memory was refused
   pub unreceived : conn_of m ≡ conn_of l → IsUnfed h.pass w x0 x → Stepped h (home_turned h p x m w true) l m × SameHand h (home_turned h p x m w true)
   unreceived conn s = (unfed_step h k p comes.link l m w x0 x comes.there slot at conn s, same_hand h p m w x x0 true (fed_slot h k p comes.link l m w x0 x comes.there slot at) s)
-
--- the connections of a home rise
-pub links_rise : (h : Homed) → IsSoundHome h → IsRising (conns_in h.links)
-links_rise h k p q a b ea eb = own_rises h.core h.cores h.count p q a b (ap (λ ns. slice_get ns p) (sym k.conns) ∙ ea) (ap (λ ns. slice_get ns q) (sym k.conns) ∙ eb)

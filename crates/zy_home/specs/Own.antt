@@ -9,6 +9,20 @@ use Rattle.zy_rx.specs.Flow.{home_of}
 abbrev pub own_conns : ℕ → ℕ → ℕ → List ℕ
 own_conns core cores count = filter (λ conn. home_of cores conn == core) (range_with_len 0 count)
 
+-- a core's share of the connections: the core, the number of cores, and the number of all connections
+pub record Share : Type 0 where
+  pub core : ℕ
+  pub cores : ℕ
+  pub count : ℕ
+
+abbrev pub share : ℕ → ℕ → ℕ → Share
+share core cores count = record { core = core; cores = cores; count = count }
+
+-- a table has the place of each of these connections, and none of any other
+pub record IsTable (conns : List ℕ) (table : List (Option ℕ)) : Type 0 where
+  pub there : (place conn : ℕ) → slice_get conns place ≡ Some conn → slice_get table conn ≡ Some (Some place)
+  pub back : (place conn : ℕ) → slice_get table conn ≡ Some (Some place) → slice_get conns place ≡ Some conn
+
 -- a connection is one of those
 abbrev pub IsOwn : ℕ → ℕ → ℕ → ℕ → Type 0
 IsOwn core cores count conn = (conn < count) × (home_of cores conn ≡ core)

@@ -12,6 +12,7 @@ mod settling;
 use crate::blocks::Blocks;
 use crate::ends::Ends;
 use crate::link::Link;
+use crate::places::Places;
 use crate::touched::Touched;
 use std::marker::Model;
 use zy_conn::Block;
@@ -21,9 +22,7 @@ use zy_shuffle::HomePass;
 /// output, and its block if that is in the home's hand. Contracts see it as `Homed`.
 #[derive(Drop)]
 pub struct Home {
-    core: u32,
-    cores: u32,
-    count: u32,
+    places: Places,
     pass: HomePass<Block>,
     // By place: the block of the connection, if it is in the hand.
     blocks: Vec<Option<Block>>,
@@ -41,9 +40,9 @@ impl Model for Home {
     ghost Value = { Homed };
 
     ghost view = { λ h. record {
-      core = h.core;
-      cores = h.cores;
-      count = h.count;
+      core = h.places.core;
+      cores = h.places.cores;
+      count = h.places.count;
       pass = h.pass;
       blocks = h.blocks.items;
       links = h.links.items;
@@ -52,9 +51,9 @@ impl Model for Home {
     } };
 
     ghost invariant = { λ h. IsSoundHome (record {
-      core = h.core;
-      cores = h.cores;
-      count = h.count;
+      core = h.places.core;
+      cores = h.places.cores;
+      count = h.places.count;
       pass = h.pass;
       blocks = h.blocks.items;
       links = h.links.items;
@@ -96,9 +95,7 @@ impl Home {
         ensures keeps { IsSoundHome self }
     {
         let Home {
-            core: _,
-            cores: _,
-            count: _,
+            places,
             pass,
             blocks,
             links,
@@ -106,6 +103,7 @@ impl Home {
             refused: _,
             touched,
         } = self;
+        drop(places);
         drop(touched);
         (pass, Blocks::from_slots(blocks), Ends::of(links))
     }

@@ -8,6 +8,7 @@ mod link;
 mod own;
 mod parts;
 mod place;
+mod places;
 mod touched;
 
 pub use blocks::Blocks;

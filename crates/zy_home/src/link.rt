@@ -127,6 +127,7 @@ impl Link {
 
     /// Offers the frames that wait, the first one first, until one is handed back, which waits again.
     /// Takes no memory.
+    #[inline(always)]
     pub fn offer_waiting(&mut self)
         ensures same { SameLink self.old self.new × (self.new.output ≡ self.old.output) }
         ensures stands { StandsOn self.old self.new }

@@ -33,29 +33,6 @@ pub(crate) fn ended_by(ended: bool, item: &Rx) -> bool
     ended || matches!(item, Rx::End)
 }
 
-// The place of a connection, found by halving.
-pub(crate) fn place_of(links: &[Link], conn: u32) -> Option<usize>
-    requires rising { IsRising (conns_in links.now) }
-    ensures some { IfSome result (λ at. (l : Link) × (slice_get links.now at ≡ Some l) × (conn_of l ≡ conn)) }
-    ensures none { IfNone result ((at : ℕ) (l : Link) → slice_get links.now at ≡ Some l → conn_of l ≢ conn) }
-{
-    let mut low = 0;
-    let mut high = links.len();
-    while low < high {
-        let middle = low + (high - low) / 2;
-        let found = links[middle].conn();
-        if found == conn {
-            return Some(middle);
-        }
-        if found < conn {
-            low = middle + 1;
-        } else {
-            high = middle;
-        }
-    }
-    None
-}
-
 // Puts a block, or none, into a slot.
 pub(crate) fn put(slot: &mut Option<Block>, block: Option<Block>)
     ensures value { slot.new ≡ block }

@@ -1,6 +1,6 @@
 //! The bytes of a number, one after another.
 ghost use Rattle.std.specs.Prelude.{◌≡◌, ◌<◌, [], ◌∷◌, ◌++◌, length};
-ghost use Rattle.std.specs.Int.{from_be_bytes, w32, w64};
+ghost use Rattle.std.specs.Int.{from_be_bytes, w32};
 
 use std::marker::Model;
 
@@ -81,14 +81,5 @@ impl Field {
         ensures value { result ≡ from_be_bytes w32 (self.now ++ byte ∷ []) }
     {
         u32::from_be_bytes([self.bytes[0], self.bytes[1], self.bytes[2], byte])
-    }
-
-    /// The big-endian number of eight bytes, this one the last.
-    pub fn long_number(&self, byte: u8) -> u64
-        requires whole { length self.now ≡ 7 }
-        ensures value { result ≡ from_be_bytes w64 (self.now ++ byte ∷ []) }
-    {
-        let b = &self.bytes;
-        u64::from_be_bytes([b[0], b[1], b[2], b[3], b[4], b[5], b[6], byte])
     }
 }

@@ -32,7 +32,7 @@ impl Reader {
     }
 
     // The next byte is the last one of the length of a segment of this connection.
-    fn go_to_length(&mut self, conn: u32, e: u8, f: u8, g: u8)
+    pub(super) fn go_to_length(&mut self, conn: u32, e: u8, f: u8, g: u8)
         requires none { self.old.fault ≡ None }
         requires room { self.old.at + 8 ≤ capture_limit }
         ensures value { self.new ≡ headed self.old conn (e ∷ f ∷ g ∷ []) }

@@ -21,11 +21,11 @@ use zy_read::{MagicPart, MagicStep, Reads};
 pub(super) const CAPTURE_LIMIT: u64 = 4_294_967_295;
 
 // The bytes of a segment before the last one of its length.
-const HEAD: usize = 8;
+pub(super) const HEAD: usize = 8;
 
 const LETTERS: &[u8; 6] = b"ZYGCAP";
 
-const SEGMENT_LIMIT: u32 = 65_535;
+pub(super) const SEGMENT_LIMIT: u32 = 65_535;
 
 impl Reads for Reader {
     type Gives = Record;

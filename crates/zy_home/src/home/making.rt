@@ -7,6 +7,7 @@ use super::Home;
 use crate::blocks::Blocks;
 use crate::link::Link;
 use crate::parts::{HomeParts, Inlets};
+use crate::places::Places;
 use crate::touched::Touched;
 use std::alloc::Global;
 use zy_base::NoMemory;
@@ -30,10 +31,15 @@ impl Home {
         ensures returned { IfErr result (λ e. e.0 ≡ parts) }
     {
         let room = parts.blocks.room();
+        let Ok(places) = Places::new(alloc, core, cores, count) else {
+            return Err((parts, NoMemory));
+        };
         let Ok(mut slots) = Vec::with_capacity(alloc, room) else {
+            drop(places);
             return Err((parts, NoMemory));
         };
         let Ok(mut links) = Vec::with_capacity(alloc, room) else {
+            drop(places);
             return Err((parts, NoMemory));
         };
         let HomeParts {
@@ -43,9 +49,7 @@ impl Home {
         } = parts;
         fill(alloc, &mut blocks, &mut inlets, &mut slots, &mut links);
         Ok(Home {
-            core,
-            cores,
-            count,
+            places,
             pass,
             blocks: slots,
             links,

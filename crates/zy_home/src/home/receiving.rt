@@ -8,7 +8,7 @@ ghost use Rattle.zy_home.specs.Home.{HomeStands, IsSoundHome, SameHome, StandsMo
 ghost use Rattle.zy_home.specs.Place.{Forwards, SameHand, ComesTo};
 
 use super::Home;
-use crate::place::{conn_in, ended_by, feed_at, place_of};
+use crate::place::{conn_in, ended_by, feed_at};
 use zy_base::NoMemory;
 use zy_conn::Block;
 use zy_rx::Rx;
@@ -76,7 +76,7 @@ impl Home {
             return None;
         }
         match conn_in(item) {
-            Some(conn) => place_of(&self.links, conn),
+            Some(conn) => self.places.place_of(conn),
             None => None,
         }
     }

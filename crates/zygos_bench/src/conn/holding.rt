@@ -7,6 +7,7 @@ use mc_store::{Root, StoreTable};
 use std::alloc::Global;
 use std::time::CpuClock;
 use zy_base::{NoMemory, Ungated};
+use zy_calls::Output;
 use zy_conn::{Block, EventInlet};
 use zy_frame::{Framer, Frames};
 
@@ -67,7 +68,7 @@ fn hold_all<R: CpuClock>(
     let mut spent = 0u64;
     for round in 0..rounds {
         offer(alloc, inlet, round.wrapping_mul(size), size)?;
-        spent = spent.wrapping_add(hold_once(rt, store, block)?);
+        spent = spent.wrapping_add(hold_once(rt, alloc, store, block)?);
     }
     Ok(spent)
 }
@@ -98,7 +99,12 @@ fn offer_all(inlet: &mut EventInlet, frames: &mut Frames) -> Result<(), NoMemory
 }
 
 // The nanoseconds of one hold. What it sent is let go.
-fn hold_once<R: CpuClock>(rt: &R, store: &StoreTable, block: &mut Block) -> Result<u64, NoMemory>
+fn hold_once<R: CpuClock>(
+    rt: &R,
+    alloc: Global,
+    store: &StoreTable,
+    block: &mut Block,
+) -> Result<u64, NoMemory>
     requires table { block.old.work.table ≡ store.now.id }
     requires cores { block.old.cores ≡ 64 }
     ensures table { block.new.work.table ≡ block.old.work.table }
@@ -107,7 +113,10 @@ fn hold_once<R: CpuClock>(rt: &R, store: &StoreTable, block: &mut Block) -> Resu
     let start = nanos(rt);
     let held = block.hold(store, &Ungated, 0);
     let end = nanos(rt);
-    drop(block.take_batch());
+    let mut output = Output::new(alloc, block.conn());
+    let sent = block.send_to(&mut output);
+    drop(output);
+    sent?;
     match held {
         Ok(_) => Ok(end.saturating_sub(start)),
         Err(e) => Err(e),

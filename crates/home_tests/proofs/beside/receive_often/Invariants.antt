@@ -1,5 +1,5 @@
-use Rattle.std.proofs.Common.{◌≡◌, ◌+◌, ◌≤◌, false}
-use Rattle.home_tests.proofs.beside.receive_all.Given as goal
+use Rattle.std.proofs.Common.{◌≡◌, ◌+◌, ◌*◌, ◌≤◌, false}
+use Rattle.home_tests.proofs.beside.receive_often.Given as goal
 
 abbrev pub invariant-loop-time : goal.invariant-loop-time
 invariant-loop-time g l = record {
@@ -7,5 +7,5 @@ invariant-loop-time g l = record {
   label : l.home.pass.label ≡ l.fn.home.pass.label;
   cores : l.home.cores ≡ l.fn.home.cores;
   live : l.home.refused ≡ false;
-  count : l.home.pass.count ≤ l.fn.home.pass.count + l._time;
+  count : l.home.pass.count ≤ l.fn.home.pass.count + 64 * l._time;
 }

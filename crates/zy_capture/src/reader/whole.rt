@@ -1,0 +1,73 @@
+//! A segment that bytes hold whole, taken at once.
+ghost use Rattle.std.specs.Prelude.{◌≡◌, ◌≤◌, length, take, get_or, IfSome, Err};
+ghost use Rattle.zy_read.specs.Standing.{given_in, Feeds, TellsFault, TellsLasting};
+ghost use Rattle.zy_read.specs.declared.not_taken.NotTaken.TheVariants.{NoMemory};
+ghost use Rattle.zy_capture.specs.Standing.{IsLengthEnd};
+ghost use Rattle.zy_capture.specs.Verdict.{captures};
+ghost use Rattle.zy_capture.specs.Whole.{TakesSegment};
+
+use super::Reader;
+use super::steps::{CAPTURE_LIMIT, HEAD, SEGMENT_LIMIT};
+use crate::capture_fault::{CaptureFault, FeedFault};
+use crate::due::Due;
+use crate::record::{Record, Segment};
+use crate::whole::{Head, held_segment};
+use zy_base::Blob;
+use zy_read::Fed;
+
+// The bytes of a segment before its own.
+const FRONT: usize = HEAD + 1;
+
+impl Reader {
+    // The head of the segment with which bytes begin, if they hold it whole, and it is lawful here and
+    // not empty.
+    pub(super) fn lawful_segment(&self, bytes: &[u8]) -> Option<Head>
+        ensures some { IfSome result (λ head. TakesSegment self.now bytes.now head.conn head.size) }
+    {
+        if self.fault.is_some() || !matches!(self.state.due, Due::Tag) {
+            return None;
+        }
+        let Some(head) = held_segment(bytes) else {
+            return None;
+        };
+        if head.conn >= self.state.count || head.size == 0 || head.size > SEGMENT_LIMIT {
+            return None;
+        }
+        if self.at + FRONT as u64 + head.size as u64 > CAPTURE_LIMIT {
+            return None;
+        }
+        Some(head)
+    }
+
+    // Takes the segment that has this head. If memory for its bytes is refused, it takes those before the
+    // last one of its length.
+    pub(super) fn take_segment(&mut self, bytes: &[u8], head: Head) -> Fed<Record, CaptureFault>
+        requires takes { TakesSegment self.old bytes.now head.conn head.size }
+        ensures within { result.taken ≤ length bytes.now }
+        ensures some { 0 < result.taken }
+        ensures fed { Feeds captures self.old self.new (take result.taken bytes.now) (given_in result.answer) }
+        ensures exact { TellsFault captures self.old (take result.taken bytes.now) result.answer }
+        ensures lasts { TellsLasting captures self.old (take result.taken bytes.now) result.answer }
+        ensures memory { result.answer ≡ Err NoMemory
+            → IsLengthEnd self.new (get_or bytes.now result.taken 0) }
+    {
+        let Head { conn, size } = head;
+        let end = FRONT + size as usize;
+        match Blob::copy_of(self.alloc, &bytes[FRONT..end]) {
+            Ok(bytes) => {
+                self.at += end as u64;
+                Fed {
+                    taken: end,
+                    answer: Ok(Some(Record::Segment(Segment { conn, bytes }))),
+                }
+            }
+            Err(_) => {
+                self.go_to_length(conn, bytes[5], bytes[6], bytes[7]);
+                Fed {
+                    taken: HEAD,
+                    answer: Err(FeedFault::NoMemory),
+                }
+            }
+        }
+    }
+}

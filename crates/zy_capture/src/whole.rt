@@ -1,0 +1,45 @@
+//! Records that bytes of a capture hold whole.
+ghost use Rattle.std.specs.Prelude.{◌≡◌, ◌↔◌, ℕ, true, IfSome, IfNone};
+ghost use Rattle.zy_capture.specs.Whole.{BeginsWithRecord, HoldsSegment};
+
+use zy_read::are_bytes;
+
+// What a segment begins with.
+#[derive(Clone, Copy)]
+pub(crate) struct Head {
+    pub(crate) conn: u32,
+    // The number of its bytes.
+    pub(crate) size: u32,
+}
+
+/// Whether bytes begin with a whole record, whatever its connection and its length are.
+pub fn begins_with_record(bytes: &[u8]) -> bool
+    ensures value { (result ≡ true) ↔ BeginsWithRecord bytes.now }
+{
+    are_bytes(bytes);
+    if held_segment(bytes).is_some() {
+        return true;
+    }
+    match bytes {
+        [b'C', rest @ ..] => rest.len() >= 4,
+        _ => false,
+    }
+}
+
+// The head of the segment with which bytes begin, if they hold it whole.
+pub(crate) fn held_segment(bytes: &[u8]) -> Option<Head>
+    ensures some { IfSome result (λ head. HoldsSegment bytes.now head.conn head.size) }
+    ensures none { IfNone result ((conn size : ℕ) → HoldsSegment bytes.now conn size → ⊥) }
+{
+    match bytes {
+        [b'S', a, b, c, d, e, f, g, h, rest @ ..] => {
+            let size = u32::from_be_bytes([*e, *f, *g, *h]);
+            if size as usize > rest.len() {
+                return None;
+            }
+            let conn = u32::from_be_bytes([*a, *b, *c, *d]);
+            Some(Head { conn, size })
+        }
+        _ => None,
+    }
+}
