@@ -1,5 +1,5 @@
 //! Cores that the caller drives: they take turns before a step that may wait, and after 64 items.
-ghost use Rattle.std.specs.Prelude.{◌≡◌, length, IfOk};
+ghost use Rattle.std.specs.Prelude.{◌≡◌, ◌≤◌, length, IfOk};
 ghost use Rattle.zy_core.specs.Cores.{identities, AreCores};
 
 use crate::sure::{must, sure};
@@ -17,14 +17,28 @@ use zy_park::Bells;
 use zy_rx::{Fed, Feeder, Outlet};
 use zy_setup::{Made, Started, make, start};
 
-// The cores, all of which the caller drives, with a connection each.
+// The cores, with a connection each.
 const CORES: u32 = 2;
 
-// The segments of the capture, of one command each: fewer than a receive ring has slots.
+// The segments of the capture: fewer than a receive ring has slots.
 const SEGMENTS: u64 = 250;
 
 // The largest number of bytes that a read gives where it gives all.
 const ALL: usize = 65_536;
+
+// What is driven.
+#[derive(Clone, Copy)]
+struct Case {
+    // On one thread the caller drives both cores, on two only core 0.
+    threads: u32,
+    // The commands of a segment.
+    commands: u64,
+    // Whether the segments go to core 0 alone, and not to both cores in turn.
+    is_one: bool,
+    answer: Answer,
+    // The largest number of bytes that a read gives.
+    bytes: usize,
+}
 
 // Whether the next step may wait.
 #[derive(Clone, Copy)]
@@ -41,7 +55,7 @@ enum Answer {
 struct Watched<'g, F> {
     feeder: F,
     gate: &'g Watch,
-    answer: Answer,
+    case: Case,
     offered: u64,
     waiting: u64,
 }
@@ -50,7 +64,8 @@ impl<'g, F> Watched<'g, F> {
     fn note(&mut self)
         ensures feeder { self.new.feeder ≡ self.old.feeder }
     {
-        let waiting = self.offered.saturating_sub(self.gate.passed());
+        let commands = self.offered.saturating_mul(self.case.commands);
+        let waiting = commands.saturating_sub(self.gate.passed());
         self.waiting = self.waiting.max(waiting);
     }
 
@@ -81,7 +96,7 @@ impl<'g, F: Feeder> Feeder for Watched<'g, F> {
     }
 
     fn may_wait(&self) -> bool {
-        match self.answer {
+        match self.case.answer {
             Answer::Always => true,
             Answer::Never => false,
             Answer::AsFed => self.feeder.may_wait(),
@@ -97,16 +112,26 @@ impl<'g, F: Feeder> Feeder for Watched<'g, F> {
     ghost leads_on = { λ w v u p q. F.leads_on w.feeder v.feeder u.feeder p q };
 }
 
-// A capture of as many connections as cores, which send in turn.
-fn capture(rt: &impl Abort, alloc: Global) -> Blob {
+// A capture of two connections. A length has two bytes.
+fn capture(rt: &impl Abort, alloc: Global, case: Case) -> Blob {
+    assert!(rt; case.commands <= 1_000);
     let mut bytes = Blob::new(alloc);
     sure(rt, bytes.append(b"ZYGCAP1\n\0\0\0\x02"));
-    for _ in 0..SEGMENTS / 2 {
-        sure(rt, bytes.append(b"S\0\0\0\0\0\0\0\x09version\r\n"));
-        sure(rt, bytes.append(b"S\0\0\0\x01\0\0\0\x09version\r\n"));
+    for segment in 0..SEGMENTS {
+        let conn = if case.is_one { 0 } else { (segment % 2) as u8 };
+        let length = 9 * case.commands as u16;
+        sure(rt, bytes.append(&[b'S', 0, 0, 0, conn, 0, 0]));
+        sure(rt, bytes.append(&length.to_be_bytes()));
+        append_commands(rt, &mut bytes, case.commands);
     }
     sure(rt, bytes.append(b"E"));
     bytes
+}
+
+fn append_commands(rt: &impl Abort, bytes: &mut Blob, commands: u64) {
+    for _ in 0..commands {
+        sure(rt, bytes.append(b"version\r\n"));
+    }
 }
 
 // The cores of a run, with what they share, the inlets of their rings, and the root of their store.
@@ -149,18 +174,15 @@ fn make_ready(alloc: Global) -> Result<Ready, NoMemory>
     }
 }
 
-// The largest number of commands that waited before a step, in a run whose reads give at most so
-// many bytes.
-fn most_waiting<R: Threads + Wait + Abort + Sync>(
-    rt: &R,
-    alloc: Global,
-    answer: Answer,
-    bytes: usize,
-) -> u64 {
-    assert!(rt; bytes >= 1);
+// The largest number of commands that were offered and not yet begun before a step.
+fn most_waiting<R: Threads + Wait + Abort + Sync>(rt: &R, alloc: Global, case: Case) -> u64 {
+    assert!(rt; case.bytes >= 1);
+    assert!(rt; case.threads >= 1);
+    assert!(rt; case.threads <= 64);
     let gate = Watch::new(rt, alloc, false);
-    let mut source = MemSource::new(capture(rt, alloc), bytes, CallNumbers::new(alloc));
-    let most = drive_source(rt, alloc, answer, &mut source, &gate);
+    let given = capture(rt, alloc, case);
+    let mut source = MemSource::new(given, case.bytes, CallNumbers::new(alloc));
+    let most = drive_source(rt, alloc, case, &mut source, &gate);
     drop(source);
     drop(gate);
     most
@@ -170,27 +192,30 @@ fn most_waiting<R: Threads + Wait + Abort + Sync>(
 fn drive_source<R: Threads + Wait + Abort + Sync>(
     rt: &R,
     alloc: Global,
-    answer: Answer,
+    case: Case,
     source: &mut MemSource,
     gate: &Watch,
-) -> u64 {
+) -> u64
+    requires threads { (1 ≤ case.threads) × (case.threads ≤ 64) }
+{
     let (intake, _) = sure(rt, Intake::begin(alloc, source));
     match make_ready(alloc) {
-        Ok(ready) => drive_ready(rt, alloc, answer, source, gate, intake, ready),
+        Ok(ready) => drive_ready(rt, alloc, case, source, gate, intake, ready),
         Err(_) => panic!(rt; "no memory"),
     }
 }
 
-// Drives all cores on the caller's thread.
+// Drives the cores, the first group of them on the caller's thread.
 fn drive_ready<R: Threads + Wait + Abort + Sync>(
     rt: &R,
     alloc: Global,
-    answer: Answer,
+    case: Case,
     source: &mut MemSource,
     gate: &Watch,
     intake: Intake,
     ready: Ready,
 ) -> u64
+    requires threads { (1 ≤ case.threads) × (case.threads ≤ 64) }
     requires cores { AreCores ready.shared (identities ready.cores) }
     requires count { length ready.shared.rings ≡ 2 }
 {
@@ -203,7 +228,7 @@ fn drive_ready<R: Threads + Wait + Abort + Sync>(
     let mut feeder = Watched {
         feeder: CaptureFeeder::new(source, intake, inlets),
         gate,
-        answer,
+        case,
         offered: 0,
         waiting: 0,
     };
@@ -213,7 +238,7 @@ fn drive_ready<R: Threads + Wait + Abort + Sync>(
                 rt,
                 alloc,
                 cores,
-                1,
+                case.threads,
                 &shared,
                 gate,
                 &mut feeder,
@@ -232,7 +257,7 @@ fn drive_ready<R: Threads + Wait + Abort + Sync>(
     let Watched {
         feeder,
         gate: _,
-        answer: _,
+        case: _,
         offered: _,
         waiting,
     } = feeder;
@@ -256,18 +281,42 @@ fn end(driven: Driven) -> bool {
     }
 }
 
+// Both cores on the caller's thread, with a command a segment.
+fn alone(answer: Answer, bytes: usize) -> Case {
+    Case {
+        threads: 1,
+        commands: 1,
+        is_one: false,
+        answer,
+        bytes,
+    }
+}
+
 #[test]
 fn a_step_that_may_wait_comes_when_all_is_done(rt: HostRuntime) {
-    must(&rt, most_waiting(&rt, rt.alloc(), Answer::Always, ALL) == 0);
+    must(&rt, most_waiting(&rt, rt.alloc(), alone(Answer::Always, ALL)) == 0);
 }
 
 #[test]
 fn a_read_comes_when_all_is_done(rt: HostRuntime) {
-    must(&rt, most_waiting(&rt, rt.alloc(), Answer::AsFed, 1) == 0);
+    must(&rt, most_waiting(&rt, rt.alloc(), alone(Answer::AsFed, 1)) == 0);
 }
 
 #[test]
 fn a_turn_comes_after_64_items(rt: HostRuntime) {
-    let most = most_waiting(&rt, rt.alloc(), Answer::Never, ALL);
+    let most = most_waiting(&rt, rt.alloc(), alone(Answer::Never, ALL));
     must(&rt, most >= 64 && most <= 128);
+}
+
+// A thief on another thread gives a block back after 64 commands, and only its home goes on with it.
+#[test]
+fn a_step_that_may_wait_comes_when_no_block_is_away(rt: HostRuntime) {
+    let case = Case {
+        threads: 2,
+        commands: 200,
+        is_one: true,
+        answer: Answer::Always,
+        bytes: ALL,
+    };
+    must(&rt, most_waiting(&rt, rt.alloc(), case) == 0);
 }
