@@ -1,8 +1,8 @@
 // How the threads of a run wait for each other: a model of all that they share, explored state by state.
 //
 // One transition is one atomic step on something that two threads share, with the work on the thread's own values up to
-// its next such step. docs/THREADS.md ("A model of the waits") says which lines of the source each transition stands
-// for. All steps are sequentially consistent. What only one of two threads can change is looked at together with the
+// its next such step. docs/THREADS.md ("A model of the waits") says what functions of the source each transition is.
+// All steps are sequentially consistent. What only one of two threads can change is looked at together with the
 // step that follows the look: an item that an end of a ring knows stays there, and so does a free slot.
 //
 // usage: waits [NAME=VALUE ..]    the settings are those of `Setting`; status 1 where a run can fail to end
@@ -510,7 +510,7 @@ class Step {
         case ROUND: go(READ_DONE); break;
         case STOP: go(READ_STOP); break;
         case ITEM: is("rings-before-item") ? put_item() : after_item(); break;
-        case CALLERS_CORES: s.calls = 0; me = Thread{}; go(READ_STOP); break;
+        case CALLERS_CORES: s.calls = 0; me = Thread{}; end_callers_round(); break;
         default: go(JOIN);
         }
     }
@@ -614,10 +614,8 @@ class Step {
         go(CALLER_STOPS);
     }
 
-  public:
-    // The caller's loop after its look at stop.
-    void go_round() {
-        if (s.stop && !is("caller-heeds-no-stop")) return stop_as(STOPPED);
+    // The end of a round of the caller's loop.
+    void end_callers_round() {
         bool all_done = is_ended();
         for (int i = 0; i < setting.cores; i++) all_done = all_done && (!is_here(i) || s.cores[i].all_done);
         if (all_done) {
@@ -626,8 +624,15 @@ class Step {
         }
         bool waits = !s.offered && !s.worked_here;
         s.worked_here = 0;
-        go(FEED);
+        go(READ_STOP);
         if (waits) give_way();
+    }
+
+  public:
+    // The caller's look at stop, before it feeds.
+    void look_at_stop() {
+        if (s.stop && !is("caller-heeds-no-stop")) stop_as(STOPPED);
+        else go(FEED);
     }
 };
 
@@ -662,7 +667,7 @@ bool move(State &state, int number) {
     if (kind == 3) return state.running &= ~bit, state.faults = 1, true;
     if (thread == caller() && at == READ_STOP) {
         if (kind) return false;
-        Step(state, thread).go_round();
+        Step(state, thread).look_at_stop();
     } else if (!Step(state, thread).make(kind == 1)) {
         return false;
     }
@@ -678,7 +683,7 @@ State first_state() {
         state.threads[i].core = static_cast<Byte>(i);
         state.threads[i].at = is_here(i) ? GONE : WATCH;
     }
-    state.threads[caller()].at = FEED;
+    state.threads[caller()].at = READ_STOP;
     return state;
 }
 

@@ -8,7 +8,8 @@ use Rattle.zy_core.specs.declared.turn.Turn.{Turn}
 use Rattle.zy_core.specs.declared.nap.Nap.{Nap}
 use Rattle.zy_core.specs.Core.{Cored, stepped}
 use Rattle.zy_core.specs.Turn.{TurnTo, HasSteps}
-use Rattle.zy_core.specs.Nap.{nap_of, RestTo, NapTo}
+use Rattle.zy_park.specs.Pass.{Passed}
+use Rattle.zy_core.specs.Nap.{nap_of, bell_after, RestTo, NapTo}
 
 -- after the turn done was loaded, then stop
 pub rests : (cores : ℕ) (a b c d : Cored) (turn : Turn) (counted : Bool) (done stop : ℕ) (nap : Nap) → TurnTo a b turn → HasSteps a b → b.control ≡ a.control
@@ -30,10 +31,10 @@ rests cores a b c d turn counted done stop nap took steps control one two has is
     }
 
 -- before it the core announced itself, and after it it withdrew
-pub naps : (cores : ℕ) (a b c d : Cored) (set cleared : ℕ) (r : Result Nap NoMemory) → b ≡ stepped (resting true set a.control) a
-    → d ≡ stepped (resting false cleared c.control) c → IfOk r (RestTo cores b c) → IfOk r (NapTo cores a d)
-naps cores a b c d set cleared (Ok nap) one two rests =
-    record { set = set; cleared = cleared; announced = b; rested = c; announces = one; rests = rests; withdraws = two; last = later }
+pub naps : (cores : ℕ) (a b c d : Cored) (p q : Passed) (set cleared : ℕ) (r : Result Nap NoMemory) → b ≡ stepped (resting true set a.control) a
+    → d ≡ stepped (resting false cleared c.control) c → IfOk r (RestTo cores b c) → IfOk r (λ nap. q ≡ bell_after c.control nap p) → IfOk r (NapTo cores a d p q)
+naps cores a b c d p q set cleared (Ok nap) one two rests bell =
+    record { set = set; cleared = cleared; announced = b; loaded = c; announces = one; rests = rests; rested = bell; withdraws = two; last = later }
   where
     -- withdrawing is one step later than the load of stop
     later : d.control.trace.stop.step < d.control.trace.sleepers.step
@@ -42,4 +43,4 @@ naps cores a b c d set cleared (Ok nap) one two rests =
         let stop : d.control.trace.stop.step ≡ c.control.trace.stop.step = ap (λ (x : Cored). x.control.trace.stop.step) two in
         let sleepers : d.control.trace.sleepers.step ≡ c.control.trace.steps + 1 = ap (λ (x : Cored). x.control.trace.sleepers.step) two in
         omega arith
-naps cores a b c d set cleared (Err e) one two rests = tt
+naps cores a b c d p q set cleared (Err e) one two rests bell = tt

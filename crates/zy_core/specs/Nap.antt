@@ -1,8 +1,8 @@
 -- A nap of a core: it announces itself, takes a turn, and rests until it is rung unless there is something to do.
-use Rattle.std.specs.Prelude.{◌≡◌, ◌<◌, ℕ, Bool, true, false, not, ◌||◌, ◌==◌, if◌then◌else◌}
+use Rattle.std.specs.Prelude.{◌≡◌, ◌<◌, ℕ, Bool, true, false, Some, not, ◌||◌, ◌==◌, if◌then◌else◌}
 use Rattle.zy_park.specs.Pass as bells
 use Rattle.zy_control.specs.View.{has_counted}
-use Rattle.zy_control.specs.Pass.{seeing_done, seeing_stop}
+use Rattle.zy_control.specs.Pass.{Held, seeing_done, seeing_stop}
 use Rattle.zy_core.specs.declared.turn.Turn.{Turn}
 use Rattle.zy_core.specs.declared.turn.Turn.TheVariants.{Worked, Idle, Settled}
 use Rattle.zy_core.specs.declared.nap.Nap.{Nap}
@@ -40,21 +40,24 @@ pub record RestTo (cores : ℕ) (before after : Cored) (nap : Nap) : Type 0 wher
   pub loaded : after ≡ stepped (seeing_stop stop (seeing_done done before.control)) turned
   pub is : nap ≡ nap_of cores (has_counted before.control.role) turn done stop
 
--- what a nap came to, among so many cores: the core announced itself, took its turn and rested or not, and withdrew
-pub record NapTo (cores : ℕ) (before after : Cored) (nap : Nap) : Type 0 where
+-- the core's pass at the bells after a nap: if it rested its token was taken, while its pass on the control words was
+-- this; and else it made no step
+abbrev pub bell_after : Held → Nap → bells.Passed → bells.Passed
+bell_after control (Awake turn) p = p
+bell_after control (Ending done stop) p = p
+bell_after control Rested p = bells.resting (Some control) p
+
+-- what a nap came to, among so many cores, with the core's pass at the bells before and after it: the core announced
+-- itself, took its turn, loaded done and stop, rested or not, and then withdrew
+pub record NapTo (cores : ℕ) (before after : Cored) (bell bell' : bells.Passed) (nap : Nap) : Type 0 where
   pub set : ℕ
   pub cleared : ℕ
   pub announced : Cored
-  pub rested : Cored
+  pub loaded : Cored
   pub announces : announced ≡ with_announcement true set before
-  pub rests : RestTo cores announced rested nap
-  pub withdraws : after ≡ with_announcement false cleared rested
-  -- the load of stop, with whose number it rests, came before the step by which it withdrew
+  pub rests : RestTo cores announced loaded nap
+  -- while it rested, its pass on the control words was as it was after the load of stop
+  pub rested : bell' ≡ bell_after loaded.control nap bell
+  -- it withdrew after that, by its next step on the control words
+  pub withdraws : after ≡ with_announcement false cleared loaded
   pub last : after.control.trace.stop.step < after.control.trace.sleepers.step
-
--- the core's pass at the bells after a nap: its token was taken if it rested, in a rest with this number, and else it
--- made no step
-abbrev pub rested : ℕ → Nap → bells.Passed → bells.Passed
-rested number (Awake turn) p = p
-rested number (Ending done stop) p = p
-rested number Rested p = bells.resting number p

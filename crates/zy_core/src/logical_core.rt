@@ -8,7 +8,7 @@ ghost use Rattle.zy_control.specs.Pass.{seeing_done, seeing_stop, seeing_sleeper
 ghost use Rattle.zy_park.specs.Pass.{ringing_each};
 ghost use Rattle.zy_core.specs.Core.{AreOfOne, CoreKeeps, Fits, cored, stepped, with_count, with_announcement, identity_of};
 ghost use Rattle.zy_core.specs.Turn.{HasSteps, TurnTo, CameTo, ShowsBusy};
-ghost use Rattle.zy_core.specs.Nap.{NapTo, RestTo, rested};
+ghost use Rattle.zy_core.specs.Nap.{NapTo, RestTo, bell_after};
 ghost use Rattle.zy_rx.specs.Feed.{rings_of};
 
 use crate::nap::Nap;
@@ -190,7 +190,7 @@ impl Core {
     }
 
     /// A nap: the core announces itself, takes a turn, and loads done and stop. It rests until it is
-    /// rung if the turn found nothing to do and the run does not end. It ends by withdrawing what it
+    /// rung if the turn found nothing to do and the run does not end. After that it withdraws what it
     /// announced, also after `NoMemory`. The call may wait.
     pub fn nap<R: Wait, G: Gate>(
         &mut self,
@@ -205,8 +205,7 @@ impl Core {
         requires live { self.old.home.refused ≡ false }
         requires bells { pass.old.bells ≡ bells.now }
         requires core { pass.old.core ≡ self.old.home.core }
-        ensures nap { IfOk result (NapTo (length shared.now.rings) self.old self.new) }
-        ensures rested { IfOk result (λ nap. pass.new ≡ rested self.new.control.trace.stop.step nap pass.old) }
+        ensures nap { IfOk result (NapTo (length shared.now.rings) self.old self.new pass.old pass.new) }
         ensures kept { OnErr result (pass.new ≡ pass.old) }
         ensures withdrawn { has_announced self.new.control.role ≡ false }
         ensures live { OnOk result (self.new.home.refused ≡ false) }
@@ -235,7 +234,7 @@ impl Core {
         requires live { self.old.home.refused ≡ false }
         requires bells { pass.old.bells ≡ bells.now }
         ensures nap { IfOk result (RestTo (length shared.now.rings) self.old self.new) }
-        ensures rested { IfOk result (λ nap. pass.new ≡ rested self.new.control.trace.stop.step nap pass.old) }
+        ensures rested { IfOk result (λ nap. pass.new ≡ bell_after self.new.control nap pass.old) }
         ensures kept { OnErr result (pass.new ≡ pass.old) }
         ensures live { OnOk result (self.new.home.refused ≡ false) }
         ensures same { identity_of self.new ≡ identity_of self.old }
@@ -251,16 +250,13 @@ impl Core {
         Ok(nap)
     }
 
-    // Rests if the nap ends so. The core lends itself for contracts: its pass at the bells keeps the
-    // number of the newest step on the control words, so a rest after a withdrawal has a later one.
+    // Rests if the nap ends so, with the core's pass on the control words as it is.
     fn rest<R: Wait>(&self, rt: &R, nap: &Nap, bells: &Bells, pass: &mut BellPass)
-        ghost number: { ℕ }
-        requires number { number ≡ self.now.control.trace.steps }
         requires bells { pass.old.bells ≡ bells.now }
-        ensures value { pass.new ≡ rested self.now.control.trace.steps nap.now pass.old }
+        ensures value { pass.new ≡ bell_after self.now.control nap.now pass.old }
     {
         match nap {
-            Nap::Rested => bells.rest(rt, pass),
+            Nap::Rested => bells.rest_by(rt, pass, &self.control),
             _ => {}
         }
     }

@@ -5,7 +5,8 @@ use Rattle.zy_park.specs.Pass.{Bells, Passed}
 use Rattle.zy_core.specs.declared.nap.Nap.{Nap}
 use Rattle.zy_core.specs.declared.nap.Nap.TheVariants.{Awake, Ending, Rested}
 use Rattle.zy_core.specs.Core.{Cored}
-use Rattle.zy_core.specs.Nap.{rested}
+use Rattle.zy_control.specs.Pass.{Held}
+use Rattle.zy_core.specs.Nap.{bell_after}
 use Rattle.zy_core.specs.Cores.{identities}
 use Rattle.zy_drive.specs.Group.{IsAlone, AllAt}
 
@@ -24,10 +25,10 @@ alone_first n (x ∷ xs) c alone is = let here : x.home.core ≡ n = cc in sym h
 -- ---- passes
 
 -- a nap leaves the pass at its bells, and of its core
-pub rested_same : (number : ℕ) (n : Nap) (p : Passed) → ((rested number n p).bells ≡ p.bells) × ((rested number n p).core ≡ p.core)
-rested_same number (Awake turn) p = (refl, refl)
-rested_same number (Ending done stop) p = (refl, refl)
-rested_same number Rested p = (refl, refl)
+pub bell_same : (h : Held) (n : Nap) (p : Passed) → ((bell_after h n p).bells ≡ p.bells) × ((bell_after h n p).core ≡ p.core)
+bell_same h (Awake turn) p = (refl, refl)
+bell_same h (Ending done stop) p = (refl, refl)
+bell_same h Rested p = (refl, refl)
 
 -- one more pass
 pub at_last : (bells : Bells) (ps : List Passed) (p : Passed) → AllAt bells ps → p.bells ≡ bells → AllAt bells (ps ++ p ∷ [])

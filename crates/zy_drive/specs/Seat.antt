@@ -1,5 +1,8 @@
 -- Where groups of cores are while threads drive them. No public clause cites this module.
 use Rattle.std.specs.Prelude.{List, [], ◌∷◌, map, Vec, ⊤}
+use Rattle.zy_drive.specs.declared.feeding.Step.{Step}
+use Rattle.zy_drive.specs.declared.threads.tending.Next.{Next}
+use Rattle.zy_drive.specs.declared.threads.tending.Next.TheVariants.{Made, Broken, Stopped}
 use Rattle.std.specs.declared.alloc.Global.{Global}
 use Rattle.zy_core.specs.declared.logical_core.Core.{Core}
 use Rattle.zy_drive.specs.declared.threads.seat.Seat.{Seat}
@@ -29,3 +32,11 @@ AllFit shared (ids ∷ rest) = EachFits shared ids × AllFit shared rest
 abbrev pub AllSettled : List (Vec Core Global) → Type 0
 AllSettled [] = ⊤
 AllSettled (group ∷ groups) = EachSettled group.items × AllSettled groups
+
+-- ---- the caller
+
+-- what holds of a step of the feeder, or of none, where stop was 0 and the feeder is not broken
+abbrev pub IfMade : Next → (Step → Type 0) → Type 0
+IfMade (Made step) P = P step
+IfMade Broken P = ⊤
+IfMade Stopped P = ⊤

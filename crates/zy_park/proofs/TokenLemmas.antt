@@ -32,5 +32,5 @@ enters x vs h = let a = rung_end vs unrung in let b = taken_end vs unrung in ome
 pub rings_kept : (id : ℕ) (v : View) → Turns TokenRule id v (λ _. true) puts
 rings_kept id v x vs h at = let a = rung_set vs id v (rings v) at in let b = taken_set vs id v (rings v) at in (rings v, omega arith, refl)
 
-pub takes_kept : (number id : ℕ) (v : View) → TurnsAt TokenRule id v true false (takes_from number)
-takes_kept number id v vs h at = let w = takes number v in let a = rung_set vs id v w at in let b = taken_set vs id v w at in (w, omega arith, refl)
+pub takes_kept : (id : ℕ) (v : View) → TurnsAt TokenRule id v true false takes_from
+takes_kept id v vs h at = let w = takes v in let a = rung_set vs id v w at in let b = taken_set vs id v w at in (w, omega arith, refl)

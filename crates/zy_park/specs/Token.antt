@@ -9,30 +9,30 @@ worth false = 0
 
 -- ---- views
 
-abbrev pub view : ℕ → ℕ → Bool → ℕ → View
-view rung taken token rested_at = record { rung = rung; taken = taken; token = token; rested_at = rested_at }
+abbrev pub view : ℕ → ℕ → Bool → View
+view rung taken token = record { rung = rung; taken = taken; token = token }
 
 -- the view that each seat begins with: it has neither put nor taken the token
 abbrev pub unrung : View
-unrung = view 0 0 false 0
+unrung = view 0 0 false
 
 -- the seat has put the token, which was there after that step
 abbrev pub rings : View → View
-rings v = view (v.rung + 1) v.taken true v.rested_at
+rings v = view (v.rung + 1) v.taken true
 
--- the seat has taken the token in a rest with this number, and the token was no longer there after that step
-abbrev pub takes : ℕ → View → View
-takes number v = view v.rung (v.taken + 1) false number
+-- the seat has taken the token, which was no longer there after that step
+abbrev pub takes : View → View
+takes v = view v.rung (v.taken + 1) false
 
 -- ---- steps: the view before, whether the token was there before and after, and the view after
 
 -- the token was put
 abbrev pub puts : View → Bool → Bool → View → Type 0
-puts v was is w = w ≡ view (v.rung + 1) v.taken is v.rested_at
+puts v was is w = w ≡ view (v.rung + 1) v.taken is
 
--- the token was taken, if it was there, in a rest with this number
-abbrev pub takes_from : ℕ → View → Bool → Bool → View → Type 0
-takes_from number v was is w = w ≡ view v.rung (v.taken + worth was) is number
+-- the token was taken, if it was there
+abbrev pub takes_from : View → Bool → Bool → View → Type 0
+takes_from v was is w = w ≡ view v.rung (v.taken + worth was) is
 
 -- ---- the rule
 

@@ -7,7 +7,7 @@ use crate::view::View;
 use crossbeam_utils::rule::{Outcome, Protocol};
 use crossbeam_utils::sync::parker::{Pass, RuledParker, RuledUnparker};
 use std::alloc::Global;
-use std::marker::{Brand, Model, PhantomData};
+use std::marker::Model;
 use std::sync::Wait;
 use zy_base::NoMemory;
 
@@ -31,26 +31,13 @@ impl Outcome<bool, View> for Rings {
     ghost then = { puts };
 }
 
-// The number that a rest is given for contracts.
-pub(crate) trait Numbered {
-    ghost use Rattle.std.specs.Prelude.{ℕ};
-
-    ghost number: { ℕ };
-}
-
-impl Numbered for Brand {
-    ghost number = { 0 };
-}
-
 // The token was taken.
-struct Takes<J> {
-    marker: PhantomData<J>,
-}
+struct Takes;
 
-impl<J: Numbered> Outcome<bool, View> for Takes<J> {
+impl Outcome<bool, View> for Takes {
     ghost use Rattle.zy_park.specs.Token.{takes_from};
 
-    ghost then = { takes_from J.number };
+    ghost then = { takes_from };
 }
 
 // The end that puts the token. Contracts see which table the token is in.
@@ -135,10 +122,10 @@ impl Bell {
 
 impl Sleeper {
     // Waits until the token is there, and takes it.
-    pub(crate) fn rest<J: Numbered, R: Wait>(&self, rt: &R, seat: &mut BellSeat)
+    pub(crate) fn rest<R: Wait>(&self, rt: &R, seat: &mut BellSeat)
         requires table { seat.old.table ≡ self.now }
-        ensures value { seat.new ≡ seated seat.old.table (takes J.number seat.old.view) }
+        ensures value { seat.new ≡ seated seat.old.table (takes seat.old.view) }
     {
-        self.parker.park_as::<Takes<J>, R>(rt, &mut seat.pass);
+        self.parker.park_as::<Takes, R>(rt, &mut seat.pass);
     }
 }

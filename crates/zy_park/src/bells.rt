@@ -1,18 +1,20 @@
 //! The bells of all cores.
-ghost use Rattle.std.specs.Prelude.{◌≡◌, ◌≢◌, ◌<◌, ◌≤◌, ℕ, length, true, slice_set, IfOk, OnOk, OnErr};
+ghost use Rattle.std.specs.Prelude.{◌≡◌, ◌≢◌, ◌<◌, ◌≤◌, ℕ, length, true, Some, None, slice_set, option_map, IfOk, OnOk, OnErr};
 ghost use Rattle.zy_park.specs.Pass.{new_root, rooted, IsFree, GaveNone, new_pass, ringing, ringing_from, ringing_each, ringing_each_from, resting};
 
 mod making;
 mod ringing;
 
-use crate::bell::{Bell, Numbered};
+use crate::bell::Bell;
 use crate::bells::making::{add_all, enter_each, take_sleeper};
 use crate::bells::ringing::{rest_at, ring_at, ring_each_at};
 use crate::pass::{BellPass, BellRoot};
 use std::alloc::Global;
-use std::marker::{Brand, Model};
+use std::marker::Model;
+use std::snapshot::Snapshot;
 use std::sync::Wait;
 use zy_base::NoMemory;
+use zy_control::ControlPass;
 
 /// The bells of all cores, one for each. Contracts see for each core the table that its token is in.
 #[derive(Drop)]
@@ -67,6 +69,7 @@ impl Bells {
             core,
             sleeper,
             seats,
+            rested: None,
         })
     }
 
@@ -108,21 +111,36 @@ impl Bells {
     }
 
     /// Waits until the token of the pass's core is there, and takes it. It returns only with the
-    /// token taken. The pass keeps the number that the caller's contract gives this rest.
+    /// token taken.
     pub fn rest<R: Wait>(&self, rt: &R, pass: &mut BellPass)
-        ghost number: { ℕ }
         requires bells { pass.old.bells ≡ self.now }
-        ensures value { pass.new ≡ resting number pass.old }
+        ensures value { pass.new ≡ resting None pass.old }
     {
-        self.rest_as::<Brand, R>(rt, pass);
+        self.rest_as(rt, pass, None);
     }
 
-    // The same, where the type has the number.
-    fn rest_as<J: Numbered, R: Wait>(&self, rt: &R, pass: &mut BellPass)
+    /// As `rest`, by a core that has this pass on the control words. The bell pass keeps, for
+    /// contracts, what the pass is during this rest: so they can say which of its steps on the
+    /// control words the core made before the rest, and which after it.
+    pub fn rest_by<R: Wait>(&self, rt: &R, pass: &mut BellPass, control: &ControlPass)
         requires bells { pass.old.bells ≡ self.now }
-        ensures value { pass.new ≡ resting J.number pass.old }
+        ensures value { pass.new ≡ resting (Some control.now) pass.old }
     {
-        rest_at::<J, R>(rt, &pass.sleeper, &mut pass.seats, pass.core);
+        self.rest_as(rt, pass, Some(Snapshot::of(control)));
+    }
+
+    // Rests, and keeps the pass on the control words that it was given, if any.
+    fn rest_as<R: Wait>(
+        &self,
+        rt: &R,
+        pass: &mut BellPass,
+        control: Option<Snapshot<ControlPass>>,
+    )
+        requires bells { pass.old.bells ≡ self.now }
+        ensures value { pass.new ≡ resting (option_map (λ s. s.value) control) pass.old }
+    {
+        rest_at(rt, &pass.sleeper, &mut pass.seats, pass.core);
+        pass.rested = control;
     }
 
     /// The number of cores.

@@ -1,6 +1,5 @@
 //! Laws of served runs and of checks: each is the contract of a function without a body.
 ghost use Rattle.std.specs.Prelude.{◌≡◌, ◌<◌, ◌≤◌, ◌++◌, ◌↔◌, ℕ, List, length, Option, Some};
-ghost use Rattle.zy_read.specs.Bytes.{AreBytes};
 ghost use Rattle.zy_capture.specs.Outputs.{AllOutputs, AreOutputs};
 ghost use Rattle.zy_capture.specs.Replies.{replies_bytes, replies_limit};
 ghost use Rattle.zy_journal.specs.declared.journal.Journal.{Journal};
@@ -17,7 +16,7 @@ ghost use Rattle.zy_command_line.specs.declared.request.Out.{Out};
 ghost use Rattle.zy_command_line.specs.declared.request.Out.TheVariants.{Both};
 ghost use Rattle.zy_command_line.specs.declared.request.Request.{Request};
 ghost use Rattle.zy_command_line.specs.declared.request.Request.TheVariants as Requests;
-ghost use Rattle.zy_serving.specs.Seen.{Seen, WasWritten, OfTold};
+ghost use Rattle.zy_serving.specs.Seen.{Seen, Side, WasWritten, OfTold, OfGiven};
 ghost use Rattle.zy_serving.specs.Headline.{IsServed, IsWritten, written};
 ghost use Rattle.zygos_run.specs.Checked.{IsChecked};
 ghost use Rattle.zygos_run.specs.declared.answer.Answer.TheVariants as Answers;
@@ -65,9 +64,9 @@ pub fn an_input_has_one_verdict()
         → IsChecked shards bytes a → IsChecked shards bytes b → a ≡ b }
 {}
 
-/// If the verdict on an input is yes, the records of its capture have a run with its journal and
-/// its outputs.
+/// If the verdict on what a source gave is yes, the records of its capture have a run with its journal
+/// and its outputs.
 pub fn an_input_that_checks_is_of_a_run()
-    ensures run { (shards : ℕ) (bytes : List ℕ) → 1 ≤ shards → AreBytes bytes
-        → IsChecked shards bytes Yes → IsInputOfRun shards bytes }
+    ensures run { (shards : ℕ) (source : Side) → 1 ≤ shards
+        → OfGiven source (λ bytes. IsChecked shards bytes Yes) → OfGiven source (IsInputOfRun shards) }
 {}

@@ -1,5 +1,6 @@
 //! The caller's passes, and how it rings the cores that rest.
-ghost use Rattle.std.specs.Prelude.{◌≡◌};
+ghost use Rattle.std.specs.Prelude.{◌≡◌, ◌==◌, not};
+ghost use Rattle.zy_control.specs.Pass.{seeing_stop};
 
 use crate::threads::driving::Driving;
 use zy_control::ControlPass;
@@ -40,10 +41,11 @@ impl<'a> Caller<'a> {
         }
     }
 
-    // Whether the cores are to stop.
+    // Whether the cores are to stop, by one load of stop.
     pub(crate) fn is_stopped(&mut self, shared: &Shared) -> bool
         requires watch { self.old.watch.table ≡ shared.now.control.id }
-        ensures watch { self.new.watch.table ≡ self.old.watch.table }
+        ensures value { result ≡ not (self.new.watch.trace.stop.value == 0) }
+        ensures watch { self.new.watch ≡ seeing_stop self.new.watch.trace.stop.value self.old.watch }
         ensures bells { self.new.root.now.bells ≡ self.old.root.now.bells }
     {
         shared.control().is_stopped(&mut self.watch)

@@ -1,9 +1,11 @@
 //! What the caller does while threads drive the cores.
-ghost use Rattle.std.specs.Prelude.{◌≡◌, vec_len};
+ghost use Rattle.std.specs.Prelude.{◌≡◌, ◌≢◌, ◌↔◌, true, false, vec_len};
+ghost use Rattle.zy_control.specs.Pass.{seeing_stop};
+ghost use Rattle.zy_drive.specs.Seat.{IfMade};
 ghost use Rattle.zy_drive.specs.Seat.{all_of_seats, AllFit};
 ghost use Rattle.zy_rx.specs.Feed.{rings_of};
 
-use crate::feeding::feed_once;
+use crate::feeding::{Step, feed_once};
 use crate::round::Round;
 use crate::threads::caller::Caller;
 use crate::threads::driving::Driving;
@@ -12,6 +14,7 @@ use crate::threads::seat::Seat;
 use crate::threads::seats::{are_done_here, are_some_away, are_some_here, go_on_here};
 use std::sync::Wait;
 use zy_base::{Gate, NoMemory};
+use zy_core::Shared;
 use zy_rx::Feeder;
 
 // How many items are offered in a row before the cores that are with the caller take a turn: as many
@@ -29,7 +32,18 @@ pub(crate) enum How {
     Stopped,
 }
 
-// Feeds the cores, one item at a time, and lets those that are with the caller take turns. After each
+// What the caller did before the cores that are with it may take turns.
+#[derive(Drop)]
+pub(crate) enum Next {
+    // It made a step of the feeder, or none where none was to be made, which came to this.
+    Made(Step),
+    // It made a step, and the feeder is broken.
+    Broken,
+    // It made none, since the cores are to stop.
+    Stopped,
+}
+
+// Feeds the cores, one item at a time, and lets those that are with the caller take turns. Before each
 // step it looks at stop. Before a step that may have to wait for the source, the cores that are with
 // the caller take turns until none works and no block of theirs is away.
 pub(crate) fn tend<R: Wait, F: Feeder, G: Gate>(
@@ -57,9 +71,10 @@ pub(crate) fn tend<R: Wait, F: Feeder, G: Gate>(
     let mut is_ended = false;
     let mut patience = Patience::new();
     for _ in driving.rt.forever() {
-        let step = match feed_once(feeder, is_ended, has_work) {
-            Some(step) => step,
-            None => return How::Broken,
+        let step = match feed_next(driving.shared, caller, feeder, is_ended, has_work) {
+            Next::Made(step) => step,
+            Next::Broken => return How::Broken,
+            Next::Stopped => return How::Stopped,
         };
         is_ended = step.is_ended;
         caller.ring_if(step.has_offered, driving);
@@ -70,15 +85,42 @@ pub(crate) fn tend<R: Wait, F: Feeder, G: Gate>(
         };
         has_work = has_here && (items > 0 || round.calls_up() || are_some_away(seats));
         caller.ring_if(round.calls_up(), driving);
-        if caller.is_stopped(driving.shared) {
-            return How::Stopped;
-        }
         if is_ended && are_done_here(seats) {
             return How::Ended;
         }
         patience.wait_after(found(step.has_offered, round));
     }
     unreachable!()
+}
+
+// Loads stop, and makes a step of the feeder only if it is 0.
+fn feed_next<F: Feeder>(
+    shared: &Shared,
+    caller: &mut Caller<'_>,
+    feeder: &mut F,
+    is_ended: bool,
+    has_work: bool,
+) -> Next
+    requires watch { caller.old.watch.table ≡ shared.now.control.id }
+    requires ended { is_ended ≡ true → F.ended feeder.old }
+    requires fresh { is_ended ≡ false → ¬ F.ended feeder.old × ¬ F.broken feeder.old }
+    ensures stopped { (result ≡ Next.Stopped) ↔ (caller.new.watch.trace.stop.value ≢ 0) }
+    ensures kept { result ≡ Next.Stopped → feeder.new ≡ feeder.old }
+    ensures watch { caller.new.watch ≡ seeing_stop caller.new.watch.trace.stop.value caller.old.watch }
+    ensures bells { caller.new.root.now.bells ≡ caller.old.root.now.bells }
+    ensures ended { IfMade result (λ s. s.is_ended ≡ true → F.ended feeder.new) }
+    ensures fresh { IfMade result (λ s. s.is_ended ≡ false → ¬ F.ended feeder.new × ¬ F.broken feeder.new) }
+    ensures broken { result ≡ Next.Broken → F.broken feeder.new }
+    ensures leads { F.leads feeder.old feeder.new }
+    ensures rings { rings_of (F.inlets feeder.new) ≡ rings_of (F.inlets feeder.old) }
+{
+    if caller.is_stopped(shared) {
+        return Next::Stopped;
+    }
+    match feed_once(feeder, is_ended, has_work) {
+        Some(step) => Next::Made(step),
+        None => Next::Broken,
+    }
 }
 
 // How many items were offered in a row since the cores that are with the caller took a turn: 0 if

@@ -1,4 +1,5 @@
-use Rattle.std.proofs.Common.{refl, ◌∙◌}
+use Rattle.std.proofs.Common.{refl, ap, ◌∙◌}
+use Rattle.zy_control.specs.Pass.{Held}
 use Rattle.zy_drive.proofs.threads.tending.tend.Goals as goal
 
 pub loop-init : goal.loop-init
@@ -12,10 +13,10 @@ loop-preserved g c =
       tt,
       c.go_on_if.ensures.same ∙ inv.2,
       c.go_on_if.ensures.len ∙ inv.3,
-      c.is_stopped.ensures.watch ∙ c.ring_if-in-loop.ensures.watch ∙ c.ring_if.ensures.watch ∙ inv.4,
-      c.is_stopped.ensures.bells ∙ c.ring_if-in-loop.ensures.bells ∙ c.ring_if.ensures.bells ∙ inv.5,
-      g.met.F.Feeder.leads_on _ _ _ inv.6 c.feed_once.ensures.leads,
-      c.in-Some-feed_once.ensures.ended,
-      c.in-Some-feed_once.ensures.fresh,
-      c.feed_once.ensures.rings ∙ inv.9,
+      c.ring_if-in-loop.ensures.watch ∙ c.ring_if.ensures.watch ∙ ap (λ (h : Held). h.table) c.feed_next.ensures.watch ∙ inv.4,
+      c.ring_if-in-loop.ensures.bells ∙ c.ring_if.ensures.bells ∙ c.feed_next.ensures.bells ∙ inv.5,
+      g.met.F.Feeder.leads_on _ _ _ inv.6 c.feed_next.ensures.leads,
+      c.in-Made.ensures.ended,
+      c.in-Made.ensures.fresh,
+      c.feed_next.ensures.rings ∙ inv.9,
     )
