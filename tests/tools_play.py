@@ -62,6 +62,8 @@ def orders():
     plays("what is said", replies(told), capture(5, turns),
           said="tools/play: 5 connections, 200 commands answered\n")
     both_orders("nothing", replies([]), capture(0, []))
+    ends = [record for k in range(20) for c in range(5) for record in [*pieces(c, asked[c][k]), segment(c, b"")]]
+    both_orders("segments without bytes", replies(told), capture(5, ends))
     both_orders("a connection that sends nothing", replies([b"", b"MN\r\n"]), capture(2, [segment(1, b"mn\r\n"),
                                                                                         segment(0, b"")]))
 
@@ -192,7 +194,7 @@ def against_memcached():
     with memcached() as place:
         if place is None:
             return
-        recorder = Recorder(place)
+        recorder = Recorder(place, "--ends")
         at_once([lambda text=text: talk(recorder.place, text, 9) for text in texts])
         recorder.end()
     same("what is recorded", sorted(texts), sorted(files_of()[0].values()))

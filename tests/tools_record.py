@@ -17,6 +17,7 @@ import time
 
 from traffic import (TOP, Recorder, Server, all_of, at_once, big, connected, fail, files_of, has_size, memcached,
                      rest_of, same, take, talk, until)
+from formats import Part, read_capture
 
 SET, GET = b"set %d 0 0 5\r\nvalue\r\n", b"get %d\r\n"
 ASKED = b"set a 0 0 1\r\nx\r\nget a\r\n"
@@ -124,6 +125,31 @@ def later_sessions():
                            + recorded(3, 4, 8 + len(ASKED), 8 + len(ANSWERED))), (status, said))
         same("its files", ({(0, 0): b"mn\r\n", (1, 0): b"mn\r\n", (1, 1): ASKED},
                            {(0, 0): b"MN\r\n", (1, 0): b"MN\r\n", (1, 1): ANSWERED}), files_of())
+
+
+def ends_of_answers():
+    """With --ends a segment without bytes is where an answer is whole."""
+    with Server() as server:
+        recorder = Recorder(server.place, "--ends")
+        with connected(recorder.place) as one, connected(recorder.place) as other:
+            texts = ((one, b"wait 0.2\r\n", b""), (other, ASKED[:5], b""), (other, ASKED[5:], ANSWERED), (one, b"", b"OK\r\n"),
+                     (one, b"set b 0 0 1 noreply\r\nx\r\nmg c v q\r\nmg b v q\r\nmn\r\n", b"VA 1\r\nx\r\nMN\r\n"))
+            for client, sent, back in texts:
+                client.sendall(sent)
+                same(f"the answers to {sent}", back, take(client, len(back)))
+                time.sleep(0.05)
+        same("the end of a recording with ends", 0, recorder.end()[0])
+        number, sent, back = {one: 0, other: 1}, {0: b"", 1: b""}, {0: b"", 1: b""}
+        for client, asked, told in texts:
+            sent[number[client]] += asked
+            back[number[client]] += told
+        same("a recording with ends", ({(at, 0): text for at, text in sent.items()},
+                                       {(at, 0): text for at, text in back.items()}), files_of())
+        ends = (0, 0, 2, 1, 2)
+        wanted = [record for (client, asked, _), count in zip(texts, ends)
+                  for record in [*([(number[client], asked)] if asked else []), *[(number[client], b"")] * count]]
+        with open("my.cap", "rb") as file:
+            same("where answers end", wanted, [tuple(one) for one in read_capture(Part("capture", file.read())).records])
 
 
 def tries(place):
@@ -475,6 +501,7 @@ def real_memcached():
 
 
 if __name__ == "__main__":
-    all_of(before_it_begins, several_clients, no_client, two_hundred, other_sockets, later_sessions, few_files,
+    all_of(before_it_begins, several_clients, no_client, two_hundred, other_sockets, ends_of_answers, later_sessions,
+           few_files,
            standard_output, gives_up, half_closed, slow_reader, binary, server_restarts, signals,
            ends_with_a_slow_reader, closed_errors, killed, full, terminal, real_memcached)

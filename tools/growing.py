@@ -45,6 +45,10 @@ class Growing:
     def segment(self, connection, text):
         self.add(SEGMENT.pack(ord("S"), connection, len(text)), text)
 
+    def empty(self, connection, count):
+        """Writes segments without bytes."""
+        self.add(SEGMENT.pack(ord("S"), connection, 0) * count)
+
     def close(self, connection):
         self.add(close(connection))
 

@@ -133,6 +133,7 @@ class Pace:
         return count
 
     def heard(self, text):
-        """Takes further bytes of the server."""
-        for _ in self.answers.feed(text) if self.is_text else ():
-            self.owed = max(0, self.owed - 1)
+        """How many answers end in these further bytes of the server."""
+        count = sum(1 for _ in self.answers.feed(text)) if self.is_text else 0
+        self.owed = max(0, self.owed - count)
+        return count

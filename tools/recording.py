@@ -13,14 +13,15 @@ ODD, MOST_WARNINGS = {0x80: "the binary protocol", 0x16: "TLS"}, 20
 
 
 class Recording:
-    """What was recorded so far, in files; `fault` says why nothing more can be.
+    """What was recorded so far, in files; `fault` says why nothing more can be. With `has_ends` the capture has a
+    segment without bytes where an answer is whole.
 
     A connection gets the next number or, when there are no more, that of the connection that closed first, for its next
     session.
     """
 
-    def __init__(self, files, say):
-        self.files, self.say, self.fault = files, say, None
+    def __init__(self, files, say, has_ends=False):
+        self.files, self.say, self.fault, self.has_ends = files, say, None, has_ends
         self.capture, self.spool = Growing(files.capture.file), Growing(files.spool)
         self.sessions, self.closed, self.paces = [], deque(), {}
         self.done = self.commands = self.missing = self.sent_bytes = self.answered_bytes = self.odd = 0
@@ -81,8 +82,10 @@ class Recording:
         """Keeps what came back. Gives whether it was kept."""
         if not self.write(self.spool.segment, number, text):
             return False
-        self.paces[number].heard(text)
+        count = self.paces[number].heard(text)
         self.answered_bytes += len(text)
+        if count and self.has_ends and not self.fault and self.has_room(SEGMENT.size * count):
+            self.write(self.capture.empty, number, count)
         return True
 
     def has_room(self, length):
