@@ -7,6 +7,7 @@ What needs the program, tcpdump or memcached is left out, with a line, where the
 """
 import contextlib
 import os
+import random
 import re
 import shutil
 import signal
@@ -18,6 +19,7 @@ import time
 from traffic import NAME, TOP, all_of, connected, memcached, module_of, same, take
 import packets
 from formats import Close, Part, capture, close, read_capture, read_replies, segment, sessions
+from meaning import framed
 from packets import expected, frame_of, said
 
 PROGRAM = os.path.realpath(sys.argv[1] if len(sys.argv) > 1 else os.path.join(TOP, "crates/zygos/out/zygos"))
@@ -209,6 +211,96 @@ def answers_to_lost_requests():
              (ran.returncode, read_replies(Part("replies", ran.stdout)).outputs[number].text))
 
 
+def acknowledging(frame, number):
+    """A frame that expects the byte of this number next."""
+    return frame[:42] + struct.pack(">I", number % 2**32) + frame[46:]
+
+
+class Talk:
+    """The frames of a client that waits for its answers, with a server."""
+
+    def __init__(self, draw, flow):
+        self.draw, self.flow, self.frames = draw, flow, []
+        self.sent, self.back = draw.choice([100, 2**32 - 500]), draw.choice([500, 2**32 - 300])
+        self.frames += [frame_of(b"", self.sent - 1, 2, flow), acknowledging(answer_of(b"", self.back - 1, flow, 18), self.sent)]
+
+    def pieces(self, text):
+        at = self.draw.choice([0, 0, self.draw.randrange(len(text) - 1)])
+        return [piece for piece in (text[:at], text[at:]) if piece]
+
+    def ask(self, request, answer):
+        for piece in self.pieces(request):
+            self.frames.append(acknowledging(frame_of(piece, self.sent, 24, self.flow), self.back))
+            self.sent += len(piece)
+        for piece in self.pieces(answer) if answer else ():
+            self.frames.append(acknowledging(answer_of(piece, self.back, self.flow), self.sent))
+            self.back += len(piece)
+        if self.draw.random() < 0.3:
+            self.frames.append(acknowledging(frame_of(b"", self.sent, 16, self.flow), self.back))
+
+
+def drawn_talk(draw):
+    """Frames of a client, some of them lost, and for each command its answer."""
+    talk, answers = Talk(draw, CLIENTS[0]), {}
+    for number in range(60):
+        key, kind = b"k%d" % number, draw.randrange(6)
+        request, answer = b"get %s\r\n" % key, b"VALUE %s 0 6\r\nget a\n\r\nEND\r\n" % key
+        if kind == 0:
+            request, answer = b"set %s 0 0 7\r\nget b\r\n\r\n" % key, b"STORED\r\n"
+        elif kind == 1:
+            request, answer = b"set %s 0 0 1 noreply\r\nx\r\n" % key, b""
+        answers[request] = answer
+        talk.ask(request, answer)
+    lost = draw.choice([0.01, 0.05, 0.2])
+    return [frame for frame in talk.frames[:2]] + [frame for frame in talk.frames[2:] if draw.random() > lost], answers
+
+
+def resumed():
+    """With --resume sessions begin anew after losses, and each answer is that of its command."""
+    begun = kept = 0
+    for number in range(150):
+        frames, answers = drawn_talk(random.Random(number))
+        reading, _, _ = TOOL.look(packets.file_of(*frames), "-", 11211, resumes=True)
+        found = reading.flows.sessions[number_of(CLIENTS[0])]
+        begun, once = begun + len(found) - 1, set()
+        for session in found:
+            requests = [frame for _, frame in framed(session.requests.text())]
+            wanted = b"".join(answers.get(request, b"?") for request in requests)
+            got = TOOL.answered(session)
+            kept += len(requests)
+            same(f"talk {number}: each request once", True, once.isdisjoint(requests))
+            once.update(requests)
+            same(f"talk {number}: the answers of a session", True, wanted.startswith(got))
+    same("sessions are begun anew", True, begun > 500 and kept > 0.8 * 60 * 150)
+
+
+def resume():
+    """What is said, and written, of a session that begins anew: after a lost request, and after a lost answer."""
+    draw = random.Random(0)
+    draw.choice, draw.random = lambda some: some[0], lambda: 1
+    talk, number = Talk(draw, CLIENTS[0]), number_of(CLIENTS[0])
+    for key in b"abcde":
+        talk.ask(b"get %c\r\n" % key, b"VALUE %c 0 1\r\nx\r\nEND\r\n" % key)
+    told = [b"VALUE %c 0 1\r\nx\r\nEND\r\n" % key for key in b"abcde"]
+    for name, lost, sent, back, lines in (
+        ("request", 4, [b"get a\r\n", b"get c\r\nget d\r\nget e\r\n"], [told[0], b"".join(told[2:])],
+         ["  session 0: cut after byte 7, sequence number 107: 7 bytes lost, 0 bytes after that left out, about 0 requests",
+          "  1 stream cut, 0 bytes left out", "  session 1: it begins anew, after a loss", "  1 session begun anew after a loss"]),
+        ("answer", 5, [b"get a\r\nget b\r\n", b"get c\r\nget d\r\nget e\r\n"], [told[0], b"".join(told[2:])],
+         ["  session 0: 1 request without a whole reply", "  1 request without a whole reply",
+          "  session 0: the server's side: cut after byte 21, sequence number 521: 21 bytes lost, 0 bytes after that left out"]),
+    ):
+        given = packets.file_of(*(frame for at, frame in enumerate(talk.frames) if at != lost))
+        ran = run("--resume", "--in-order", "-", given=given)
+        same(f"the capture without a {name}", (1, {(number, at): text for at, text in enumerate(sent)}),
+             (ran.returncode, streams(ran.stdout)[2]))
+        same(f"what is said without a {name}", [], [line for line in lines if line not in ran.stderr.decode().split("\n")])
+        outputs = read_replies(Part("replies", run("--resume", "--replies", "-", given=given).stdout)).outputs
+        same(f"the replies without a {name}", back, [output.text for output in outputs if output.connection == number])
+    given = packets.file_of(*talk.frames)
+    same("nothing lost", run("--in-order", "-", given=given).stdout, run("--in-order", "-", "--resume", given=given).stdout)
+
+
 def nothing_written():
     """A file that is refused, or has nothing for the port, writes nothing."""
     for given in (packets.file_of(frame_of(b"a"), frame_of(b"x", kind=b"\x81\x00")), packets.file_of()):
@@ -279,4 +371,4 @@ def real():
 
 
 if __name__ == "__main__":
-    all_of(messages, words, model, order, ends, answers, answers_to_lost_requests, nothing_written, real)
+    all_of(messages, words, model, order, ends, answers, answers_to_lost_requests, resumed, resume, nothing_written, real)

@@ -162,7 +162,7 @@ def few_files():
         recorder = Recorder(server.place, "--connections", "30",
                             preexec_fn=lambda: resource.setrlimit(resource.RLIMIT_NOFILE, (80, 80)))
         at_once([lambda: same("a client that waits", b"OK\r\n", talk(recorder.place, b"wait 0.05\r\n"))] * 30)
-        same("few files", (0, "tools/record: no more files may be open: clients wait\n"
+        same("few files", (0, "tools/record: no more files may be open (ulimit -n): clients wait\n"
                            + recorded(30, 30, 330, 120)), recorder.end(None))
 
 
@@ -280,7 +280,8 @@ def server_restarts():
     with Server(("127.0.0.1", port)):
         same("a client after it is back", ANSWERED, talk(recorder.place, ASKED))
         status, said = recorder.end()
-    same("the lines of a restart", (0, f"tools/record: {name}: Connection refused: clients are turned away\n"
+    same("the lines of a restart", (0, f"tools/record: {name}: Connection refused: clients are turned away until it is there;"
+                                    " --server names it\n"
                                     f"tools/record: {name}: connected again; clients turned away: 1\n"
                                     + recorded(2, 4, 2 * len(ASKED), 2 * len(ANSWERED))), (status, said))
     same("the recording of a restart", ({(0, 0): ASKED, (1, 0): ASKED}, {(0, 0): ANSWERED, (1, 0): ANSWERED}),
@@ -351,6 +352,9 @@ def killed():
     says("a start over it", "my.replies.spool: left by a recording that did not end; complete that with --repair",
          "my.cap", "my.replies")
     kept = {name: open(name, "rb").read() for name in os.listdir(".")}
+    ran = subprocess.run([os.path.join(TOP, "tools/top"), "my.cap"], capture_output=True, timeout=300, check=False)
+    same("what a tool says of its capture", f"tools/top: my.cap: capture: truncated at {len(kept['my.cap'])}; if it was"
+         " left by a recording that was killed, tools/record --repair completes it\n", ran.stderr.decode())
     both = {(0, 0): ASKED, (1, 0): ASKED}, {(0, 0): ANSWERED, (1, 0): ANSWERED}
     for cut, spoiled, tail in ((0, both, ""), (3, cut_of(both, 0, 3), f", {len(ASKED) - 3} of the {len(ASKED)} bytes of"
                                                                       " the last segment")):
@@ -461,7 +465,7 @@ def before_it_begins():
         file.write(b"old")
     with Server() as server:
         listen = server.place
-        says("a place that is taken", f"{listen}: Address already in use", "--over", "--listen", listen, "my.cap",
+        says("a place that is taken", f"{listen}: Address already in use; --listen names another place", "--over", "--listen", listen, "my.cap",
              "my.replies")
         if not listen.startswith("[127"):
             fail("the place of a server", listen)

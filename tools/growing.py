@@ -5,10 +5,8 @@ was left while it grew is whole up to its last record, and can be completed.
 """
 import os
 
-from formats import (END, MOST_CONNECTIONS, MOST_FILE, SEGMENT, Fault, Part, Segment, capture_head, capture_records,
-                     capture_start, close)
-
-GROWING = 2, MOST_CONNECTIONS
+from formats import (END, GROWING, MOST_CONNECTIONS, MOST_FILE, SEGMENT, Fault, Part, Segment, capture_head,
+                     capture_records, capture_start, close)
 
 
 def write_at(file, text, place):
