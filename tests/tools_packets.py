@@ -164,10 +164,12 @@ def ends():
     wanted = [(first, b"get a\r\nget b\r\nset c 0 0 1 noreply\r\n"), (second, b"get d\r\n"), (first, b""),
               (first, b"z\r\nget"), (second, b""), (first, b" e\r\n"), (first, b""), (first, b""), None,
               (first, b"get f\r\n"), (first, b"")]
-    made = capture(max(first, second) + 1, [close(first) if record is None else segment(*record) for record in wanted], 2)
+    records = [close(first) if record is None else segment(*record) for record in wanted]
+    made = capture(max(first, second) + 1, records, 2)
     given = timed(*enumerate(frames))
     same("ends", made, run("--in-order", "-", "--ends", given=given).stdout)
-    same("streams with ends", *(streams(run("--in-order", "-", *words, given=given).stdout) for words in ((), ("--ends",))))
+    same("streams with ends", *(streams(run("--in-order", "-", *words, given=given).stdout)
+                                for words in ((), ("--ends",))))
     lost = timed(*((at, frame) for at, frame in enumerate(frames) if at != 6))
     same("ends after a lost answer", made.replace(segment(first, b"") * 2, b"").replace(segment(first, b""), b"", 1),
          run("--in-order", "-", "--ends", given=lost).stdout)
@@ -222,7 +224,8 @@ class Talk:
     def __init__(self, draw, flow):
         self.draw, self.flow, self.frames = draw, flow, []
         self.sent, self.back = draw.choice([100, 2**32 - 500]), draw.choice([500, 2**32 - 300])
-        self.frames += [frame_of(b"", self.sent - 1, 2, flow), acknowledging(answer_of(b"", self.back - 1, flow, 18), self.sent)]
+        self.frames += [frame_of(b"", self.sent - 1, 2, flow),
+                        acknowledging(answer_of(b"", self.back - 1, flow, 18), self.sent)]
 
     def pieces(self, text):
         at = self.draw.choice([0, 0, self.draw.randrange(len(text) - 1)])
@@ -282,23 +285,25 @@ def resume():
     for key in b"abcde":
         talk.ask(b"get %c\r\n" % key, b"VALUE %c 0 1\r\nx\r\nEND\r\n" % key)
     told = [b"VALUE %c 0 1\r\nx\r\nEND\r\n" % key for key in b"abcde"]
+    cut = "cut after byte {}, sequence number {}: {} bytes lost, 0 bytes after that left out"
     for name, lost, sent, back, lines in (
         ("request", 4, [b"get a\r\n", b"get c\r\nget d\r\nget e\r\n"], [told[0], b"".join(told[2:])],
-         ["  session 0: cut after byte 7, sequence number 107: 7 bytes lost, 0 bytes after that left out, about 0 requests",
-          "  1 stream cut, 0 bytes left out", "  session 1: it begins anew, after a loss", "  1 session begun anew after a loss"]),
+         ["  session 0: " + cut.format(7, 107, 7) + ", about 0 requests", "  1 stream cut, 0 bytes left out",
+          "  session 1: it begins anew, after a loss", "  1 session begun anew after a loss"]),
         ("answer", 5, [b"get a\r\nget b\r\n", b"get c\r\nget d\r\nget e\r\n"], [told[0], b"".join(told[2:])],
          ["  session 0: 1 request without a whole reply", "  1 request without a whole reply",
-          "  session 0: the server's side: cut after byte 21, sequence number 521: 21 bytes lost, 0 bytes after that left out"]),
+          "  session 0: the server's side: " + cut.format(21, 521, 21)]),
     ):
         given = packets.file_of(*(frame for at, frame in enumerate(talk.frames) if at != lost))
         ran = run("--resume", "--in-order", "-", given=given)
         same(f"the capture without a {name}", (1, {(number, at): text for at, text in enumerate(sent)}),
              (ran.returncode, streams(ran.stdout)[2]))
-        same(f"what is said without a {name}", [], [line for line in lines if line not in ran.stderr.decode().split("\n")])
+        said = ran.stderr.decode().split("\n")
+        same(f"what is said without a {name}", [], [line for line in lines if line not in said])
         outputs = read_replies(Part("replies", run("--resume", "--replies", "-", given=given).stdout)).outputs
         same(f"the replies without a {name}", back, [output.text for output in outputs if output.connection == number])
     given = packets.file_of(*talk.frames)
-    same("nothing lost", run("--in-order", "-", given=given).stdout, run("--in-order", "-", "--resume", given=given).stdout)
+    same("nothing lost", *(run("--in-order", "-", *words, given=given).stdout for words in ((), ("--resume",))))
 
 
 def nothing_written():
@@ -371,4 +376,5 @@ def real():
 
 
 if __name__ == "__main__":
-    all_of(messages, words, model, order, ends, answers, answers_to_lost_requests, resumed, resume, nothing_written, real)
+    all_of(messages, words, model, order, ends, answers, answers_to_lost_requests, resumed, resume, nothing_written,
+           real)

@@ -9,7 +9,8 @@ import signal
 import subprocess
 import sys
 
-from traffic import NAME, TOP, Recorder, Server, all_of, at_once, fail, files_of, free_port, memcached, same, talk, until
+from traffic import (NAME, TOP, Recorder, Server, all_of, at_once, fail, files_of, free_port, memcached, same, talk,
+                     until)
 from formats import Part, capture, close, pieces, read_replies, replies, segment, sessions
 
 PROGRAM = os.path.realpath(sys.argv[1] if len(sys.argv) > 1 else os.path.join(TOP, "crates/zygos/out/zygos"))
@@ -122,8 +123,8 @@ def tabs():
 
 
 def swaps(first):
-    """Commands of a client that compares and swaps, each with its answer, for a server whose uniques begin after `first`.
-    The last two name a unique of no item, and one that the key had before."""
+    """Commands of a client that compares and swaps, each with its answer, for a server whose uniques begin after
+    `first`. The last two name a unique of no item, and one that the key had before."""
     return [(b"set a 0 0 1\r\nx\r\n", b"STORED\r\n"), (b"set b 0 0 1\r\nx\r\n", b"STORED\r\n"),
             (b"gets a b\r\n", b"VALUE a 0 1 %d\r\nx\r\nVALUE b 0 1 %d\r\nx\r\nEND\r\n" % (first + 1, first + 2)),
             (b"cas a 0 0 1 %d\r\ny\r\n" % (first + 1), b"STORED\r\n"), (b"mg b c\r\n", b"HD c%d\r\n" % (first + 2)),
@@ -139,8 +140,7 @@ def uniques():
     with open("recorded", "wb") as file:
         file.write(replies([told]))
     for name, size in (("by command", None), ("in pieces", 7), ("byte by byte", 1)):
-        texts = [text for text, _ in swaps(77)] if size is None else [asked[at : at + size] for at in range(0, len(asked), size)]
-        given = capture(1, [segment(0, text) for text in texts])
+        given = capture(1, [segment(0, text) for text, _ in swaps(77)] if size is None else pieces(0, asked, size))
         for words in ((), ("--in-order",)):
             with Server(unique=1000) as server:
                 same(f"uniques, {name}", (replies([answered]), "tools/play: 1 connections, 10 commands answered\n"
@@ -150,7 +150,7 @@ def uniques():
     with Server(unique=1000) as server:
         stored = answered.replace(b"EXISTS\r\n", b"STORED\r\n", 1)
         same("uniques without a recording", (replies([stored]), "tools/play: 1 connections, 10 commands answered\n"
-             "tools/play: 4 uniques translated, 0 sent as they are\n"), played("uniques without a recording", server, given))
+             "tools/play: 4 uniques translated, 0 sent as they are\n"), played("no recording", server, given))
     with Server(unique=1000) as server:
         same("uniques as they are", (4, True), (lambda text, said: (text.count(b"EX"), "uniques" not in said))(
             *played("uniques as they are", server, given, "--as-is")))
@@ -160,12 +160,12 @@ def uniques():
 
 def uniques_of_others():
     """A `cas` names a unique that another connection, or another session, was shown; those of its own come first."""
-    sent = [(0, b"set a 0 0 1\r\nx\r\n"), (0, b"gets a\r\n"), (1, b"cas a 0 0 1 8\r\ny\r\n"), (1, b"gets a\r\n"), (1, None),
-            (1, b"cas a 0 0 1 9\r\nz\r\nquit\r\n"), (0, b"cas a 0 0 1 9\r\nz\r\n")]
+    sent = [(0, b"set a 0 0 1\r\nx\r\n"), (0, b"gets a\r\n"), (1, b"cas a 0 0 1 8\r\ny\r\n"), (1, b"gets a\r\n"),
+            (1, None), (1, b"cas a 0 0 1 9\r\nz\r\nquit\r\n"), (0, b"cas a 0 0 1 9\r\nz\r\n")]
     given = capture(2, [close(c) if text is None else segment(c, text) for c, text in sent], 2)
     shows = b"VALUE a 0 1 %d\r\n%s\r\nEND\r\n"
-    outputs = [[[b"STORED\r\n" + shows % (u, b"x") + b"EXISTS\r\n"], [b"STORED\r\n" + shows % (u + 1, b"y"), b"STORED\r\n"]]
-               for u in (8, 501)]
+    outputs = [[[b"STORED\r\n" + shows % (unique, b"x") + b"EXISTS\r\n"],
+                [b"STORED\r\n" + shows % (unique + 1, b"y"), b"STORED\r\n"]] for unique in (8, 501)]
     with open("recorded", "wb") as file:
         file.write(sessions(outputs[0]))
     for words in (("--recorded", "recorded"), ()):
@@ -176,7 +176,8 @@ def uniques_of_others():
 
 def interrupted():
     """Ctrl-C ends it, and what came back is written."""
-    given = capture(2, [segment(0, b"mn\r\n"), segment(0, b"hush\r\n"), segment(1, b"hush\r\n"), close(1), segment(1, b"mn\r\n")], 2)
+    given = capture(2, [segment(0, b"mn\r\n"), segment(0, b"hush\r\n"), segment(1, b"hush\r\n"), close(1),
+                        segment(1, b"mn\r\n")], 2)
     with open("my.cap", "wb") as file:
         file.write(given)
     with Server() as server:
@@ -204,7 +205,8 @@ def faulty_servers():
           capture(2, [segment(0, b"mn\r\nquitting\r\nmn\r\n"), segment(1, b"mn\r\n")]), status=1,
           said="tools/play: connection 0: closed by the server\ntools/play: 2 connections, 2 commands answered\n"
           "tools/play: 2 commands were not answered\ntools/play: 1 sessions ended too early\n"
-          "tools/play: 1 of them the server closed: if it allows fewer connections, --connections 50 has no more at a time\n")
+          "tools/play: 1 of them the server closed: if it allows fewer connections, --connections 50 has no more at a"
+          " time\n")
 
 
 def other_sockets():

@@ -124,8 +124,8 @@ def later_sessions():
         first.close()
         status, said = recorder.end()
         said = re.sub("[0-9]+ connections were", "some were", said)
-        same("its lines", (1, "tools/record: 2 connections are open, the most of a recording: others are passed on and not"
-                           " recorded\ntools/record: some were passed on and not recorded\n"
+        same("its lines", (1, "tools/record: 2 connections are open, the most of a recording: others are passed on and"
+                           " not recorded\ntools/record: some were passed on and not recorded\n"
                            + recorded(3, 4, 8 + len(ASKED), 8 + len(ANSWERED))), (status, said))
         same("its files", ({(0, 0): b"mn\r\n", (1, 0): b"mn\r\n", (1, 1): ASKED},
                            {(0, 0): b"MN\r\n", (1, 0): b"MN\r\n", (1, 1): ANSWERED}), files_of())
@@ -136,8 +136,9 @@ def ends_of_answers():
     with Server() as server:
         recorder = Recorder(server.place, "--ends")
         with connected(recorder.place) as one, connected(recorder.place) as other:
-            texts = ((one, b"wait 0.2\r\n", b""), (other, ASKED[:5], b""), (other, ASKED[5:], ANSWERED), (one, b"", b"OK\r\n"),
-                     (one, b"set b 0 0 1 noreply\r\nx\r\nmg c v q\r\nmg b v q\r\nmn\r\n", b"VA 1\r\nx\r\nMN\r\n"))
+            texts = ((one, b"wait 0.2\r\n", b""), (other, ASKED[:5], b""), (other, ASKED[5:], ANSWERED),
+                     (one, b"", b"OK\r\n"), (one, b"set b 0 0 1 noreply\r\nx\r\nmg c v q\r\nmg b v q\r\nmn\r\n",
+                                               b"VA 1\r\nx\r\nMN\r\n"))
             for client, sent, back in texts:
                 client.sendall(sent)
                 same(f"the answers to {sent}", back, take(client, len(back)))
@@ -153,7 +154,8 @@ def ends_of_answers():
         wanted = [record for (client, asked, _), count in zip(texts, ends)
                   for record in [*([(number[client], asked)] if asked else []), *[(number[client], b"")] * count]]
         with open("my.cap", "rb") as file:
-            same("where answers end", wanted, [tuple(one) for one in read_capture(Part("capture", file.read())).records])
+            read = read_capture(Part("capture", file.read()))
+        same("where answers end", wanted, [tuple(record) for record in read.records])
 
 
 def few_files():
@@ -280,8 +282,8 @@ def server_restarts():
     with Server(("127.0.0.1", port)):
         same("a client after it is back", ANSWERED, talk(recorder.place, ASKED))
         status, said = recorder.end()
-    same("the lines of a restart", (0, f"tools/record: {name}: Connection refused: clients are turned away until it is there;"
-                                    " --server names it\n"
+    same("the lines of a restart", (0, f"tools/record: {name}: Connection refused: clients are turned away until"
+                                    " it is there; --server names it\n"
                                     f"tools/record: {name}: connected again; clients turned away: 1\n"
                                     + recorded(2, 4, 2 * len(ASKED), 2 * len(ANSWERED))), (status, said))
     same("the recording of a restart", ({(0, 0): ASKED, (1, 0): ASKED}, {(0, 0): ANSWERED, (1, 0): ANSWERED}),
@@ -377,8 +379,9 @@ def killed():
 
 def unanswered():
     """How many commands --repair finds without an answer, over connections that close."""
-    asked = [segment(0, b"get a\r\nget b\r\nset c 0 0 1 noreply\r\nx\r\n"), segment(1, b"mg a v q\r\nmg b v q\r\nmn\r\nget"),
-             close(0), segment(0, b"get d\r\nget e\r\n"), segment(1, b""), close(0), segment(2, b"\x80\nget a\r\n"),
+    asked = [segment(0, b"get a\r\nget b\r\nset c 0 0 1 noreply\r\nx\r\n"),
+             segment(1, b"mg a v q\r\nmg b v q\r\nmn\r\nget"), close(0), segment(0, b"get d\r\nget e\r\n"),
+             segment(1, b""), close(0), segment(2, b"\x80\nget a\r\n"),
              segment(3, b"mg a v\r\nmg b v\r\nset a 0 0 1\r\n"), segment(0, b"get f\r\nquit\r\nget g\r\n")]
     told = [segment(1, b"VA 1\r\nx"), segment(0, b"END\r\nVALUE b 0 1\r\nx\r\n"), segment(1, b"\r\nMN\r\n"), close(0),
             segment(0, b"END\r\nEND\r\nERROR\r\n"), close(0), segment(3, b"EN\r\n")]
@@ -465,8 +468,8 @@ def before_it_begins():
         file.write(b"old")
     with Server() as server:
         listen = server.place
-        says("a place that is taken", f"{listen}: Address already in use; --listen names another place", "--over", "--listen", listen, "my.cap",
-             "my.replies")
+        says("a place that is taken", f"{listen}: Address already in use; --listen names another place", "--over",
+             "--listen", listen, "my.cap", "my.replies")
         if not listen.startswith("[127"):
             fail("the place of a server", listen)
     says("a name without an address", "nowhere.invalid:1: no address has this name", "--over", "--server",

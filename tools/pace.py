@@ -153,12 +153,12 @@ class Pending:
     def take(self, answer):
         """What was noted of the command that an answer belongs to; None where there is none."""
         waiting = self.commands
-        while waiting and waiting[0].command.answered == PERHAPS and not can_answer(answer.word, waiting[0].command.verb):
-            waiting.popleft()
-        if not waiting:
-            return None
-        self.sure -= waiting[0].command.answered == ALWAYS
-        return waiting.popleft()
+        while waiting:
+            sent = waiting.popleft()
+            if sent.command.answered == ALWAYS or can_answer(answer.word, sent.command.verb):
+                self.sure -= sent.command.answered == ALWAYS
+                return sent
+        return None
 
     def clear(self):
         """Waits no more for answers; gives how many were to come."""

@@ -127,7 +127,8 @@ def refusal(reading, begin, name):
         return None
     none = f"no request goes to port {reading.port}"
     if reading.answering:
-        return f"{none}, and only what comes from it was recorded\n  record both ways, as by the filter port {reading.port}"
+        return f"{none}, and only what comes from it was recorded\n" \
+               f"  record both ways, as by the filter port {reading.port}"
     ports = ", ".join(f"{port} ({several(count, 'packet')})" for port, count in
                       (reading.asking or reading.ports).most_common(MOST_PORTS))
     if reading.asking:

@@ -111,7 +111,8 @@ class Proxy:
         self.dials.discard(dial)
         dial.client.close()
         if not self.turned_away:
-            self.screen.say(f"{self.server}: {os.strerror(fault)}: clients are turned away until it is there; --server names it")
+            self.screen.say(f"{self.server}: {os.strerror(fault)}: clients are turned away until it is there;"
+                            " --server names it")
         self.turned_away += 1
 
     # ---- links
