@@ -19,6 +19,7 @@ import time
 from traffic import (TOP, Recorder, Server, all_of, at_once, big, connected, fail, files_of, has_size, memcached,
                      rest_of, same, take, talk, until)
 from formats import Part, capture_start, close, read_capture, segment
+from screen import Progress
 
 SET, GET = b"set %d 0 0 5\r\nvalue\r\n", b"get %d\r\n"
 ASKED = b"set a 0 0 1\r\nx\r\nget a\r\n"
@@ -514,6 +515,41 @@ def terminal():
         os.close(below)
 
 
+class Terminal:
+    """A terminal, by the lines that are shown on it."""
+
+    def __init__(self):
+        self.is_terminal, self.lines = True, []
+
+    def show(self, line):
+        self.lines.append(line)
+
+
+def joining():
+    """What is said while the replies are joined: on a terminal each second, elsewhere once, if they are many."""
+    with Server() as server:
+        recorder = Recorder(server.place, tool=patched("import screen; screen.MUCH = 0"))
+        talk(recorder.place, ASKED)
+        same("many replies", (0, "tools/record: joining 0 MB of replies\n" + recorded(1, 2, len(ASKED), len(ANSWERED))),
+             recorder.end())
+    shown = Terminal()
+    progress = Progress(shown, "joining", 10)
+    for seconds in (-1, 1, -1):
+        progress.next = time.monotonic() + seconds
+        progress(3)
+    same("how far it is", ["joining: 30 %", "joining: 90 %"], shown.lines)
+
+
+def quits():
+    """A `quit` is no command, as for tools/top."""
+    with Server() as server:
+        recorder = Recorder(server.place)
+        talk(recorder.place, b"mn\r\nmn\r\nquit\r\n")
+        same("a quit", (0, recorded(1, 2, 14, 8)), recorder.end())
+    ran = subprocess.run([os.path.join(TOP, "tools/top"), "my.cap"], capture_output=True, timeout=300, check=False)
+    same("a quit, by top", b"capture: 2 commands, 1 connections, 0 keys\n", ran.stdout[:43])
+
+
 def real_memcached():
     with memcached() as place:
         if place is None:
@@ -531,6 +567,6 @@ def real_memcached():
 
 if __name__ == "__main__":
     all_of(before_it_begins, several_clients, no_client, two_hundred, other_sockets, ends_of_answers, later_sessions,
-           few_files,
-           standard_output, gives_up, half_closed, slow_reader, binary, server_restarts, signals,
-           ends_with_a_slow_reader, closed_errors, killed, unanswered, full, terminal, real_memcached)
+           few_files, standard_output, gives_up, half_closed, slow_reader, binary, server_restarts, signals,
+           ends_with_a_slow_reader, closed_errors, killed, unanswered, full, terminal, joining, quits,
+           real_memcached)
