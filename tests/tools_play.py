@@ -9,8 +9,8 @@ import signal
 import subprocess
 import sys
 
-from traffic import (NAME, TOP, Recorder, Server, all_of, at_once, fail, files_of, free_port, memcached, same, talk,
-                     until)
+from traffic import (NAME, TOP, Recorder, Server, all_of, at_once, connected, fail, files_of, free_port, memcached,
+                     same, take, talk, until)
 from formats import Part, capture, close, pieces, read_replies, replies, segment, sessions
 
 PROGRAM = os.path.realpath(sys.argv[1] if len(sys.argv) > 1 else os.path.join(TOP, "crates/zygos/out/zygos"))
@@ -264,6 +264,36 @@ def alike(name, one, other):
     same(name, (0, b"same"), (ran.returncode, ran.stdout[:4]))
 
 
+def swapped(place):
+    """A client of a memcached learns uniques and names them; gives whether each `cas` stored."""
+    stored = []
+    with connected(place) as one:
+        for number in range(20):
+            one.sendall(b"set k%d 0 0 1\r\nx\r\ngets k%d\r\n" % (number, number))
+            text = b""
+            while not text.endswith(b"END\r\n"):
+                text += one.recv(1000)
+            one.sendall(b"cas k%d 0 0 1 %s\r\ny\r\n" % (number, re.search(rb"1 ([0-9]+)\r\n", text)[1]))
+            stored.append(take(one, 8) == b"STORED\r\n")
+    return all(stored)
+
+
+def uniques_of_memcached():
+    """A memcached is recorded whose uniques differ from those of another one, to which the capture is played."""
+    with memcached() as place:
+        if place is None:
+            return
+        talk(place, b"set a 0 0 1\r\nx\r\n" * 7)
+        recorder = Recorder(place)
+        same("swaps of a memcached", True, swapped(recorder.place))
+        recorder.end()
+    for words in (("--recorded", "my.replies"), ()):
+        with memcached() as place:
+            ran = run("play", "my.cap", "--server", place, *words)
+        same(f"swaps that are played {words}", (0, 40, True), (ran.returncode, ran.stdout.count(b"STORED"),
+             b"20 uniques translated, 0 sent as they are" in ran.stderr))
+
+
 def against_memcached():
     """A memcached is recorded; the program serves the capture alike, the run is certified, and it is played alike."""
     if not os.access(PROGRAM, os.X_OK):
@@ -298,4 +328,4 @@ def against_memcached():
 if __name__ == "__main__":
     all_of(words, orders, in_order, later_sessions, many, large, quiet, tabs, uniques, uniques_of_others,
            interrupted, faulty_servers, other_sockets, closed_pipe,
-           against_memcached)
+           uniques_of_memcached, against_memcached)
