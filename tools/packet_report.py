@@ -2,6 +2,7 @@
 from collections import Counter
 
 import recorded
+from answers import Answers, groups
 from meaning import Framer, framed
 from pace import ODD, Pace
 from packet_faults import told
@@ -38,6 +39,20 @@ def cut_of(stream, sent=0):
     return where, left, sum(1 for _, text in rest for command, _ in framed(bytes(text)) if command.verb != "fault")
 
 
+def answered(session):
+    """What the server answered to the requests of a session; if these are cut, to those that are kept."""
+    text = session.answers.text() if session.answers else b""
+    if not lost_of(session.requests, session.sent):
+        return text
+    found = Answers(text)
+    for group in groups(session.requests.text()):
+        if len(group) > 1:
+            found.take_group(group)
+        else:
+            found.take()
+    return text[: found.at]
+
+
 class Report:
     """The lines on what was read, and its sums."""
 
@@ -71,7 +86,7 @@ class Report:
         text = stream.text()
         pace.sent(text)
         if self.with_answers:
-            pace.heard(session.answers.text() if session.answers else b"")
+            pace.heard(answered(session))
         if not pace.is_text:
             notes.append(f"warning: its first byte is {text[0]:#x}, as in {ODD[text[0]]}; "
                          "only text commands are served")
