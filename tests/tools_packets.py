@@ -277,6 +277,40 @@ def resumed():
     same("sessions are begun anew", True, begun > 500 and kept > 0.8 * 60 * 150)
 
 
+def drawn_pipeline(draw):
+    """Frames of a client that has up to four commands on their way, some of the frames lost, and for each its answer."""
+    talk, answers, asked, told = Talk(draw, CLIENTS[0]), {}, 0, 0
+    hits = [b"VALUE k%d 0 6\r\nget a\n\r\n" % number if draw.random() < 0.7 else b"" for number in range(80)]
+    texts = [(b"get k%d\r\n" % number, hit + b"END\r\n") for number, hit in enumerate(hits)]
+    while told < 80:
+        if asked < 80 and (asked == told or asked < told + 4 and draw.random() < 0.5):
+            talk.ask(texts[asked][0], b"")
+            asked += 1
+        else:
+            talk.frames.append(acknowledging(answer_of(texts[told][1], talk.back, talk.flow), talk.sent))
+            talk.back += len(texts[told][1])
+            told += 1
+    return talk.frames[:2] + [frame for frame in talk.frames[2:] if draw.random() > 0.04], dict(texts)
+
+
+def pipelines():
+    """With --resume, answers to requests before a session began anew are passed over. Only where a session has but a few
+    answers, and hardly a key in them, these may be of other requests."""
+    early = begun = wrong = 0
+    for number in range(150):
+        frames, answers = drawn_pipeline(random.Random(number))
+        reading, _, _ = TOOL.look(packets.file_of(*frames), "-", 11211, resumes=True)
+        for session in reading.flows.sessions[number_of(CLIENTS[0])]:
+            requests = [frame for _, frame in framed(session.requests.text())]
+            wanted = b"".join(answers.get(request, b"?") for request in requests)
+            got = TOOL.answered(session)
+            begun, early = begun + session.is_resumed, early + (session.early > 0)
+            if not wanted.startswith(got):
+                same(f"pipeline {number}: answers of other requests", True, got.count(b"END") < 4)
+                wrong += 1
+    same("answers are passed over, and seldom wrong ones left", (True, True), (early > 50, 0.05 * begun > wrong))
+
+
 def resume():
     """What is said, and written, of a session that begins anew: after a lost request, and after a lost answer."""
     draw = random.Random(0)
@@ -376,5 +410,5 @@ def real():
 
 
 if __name__ == "__main__":
-    all_of(messages, words, model, order, ends, answers, answers_to_lost_requests, resumed, resume, nothing_written,
+    all_of(messages, words, model, order, ends, answers, answers_to_lost_requests, resumed, pipelines, resume, nothing_written,
            real)

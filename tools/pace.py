@@ -10,13 +10,14 @@ CAN_BE_QUIET = (*STORAGE, b"incr", b"decr", b"delete", b"touch", b"flush_all", b
 # the commands whose flag `q` hides answers: how many words come before the flags, and which answers are hidden
 HIDDEN = {b"mg": (2, (b"EN",)), b"ms": (3, (b"HD",)), b"md": (2, (b"HD", b"NF")), b"ma": (2, (b"HD", b"NF"))}
 META_CODES = (b"HD", b"VA", b"EN", b"NS", b"EX", b"NF")
-CODES = (*META_CODES, b"ERROR", b"CLIENT_ERROR", b"SERVER_ERROR")
+ERRORS = (b"ERROR", b"CLIENT_ERROR", b"SERVER_ERROR")
+CODES = (*META_CODES, *ERRORS)
 # first bytes that are not those of text
 ODD = {0x80: "the binary protocol", 0x16: "TLS"}
 # the first words of lines after which an answer goes on
 LONG = (b"VALUE", b"STAT", b"ITEM")
-# the first words of lines that may show a unique, and how many words they have where they do not
-ITEMS = {b"VALUE": 4, b"VA": 2, b"HD": 1}
+# the first words of lines that name a key or may show a unique, and how many words they have where they do neither
+ITEMS = {b"VALUE": 1, b"VA": 2, b"HD": 1}
 # the commands that may name a unique
 NAMING = (b"cas", b"ms", b"md", b"ma")
 # what is kept of a line, in bytes
@@ -26,7 +27,7 @@ ALWAYS, PERHAPS, NEVER = "always", "perhaps", "never"
 
 # a command: its first word, when it is answered, the words of its line, and where it ends in the bytes that were fed
 Command = namedtuple("Command", "verb answered words end")
-# an answer: the first word of its last line, or VA, the words of its lines that may show a unique, and where it ends
+# an answer: the first word of its last line, or VA, the words of its lines with a key or a unique, and where it ends
 Answer = namedtuple("Answer", "word items end")
 
 

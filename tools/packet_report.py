@@ -39,9 +39,17 @@ def cut_of(stream, sent=0):
     return where, left, sum(1 for _, text in rest for command, _ in framed(bytes(text)) if command.verb != "fault")
 
 
+def early_of(session):
+    """Which answers of a session that begins anew are left out, as text."""
+    if not session.early:
+        return ""
+    why = "fit none of its requests" if session.is_misfit else "are of earlier requests"
+    return f"; {several(session.early, 'byte')} of the server {why}, and are left out"
+
+
 def answered(session):
     """What the server answered to the requests of a session; if these are cut, to those that are kept."""
-    text = session.answers.text() if session.answers else b""
+    text = session.answers.text()[session.early :] if session.answers else b""
     if not lost_of(session.requests, session.sent):
         return text
     found = Answers(text)
@@ -92,7 +100,7 @@ class Report:
                          "only text commands are served")
         count = sum(1 for _ in framer.feed(text))
         if session.is_resumed:
-            notes.append("it begins anew, after a loss")
+            notes.append("it begins anew, after a loss" + early_of(session))
             self.sums.update(resumed=1)
         elif stream.syn is None:
             notes.append("it began before the recording: its first bytes may be the rest of a request")

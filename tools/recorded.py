@@ -249,6 +249,7 @@ class Session:
         # how many bytes were sent, and how many came back, as the numbers of other packets show
         self.sent = self.heard = 0
         self.is_resumed = self.is_answered = False  # it began anew after a loss; what came last is of the server
+        self.early, self.is_misfit = 0, False  # how many bytes answer earlier requests; no answer fits its request
 
     def ends_with(self, packet):
         """Whether a packet begins the next session."""
@@ -320,6 +321,9 @@ class Flows:
         last = len(self.sessions[number]) - 1
         session = self.sessions[number][last]
         return Arrival(time, number, last, is_answer, (session.answers if is_answer else session.requests).size())
+
+    def settle(self):
+        """All packets were met."""
 
     def count(self):
         return max(self.sessions, default=-1) + 1
