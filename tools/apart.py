@@ -39,12 +39,14 @@ class Callers:
         return None
 
 
+# the first words of lines that may make an item on some server
+MAKING = (b"set", b"add", b"ms", b"ma")
+
+
 def stored_by(command, frame):
-    """The keys that a command may store; a faulty line may store in another server."""
+    """The keys of which a command may make items where there are none; a faulty line may do so on another server."""
     if command.verb == "fault":
         words = frame[: frame.index(b"\n")].split(None, 2)
-        return words[1:2] if words and words[0] in STORING else ()
-    return command.keys if command.value is not None else ()
-
-
-STORING = (b"set", b"add", b"replace", b"append", b"prepend", b"cas", b"ms", b"ma", b"incr", b"decr")
+        return words[1:2] if words and words[0] in MAKING else ()
+    makes = command.call in ("set", "add") or command.verb in ("set", "add")
+    return command.keys if makes and command.value is not None else ()
