@@ -11,10 +11,13 @@ import tempfile
 from checks import TOP, carry_out, fail, prints, run, same, says, written
 import drawn
 import plain
-from steps import by_commands
+from answers import answers
+from apart import Callers
+from causes import CAUSES, Causes
 from formats import Part, capture, close, journal, pieces, read_capture, replies, sessions
 from meaning import commands_of
 from model import text_of
+from steps import BOTH, ENDED, LEFT, by_answers, by_commands
 
 FIRST = os.path.join(TOP, "examples/first.replies")
 ITEM, OTHER = b"VALUE a 0 1\r\nx\r\nEND\r\n", b"VALUE a 0 1\r\ny\r\nEND\r\n"
@@ -277,6 +280,41 @@ def drawn_captures():
                      (exchange.one[1], exchange.other[1]))
 
 
+def edited(draw, text):
+    """An output with an answer left out, put in or changed, or cut off."""
+    found = list(answers(text))
+    at = draw.randrange(len(found))
+    return b"".join(draw.choice((
+        found[:at] + found[at + 1 :], [*found[:at], b"ERROR\r\n", *found[at:]], found[:at],
+        [*found[:at], b"SERVER_ERROR out of memory\r\n", *found[at + 1 :]], [*found[:at], found[at][:-1]])))
+
+
+def edited_outputs():
+    """Each answer of an edited output is in an exchange, and one edit is few differences; each has a cause."""
+    for number in range(200):
+        draw = random.Random(number)
+        made = plain.run_of(read_capture(Part("capture", drawn.drawn_capture(draw, 4))), 4)
+        streams = {output[:2]: made.streams[output[0]][output[1]] for output in made.outputs}
+        causes = Causes(Callers(streams))
+        for output in (output for output in made.outputs if output.text):
+            other = edited(draw, output.text)
+            causes.begin(output.connection, streams[output[:2]])
+            for pair in ((output.text, other), (other, output.text)):
+                for found in (list(by_commands(streams[output[:2]], *pair)), list(by_answers(*pair))):
+                    name = f"edited capture {number}, {output[:2]}"
+                    ends = [exchange for exchange in found if exchange.kind in (ENDED, LEFT)]
+                    sides = [b"".join(exchange[side][1] or b"" for exchange in found if exchange not in ends)
+                             for side in (-2, -1)]
+                    same(name, (True, True), tuple(text == joined or ends and text.startswith(joined) for text, joined in
+                                                   zip(pair, sides)))
+                    differ = [exchange for exchange in found if exchange.one[1] != exchange.other[1]]
+                    if len(differ) > 3:
+                        fail(name, f"{len(differ)} differences")
+                    for exchange in differ:
+                        if exchange.kind == BOTH and exchange.group:
+                            same(f"a cause: {name}", True, causes.differed(exchange) in CAUSES)
+
+
 def texts_of(made, connection, session):
     """The text of each command of a session, by the plain model."""
     before = sum(len(commands_of(stream)) for stream in made.streams[connection][:session])
@@ -307,4 +345,4 @@ def large():
 
 if __name__ == "__main__":
     carry_out(first_differences, one_answer_each, all_differences, silent_commands, not_recorded, items_from_before,
-              shared_keys, steps, uniques, other_causes, drawn_captures, large)
+              shared_keys, steps, uniques, other_causes, drawn_captures, edited_outputs, large)

@@ -119,7 +119,7 @@ class Steps:
             is_open = group is not None and not group.is_whole
             if (self.one.get() is None or self.other.get() is None) and not is_open:
                 yield self.ended(group)
-            elif group and len(group) > 1:
+            elif group and (len(group) > 1 or is_open):
                 self.groups.take()
                 yield self.exchange(BOTH, group, self.one.take_group(group), self.other.take_group(group))
             else:
