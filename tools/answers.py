@@ -54,10 +54,10 @@ def items(text):
 
 def without_uniques(text):
     """An answer with a mark in place of each unique that it shows; the numbers are each server's own."""
-    if text.startswith(b"VALUE "):
+    at = line_end(text, 0)
+    if text.startswith(b"VALUE ") and text.count(b" ", 0, at) > 3:
         return [(words[:3], len(words), value) for words, value in items(text)]
     if text.startswith((b"HD ", b"VA ")):
-        at = line_end(text, 0)
         return UNIQUE_MARK.sub(b" c", text[:at]) + text[at:]
     return text
 

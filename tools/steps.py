@@ -7,7 +7,7 @@ after which they are.
 import re
 from collections import deque, namedtuple
 
-from answers import FAULT, META, answers, groups, items, name_of, without_uniques
+from answers import FAULT, META, answers, groups, name_of, without_uniques
 from meaning import STORAGE
 
 # an exchange: the number of the first command and of the last, the name, the line of the first command and its group,
@@ -18,8 +18,9 @@ Exchange = namedtuple("Exchange", "kind first last name line group one other")
 # the number of answers that are left of the other; and all that is left, where both are never in step again
 BOTH, ALONE, ENDED, LEFT = "both", "alone", "ended", "left"
 
-# how many answers are looked at ahead, how many are passed over at most, and for how many the step is not asked again
-LOOK, MOST, SURE = 64, 8, 16
+# how many answers are looked at ahead, how many are passed over at most, and for how many the step is not asked again while
+# they fit their commands: for twice as many each time that both are in step
+LOOK, MOST, LEAST_SURE, MOST_SURE = 64, 8, 16, 1024
 # how far the answers of both are passed over, and how many commands
 Move = namedtuple("Move", "one other groups cost")
 
@@ -43,7 +44,7 @@ def fits(line, answer):
     words = line.split(None, 1)
     verb = words[0] if words else b""
     if verb in GETTING:
-        return answer.startswith(b"END") or any(found and found[0] in line.split() for found, _ in items(answer[:600]))
+        return answer.startswith(b"END") or answer.startswith(b"VALUE ") and answer[:400].split(b" ", 2)[1] in line.split()
     return verb in UNKNOWN or verb in FITTING and FITTING[verb].match(answer) is not None
 
 
@@ -102,7 +103,7 @@ class Steps:
 
     def __init__(self, one, other, stream=None):
         self.one, self.other = Ahead(answers(one)), Ahead(answers(other))
-        self.groups, self.sure = None if stream is None else Ahead(groups(stream)), 0
+        self.groups, self.sure, self.next_sure = None if stream is None else Ahead(groups(stream)), 0, LEAST_SURE
 
     def exchange(self, kind, group, one, other):
         """What is exchanged, and the next place."""
@@ -193,11 +194,11 @@ class Steps:
     def move(self):
         """What is passed over so that both are in step; a move of nothing where they are, and None if they never are."""
         stay = Move(0, 0, 0, 0)
-        if self.sure:
+        if self.sure and all(self.fits(self.line(0), side.get()) for side in (self.one, self.other)):
             return stay
         differ, odd, seen = self.ahead()
         if differ <= seen // (2 if self.groups else 8) and not odd:
-            self.sure = SURE
+            self.be_sure()
             return stay
         best, least = stay, self.cost(stay, LOOK * 4)
         for count in range(1, MOST + 1):
@@ -211,8 +212,14 @@ class Steps:
                 best, least = move, cost
         if best is stay and odd > seen and seen > 4:
             return None
-        self.sure = SURE if best is stay and not odd else 0
+        if best is stay and not odd:
+            self.be_sure()
+        else:
+            self.sure, self.next_sure = 0, LEAST_SURE
         return best
+
+    def be_sure(self):
+        self.sure, self.next_sure = self.next_sure, min(2 * self.next_sure, MOST_SURE)
 
     def moves(self):
         for count in range(1, MOST + 1):
