@@ -10,12 +10,13 @@ import sys
 import tempfile
 import threading
 
-from checks import NAME, TOP, carry_out, prints, run, same, says, written
+from checks import NAME, TOP, carry_out, fail, prints, run, same, says, written
 import drawn
 import plain
 import traffic
+from answers import answers
 from formats import Close, Part, capture, close, pieces, read_capture, read_replies, replies, segment, sessions
-from meaning import Framer
+from meaning import Framer, commands_of
 from model import Shard, calls, text_of
 
 PROGRAM = os.path.realpath(sys.argv[1] if len(sys.argv) > 1 else os.path.join(TOP, "crates/zygos/out/zygos"))
@@ -33,7 +34,7 @@ def warmed(sent, answered):
         paths = written(folder, sent=given, answered=file)
         ran = run("warm", paths["sent"], paths["answered"])
     if ran.returncode:
-        return ran.stderr.decode()
+        return ran.stderr.decode().replace(folder + "/", "")
     one, other = (read_capture(Part("capture", text)) for text in (given, ran.stdout))
     begin = len(other.records) - len(one.records)
     same("the records stay", (one.version, one.count, one.records), (other.version, other.count, other.records[begin:]))
@@ -90,8 +91,8 @@ def connections():
     same("the first one that came", {1: set_of(b"a", b"x")}, warmed(made, replies([hit, hit])))
     made = capture(1, [segment(0, b"get b\r\n"), close(0), segment(0, b"get a\r\n")], 2)
     same("a later session", {0: set_of(b"a", b"x")}, warmed(made, sessions([[b"END\r\n", hit]])))
-    same("other traffic", "tools/warm: not of the same traffic: the capture has 1 connections and 1 sessions, the replies 2"
-         " and 2\n", warmed([b"get a\r\n"], [hit, hit]))
+    same("other traffic", "tools/warm: not of the same traffic: sent has 1 connections and 1 sessions, answered has 2 and 2\n",
+         warmed([b"get a\r\n"], [hit, hit]))
     says("no capture", "a capture, which is a file, and its replies are read; --help says more", "warm", "-", "b", status=2)
 
 
@@ -99,14 +100,14 @@ def connections():
 
 
 def joined(given):
-    return run("inline", given=given).stdout
+    return run("inline", "-", given=given).stdout
 
 
 def cut_of(name, given, output, line=None):
     """What is cut of the output to all commands in one connection."""
     with tempfile.TemporaryDirectory() as folder:
         paths = written(folder, sent=given)
-        ran = run("inline", "--cut", paths["sent"], given=output)
+        ran = run("inline", "--cut", "-", paths["sent"], given=output)
     if line is not None:
         same(name, (1, f"tools/inline: standard input: {line}\n"),
              (ran.returncode, ran.stderr.decode().replace(folder + "/", "")))
@@ -131,19 +132,20 @@ def orders():
     same("the only connection", 0, one)
     wanted = {(0, 0): b"STORED\r\nSTORED\r\n", (1, 0): b"VALUE a 0 1\r\ny\r\nEND\r\nVA 1\r\ny\r\nMN\r\nEND\r\n", (2, 0): b""}
     same("answers by connection", (1, wanted), cut_of("turns", given, served(joined(given))))
-    prints("nothing", capture(1, []), "inline", given=capture(0, []))
+    prints("nothing", capture(1, []), "inline", "-", given=capture(0, []))
     output = served(joined(given))
     for name, other, line in (
-        ("too few answers", replies([b"STORED\r\n"]), "no answer to command 1 in the order of sent: its commands as one"
-         " connection were not served, or not by zygos"),
+        ("too few answers", replies([b"STORED\r\n"]), "no answer to command 1 of sent in its order: these are not zygos's"
+         " replies to what tools/inline wrote of the same files"),
         ("too many", replies([read_replies(Part("replies", output)).outputs[0].text + b"OK\r\n"]),
          "more answers than the 7 commands of sent have"),
         ("two outputs", replies([b"", b""]), "2 outputs; the replies to what tools/inline wrote have one"),
-        ("no replies", b"", "no replies file in it"),
+        ("no replies", b"", "no replies file in it; `zygos run` writes one"),
     ):
         cut_of(name, given, other, line)
-    says("two inputs at once", "the capture of --cut is a file where the replies are standard input", "inline", "--cut", "-",
-         status=2)
+    for words in ([], ["-", "b"], ["--cut", "-", "-"], ["a", "b", "c"]):
+        says(f"wrong words: {words}", "a capture is joined, and its replies may follow; --help says more", "inline", *words,
+             status=2)
 
 
 def in_order(read):
@@ -172,6 +174,67 @@ def drawn_captures():
              cut_of(f"drawn capture {number}", given, served(joined(given))))
 
 
+# ---- orders near that of arrival
+
+
+def near(name, turns, texts):
+    """The answers in an order near that of arrival, where a server answered like this."""
+    count = len(texts)
+    given = capture(count, [segment(*turn) for turn in turns])
+    with tempfile.TemporaryDirectory() as folder:
+        paths = written(folder, sent=given, recorded=replies(texts))
+        files = paths["sent"], paths["recorded"]
+        ran = run("inline", *files)
+        same(f"the status of {name}", (0, b""), (ran.returncode, ran.stderr))
+        ran = run("inline", "--cut", "-", *files, given=served(ran.stdout))
+    same(f"the status of {name}, cut", (0, b""), (ran.returncode, ran.stderr))
+    return [output.text for output in read_replies(Part("replies", ran.stdout)).outputs]
+
+
+def near_orders():
+    """A server took commands in another order than they came."""
+    store, item = b"set a 0 0 1\r\n%s\r\n", b"VALUE a 0 1\r\n%s\r\nEND\r\n"
+    for name, turns, texts in (
+        ("a get before a set that came first", [(0, store % b"x"), (1, b"get a\r\n")], [b"STORED\r\n", b"END\r\n"]),
+        ("a set before a get that came first", [(1, b"get a\r\n"), (0, store % b"x")], [b"STORED\r\n", item % b"x"]),
+        ("two sets", [(0, store % b"x"), (1, store % b"y"), (2, b"get a\r\n"), (0, b"get a\r\n"), (1, b"get a\r\n")],
+         [b"STORED\r\n" + item % b"x", b"STORED\r\n" + item % b"x", item % b"y"]),
+        ("a set that nobody sees", [(0, store % b"x"), (1, store % b"y"), (2, b"get a\r\n"), (0, b"mn\r\n"), (2, b"get a\r\n")],
+         [b"STORED\r\nMN\r\n", b"STORED\r\n", item % b"y" * 2]),
+        ("noreply", [(0, b"set a 0 0 1 noreply\r\nx\r\n"), (1, b"get a\r\n")], [b"", b"END\r\n"]),
+    ):
+        same(name, texts, near(name, turns, texts))
+    same("not beyond the next command of a connection", [b"STORED\r\nMN\r\n", item % b"x"],
+         near("beyond", [(0, store % b"x"), (0, b"mn\r\n"), (1, b"get a\r\n")], [b"STORED\r\nMN\r\n", b"END\r\n"]))
+
+
+def drawn_orders():
+    """Clients that wait for answers, and a server that takes their commands in another order: nearly all answers are
+    those of the server in an order near that of arrival, and many are not in that of arrival."""
+    draw, clients, shard, turns, waiting = random.Random(1), 40, Shard(0, 1), [], {}
+    texts, differ = [b""] * clients, [0, 0]
+    for number in range(4000):
+        idle = [client for client in range(clients) if client not in waiting]
+        if idle and (draw.randrange(3) or not waiting):
+            client, key = draw.choice(idle), b"k%d" % draw.randrange(5)
+            line = b"get %s\r\n" % key if draw.randrange(2) else b"set %s 0 0 4\r\n%04d\r\n" % (key, number)
+            turns.append((client, line))
+            waiting[client] = line
+        else:
+            client = draw.choice(list(waiting))
+            [command] = commands_of(waiting.pop(client))
+            texts[client] += text_of(command, [shard.reply(call) for _, call in calls(1, command)])
+    for client, line in waiting.items():
+        [command] = commands_of(line)
+        texts[client] += text_of(command, [shard.reply(call) for _, call in calls(1, command)])
+    found = near("drawn orders", turns, texts), in_order(read_capture(Part("capture", capture(
+        clients, [segment(*turn) for turn in turns]))))
+    for at, of_all in enumerate((found[0], [found[1][client, 0] for client in range(clients)])):
+        differ[at] = sum(one != other for pair in zip(of_all, texts) for one, other in zip(*map(answers, pair)))
+    if differ[0] > len(turns) / 20 or differ[1] < len(turns) / 5:
+        fail("drawn orders", f"{differ} of {len(turns)} answers differ")
+
+
 # ---- a memcached, and the program
 
 
@@ -188,11 +251,11 @@ def against_memcached():
         recorder = traffic.Recorder(place)
         traffic.at_once([lambda number=number: client(recorder.place, number) for number in range(20)])
         recorder.end()
-        before = differences("my.cap", "my.replies", "my.cap")
+        before = differences("my.cap", "my.replies")
         with open("warm.cap", "wb") as file:
             ran = run("warm", "my.cap", "my.replies")
             file.write(ran.stdout)
-        after = differences("warm.cap", "my.replies", "warm.cap")
+        after = differences("warm.cap", "my.replies")
         os.chdir("/")
     same("the items from before", (True, "tools/warm: 20 items\n"), ("items that the capture" in before, ran.stderr.decode()))
     same("what is left", False, "items that the capture" in after or "of the servers" in after)
@@ -212,15 +275,14 @@ def client(place, number):
             lines.readline()
 
 
-def differences(given, recorded, sent):
-    """What is said of a recording and what the program answers in the order of arrival."""
-    with open(given, "rb") as file:
-        text = run("inline", given=file.read()).stdout
-    output = subprocess.run([PROGRAM, "run"], input=text, stdout=subprocess.PIPE, timeout=600, check=True).stdout
+def differences(given, recorded):
+    """What is said of a recording and what the program answers near the order of arrival."""
+    output = subprocess.run([PROGRAM, "run"], input=run("inline", given, recorded).stdout, stdout=subprocess.PIPE,
+                            timeout=600, check=True).stdout
     with open("its.replies", "wb") as file:
-        file.write(run("inline", "--cut", given, given=output).stdout)
-    return run("compare", "--all", "--capture", sent, recorded, "its.replies").stdout.decode()
+        file.write(run("inline", "--cut", "-", given, recorded, given=output).stdout)
+    return run("compare", "--all", "--capture", given, recorded, "its.replies").stdout.decode()
 
 
 if __name__ == "__main__":
-    carry_out(values, connections, orders, drawn_captures, against_memcached)
+    carry_out(values, connections, orders, drawn_captures, near_orders, drawn_orders, against_memcached)
