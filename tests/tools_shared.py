@@ -45,7 +45,7 @@ def warmed(sent, answered):
 
 
 def set_of(key, value, flags=0):
-    return b"set %s %d 0 %d noreply\r\n%s\r\n" % (key, flags, len(value), value)
+    return b"set %s %d 2592000 %d noreply\r\n%s\r\n" % (key, flags, len(value), value)
 
 
 def values():
