@@ -98,11 +98,10 @@ class Chart:
         middle = (self.top + bottom) / 2
         self.text(20, middle, self.y.label, "middle", more=f' transform="rotate(-90 20 {middle:.1f})"')
 
-    def bound(self, value, name):
-        """A dotted line across the chart, with its name."""
+    def bound(self, value):
+        """A dotted line across the chart."""
         left, up = self.at(self.x.low, value)
         self.line(left, up, self.at(self.x.high, value)[0], up, "black", ' stroke-dasharray="2 3"')
-        self.text(left + 6, up - 5, name, size=11)
 
     def within(self, points):
         """The points up to the first one above the chart, in whose place comes the one where the curve leaves it."""

@@ -157,16 +157,16 @@ def curve(costs, kind, commands):
         rates = sorted(commands / run.wall / 1000 for run in runs)
         points.append((threads, commands / common.medians(runs).wall / 1000, rates[0], rates[-1]))
     times = ", ".join(f"{point[1] / points[0][1]:.2f}" for point in points[1:])
-    return chart.Curve(TOLD[kind], COLOURS[kind], points, notes=[f"{times} times one thread"])
+    return chart.Curve(TOLD[kind], COLOURS[kind], points, notes=[f"{times} times on 2, 3, 4"])
 
 
 def picture(costs, commands, runs):
     """A chart of commands a second by threads, for all kinds; the dashed lines are multiples of one thread."""
     curves = [curve(costs, kind, commands) for kind in KINDS]
     top = max(max(of.points[0][1] * MOST, *(point[3] for point in of.points)) for of in curves)
-    drawn = chart.Chart(f"Serving {commands:,} commands of {common.CONNECTIONS} connections",
+    drawn = chart.Chart(f"Serving {commands:,} commands of {common.CONNECTIONS} connections on 1 to {MOST} threads",
                         [common.machine_name(),
-                         f"as many cores as threads; median of {runs} runs, with the slowest and the fastest"],
+                         f"a core for each thread, 16 shards; median of {runs} runs, with the slowest and the fastest"],
                         chart.Axis("threads", 1, MOST, list(THREADS)),
                         chart.linear("thousands of commands a second", top))
     for of in curves:
@@ -175,7 +175,7 @@ def picture(costs, commands, runs):
         ideal = [(threads, of.points[0][1] * threads) for threads in (1, MOST)]
         (left, begin), (right, end) = drawn.at(*ideal[0]), drawn.at(*ideal[1])
         drawn.line(left, begin, right, end, of.colour, ' stroke-dasharray="7 4" stroke-opacity="0.6"')
-    drawn.note("solid: measured", "dashed: one thread's rate", "times the number of threads")
+    drawn.note("solid: measured; times one thread's rate", "dashed: one thread's rate", "times the number of threads")
     return drawn
 
 

@@ -218,9 +218,9 @@ def print_tail(simulation, tail):
 
 
 RUNS = {
-    "even": {"stealing": 1},
+    "even, 16 shards": {"stealing": 1},
     "even, 256 shards": {"stealing": 1, "shards": 256},
-    "1,400-byte segments": {"stealing": 1, "segment": LARGE},
+    "1,400-byte segments, 16 shards": {"stealing": 1, "segment": LARGE},
     "1,400-byte segments, 256 shards": {"stealing": 1, "segment": LARGE, "shards": 256},
     "skewed, with stealing": {"stealing": 1, "skewed": 1},
     "skewed, without stealing": {"stealing": 0, "skewed": 1},
@@ -276,20 +276,20 @@ def print_loads(simulation):
 def picture_of_rates(curves, costs):
     drawn = chart.Chart("Throughput by cores, simulated",
                         [f"costs of: {costs.machine}",
-                         "traffic of zygos gen, 64 connections a core, at least 200; a processor for each core"],
+                         "traffic of zygos gen, 64 connections a core, at least 200; a processor for each core; skewed: 16 shards"],
                         chart.doubling("cores", CORES),
                         chart.logarithmic("millions of commands a second", 0.1, 20))
     for (kind, points), colour in zip(curves.items(), COLOURS):
         drawn.curve(chart.Curve(kind, colour, points, True))
     if costs.rates:
         points = [(at, rate / 1e6) for at, rate in sorted(costs.rates.items())]
-        drawn.curve(chart.Curve("even, measured", "black", points))
+        drawn.curve(chart.Curve("even, 16 shards, measured", "black", points))
     drawn.note("dashed: simulated", *(["solid: measured"] if costs.rates else []))
     return drawn
 
 
 def picture_of_loads(curves, costs):
-    drawn = chart.Chart("Load with 99 % served within ten times the mean service time, simulated",
+    drawn = chart.Chart("Load at which 99 % take at most ten times the mean service time, simulated",
                         [f"costs of: {costs.machine}",
                          "exponential service times of 10 us; skewed: half of the requests at home at one core"],
                         chart.doubling("cores", CORES),

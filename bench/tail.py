@@ -203,19 +203,22 @@ def curves_of(points, cores, skewed, law):
     return curves
 
 
-def picture(curves, cores, skewed, law, runs):
+def picture(curves, cores, skewed, law, runs, marked):
     """A chart of load against the 99th percentile over the mean, on a scale of powers of ten."""
     spread = "half of the requests at home at one core" if skewed else "requests at home at all cores alike"
-    drawn = chart.Chart(f"Latency of {cores} cores, {law.told()}",
+    drawn = chart.Chart(f"Latency of 99 % of requests: {cores} cores on as many threads, {law.told()}",
                         [f"{common.machine_name()}; {spread}", f"median of {runs} runs, with the least and the most"],
                         chart.Axis("load, in % of what the cores can carry at most", 0, 100, list(range(0, 101, 20))),
                         chart.logarithmic("99 % take at most, in mean service times", 1, TOP))
-    drawn.bound(BOUND, "ten times the mean service time")
+    drawn.bound(BOUND)
     for kind, curve in curves.items():
         load = ideal.carried(curve, BOUND)
         drawn.curve(chart.Curve(kind, COLOURS[kind], curve, kind in (OWN, ONE),
-                                [f"within ten times up to {load:.0f} % load" if load else "nowhere within ten times"]))
-    drawn.note("solid: measured", "dashed: theory, without any cost", "between requests")
+                                [f"99 % within ten means up to {load:.0f} % load" if load else "99 % nowhere within ten means"]))
+    drawn.note("dotted: ten times the mean service time", "solid: measured", "dashed: theory, without any cost",
+               "between requests")
+    if marked:
+        drawn.note(f"the machine interrupted runs of {marked} points")
     return drawn
 
 
@@ -278,7 +281,8 @@ def main():
             if given.picture:
                 several = len({(law.name, law.mean) for _, law in cases}) > 1
                 name = "tail" + "-skew" * skewed + f"-{law.name}-{law.mean:g}us" * several + ".svg"
-                common.draw(picture(curves, cores, skewed, law, given.runs), os.path.join(given.picture, name))
+                marked = sum(point["interrupted"] > SOUND for point in found)
+                common.draw(picture(curves, cores, skewed, law, given.runs, marked), os.path.join(given.picture, name))
         costs = {"one core": bench.cost(1, False), f"{cores} cores": bench.cost(cores, False),
                  f"{cores} cores, skewed": bench.cost(cores, True)}
     say("microseconds that a command costs its core beside its service, at one and a half times the full load: "

@@ -1,6 +1,16 @@
 """Lines of classic commands, with their answers."""
 from certificates import FIRST, FIRST_TOLD
 
+# what memcached 1.6.18 answers to some of the examples, by name: it shows another version and other uniques, pads what it
+# counted down, and knows `touch`
+MEMCACHED = {
+    "a set and a gets": b"STORED\r\nVALUE a 0 1 1\r\nx\r\nEND\r\n",
+    "incr wraps": b"STORED\r\n0\r\nVALUE a 5 20\r\n0                   \r\nEND\r\n",
+    "a block that does not end": b"CLIENT_ERROR bad data chunk\r\nVERSION 1.6.18\r\n",
+    "cas": b"STORED\r\nEXISTS\r\nVALUE a 0 1 1\r\nx\r\nEND\r\nNOT_FOUND\r\nEXISTS\r\nVALUE a 0 1 1\r\nx\r\nEND\r\n",
+    "faulty lines": b"ERROR\r\n" * 3 + b"CLIENT_ERROR bad command line format\r\nVERSION 1.6.18\r\nOK\r\nNOT_FOUND\r\n",
+}
+
 
 def counts(gets, sets, hits, misses, items):
     """The lines of `stats`."""
@@ -43,9 +53,8 @@ def examples(lines):
     lines("add, replace, append and prepend",
           b"replace a 0 0 1\r\nx\r\nadd a 7 0 1\r\nx\r\nadd a 0 0 1\r\ny\r\nappend a 9 0 2\r\nyz\r\nprepend a 9 0 1\r\nw\r\nget a\r\n",
           b"NOT_STORED\r\nSTORED\r\nNOT_STORED\r\nSTORED\r\nSTORED\r\nVALUE a 7 4\r\nwxyz\r\nEND\r\n")
-    lines("faulty lines", b"\r\nstats\r\nget\r\nset a 0 0\r\nset a x 0 1\r\n version \nverbosity 1\r\ntouch a 0\r\n",
-          b"ERROR\r\n" + counts(0, 0, 0, 0, 0) + b"ERROR\r\n" * 2
-          + b"CLIENT_ERROR bad command line format\r\nVERSION zygos-1.0\r\nOK\r\nERROR\r\n")
+    lines("faulty lines", b"\r\nget\r\nset a 0 0\r\nset a x 0 1\r\n version \nverbosity 1\r\ntouch a 0\r\n",
+          b"ERROR\r\n" * 3 + b"CLIENT_ERROR bad command line format\r\nVERSION zygos-1.0\r\nOK\r\nERROR\r\n")
     lines("a line that is too long", b"a" * 65537 + b"\n" + b"a" * 65536 + b"\nversion\r\n",
           b"CLIENT_ERROR line too long\r\nERROR\r\nVERSION zygos-1.0\r\n")
     lines("a session of a web page",

@@ -11,15 +11,29 @@ import tempfile
 from checks import TOP, carry_out, fail, prints, run, same, says, written
 import drawn
 import plain
-from answers import by_commands
+from answers import answers
+from apart import Callers
+from causes import CAUSES, Causes
 from formats import Part, capture, close, journal, pieces, read_capture, replies, sessions
 from meaning import commands_of
 from model import text_of
+from steps import BOTH, ENDED, LEFT, by_answers, by_commands
 
 FIRST = os.path.join(TOP, "examples/first.replies")
 ITEM, OTHER = b"VALUE a 0 1\r\nx\r\nEND\r\n", b"VALUE a 0 1\r\ny\r\nEND\r\n"
-OURS = "a difference is one of the servers: no two connections call one key, and no answer shows a unique"
-ORDER = "a difference may come of the order in which connections are served: "
+SERVERS = ": of the servers, if both began empty and had no other clients: one connection alone calls each key"
+BEFORE = ": items that the capture does not store: from before it, or of others; tools/warm puts them into it"
+UNIQUES = ": a `cas` names a unique, which is each server's own, and what follows from it"
+EXPIRY = ": items with an exptime, which may have passed on one side; in zygos exptimes have no effect"
+REFUSED = ": lines that zygos does not serve (docs/PROFILE.md), and what follows from them"
+ORDER = ": may come of the order in which connections are served, for {}; tools/inline takes the order of arrival"
+STEP = "  out of step from here by one answer; those after it are compared in step again"
+
+
+def missing(answers, sessions, file):
+    """The line of answers that only the other file has."""
+    return (f"{answers} answer{'s' * (answers > 1)} at the end of {sessions} session{'s' * (sessions > 1)}: not in {file},"
+            " so not recorded, or its server or client ended there")
 
 
 def compared(one, other, *words, sent=None):
@@ -39,13 +53,18 @@ def first_differences():
     differ("another item", replies([b"OK\r\n" + ITEM]), replies([b"OK\r\n" + OTHER]), "connection 0, session 0, answer 1",
            r"  a: VALUE a 0 1\x0d\x0ax\x0d\x0aEND", r"  b: VALUE a 0 1\x0d\x0ay\x0d\x0aEND")
     differ("an answer more", replies([b"OK\r\n"]), replies([b"OK\r\nOK\r\n"]), "connection 0, session 0, answer 1",
-           "  a: nothing", "  b: OK")
+           "  a: ends here, with 1 answer missing", "  b: OK", missing(1, 1, "a"))
     differ("another session", sessions([[b"OK\r\n", b"A\r\n"]]), sessions([[b"OK\r\n", b"B\r\n"]]),
            "connection 0, session 1, answer 0", "  a: A", "  b: B")
     differ("an output more", replies([b"OK\r\n"]), replies([b"OK\r\n", b"OK\r\n"]), "connection 1, session 0",
-           "  a: no output", "  b: 4 bytes")
+           "  a: no output", "  b: 4 bytes",
+           "not of the same traffic: a has 1 connection and 1 session; b has 2 connections and 2 sessions")
     differ("a session more", sessions([[b"A\r\n"], [b""]]), sessions([[b"A\r\n", b"B\r\n"], [b""]]),
-           "connection 0, session 1", "  a: no output", "  b: 3 bytes")
+           "connection 0, session 1", "  a: no output", "  b: 3 bytes",
+           "not of the same traffic: a has 2 connections and 2 sessions; b has 2 connections and 3 sessions")
+    differ("sessions of other connections", sessions([[b"", b""], [b""]]), sessions([[b""], [b"", b""]]),
+           "connection 0, session 1", "  a: 0 bytes", "  b: no output",
+           "not of the same traffic: their connections have other sessions")
     differ("the end of an item's lines", replies([ITEM + b"END\r\n"]), replies([ITEM + b"OK\r\n"]),
            "connection 0, session 0, answer 1", "  a: END", "  b: OK")
     value = b"VALUE a 0 5\r\nEND\r\n\r\nEND\r\n"
@@ -57,7 +76,8 @@ def first_differences():
     whole = open(FIRST, "rb").read()
     prints("a journal before the replies", b"same: connections 1, sessions 1, answers 2\n", "compare", "-", FIRST,
            given=journal([], []) + whole)
-    says("a file after the replies", "standard input: journal: not expected here, in the part that begins at byte 51",
+    says("a file after the replies", "standard input: journal: not expected here: one replies file is compared, in the part"
+         " that begins at byte 51",
          "compare", "-", FIRST, given=whole + journal([], []))
 
 
@@ -68,24 +88,29 @@ def one_answer_each():
     value = b"VA 13 f0\r\nEND\r\nHD\r\nEN\r\n\r\n"
     differ("after stats and mg v", replies([stats + value + b"END\r\n"]), replies([stats + value + b"OK\r\n"]),
            "connection 0, session 0, answer 2, command 3: get THIS", "  a: END", "  b: OK",
-           ORDER + "connection 0 sends stats, command 0", sent=sent)
+           "get 1" + SERVERS, sent=sent)
     differ("of stats", replies([stats]), replies([stats.replace(b"2", b"3")]), "connection 0, session 0, answer 0",
            r"  a: STAT cmd_get 1\x0d\x0aSTAT cmd_set 2\x0d\x0aEND", r"  b: STAT cmd_get 1\x0d\x0aSTAT cmd_set 3\x0d\x0aEND")
 
 
+def quiet(*keys):
+    """Stores these keys, without answers."""
+    return b"".join(b"set %s 0 0 1 noreply\r\n5\r\n" % key for key in keys)
+
+
 def all_differences():
-    sent = capture(2, pieces(0, b"version\r\nget a\r\nget b\r\n") + pieces(1, b"get c\r\nincr d 1\r\n"))
+    sent = capture(2, pieces(0, quiet(b"a", b"b") + b"version\r\nget a\r\nget b\r\n") + pieces(1, quiet(b"c", b"d") + b"get c\r\nincr d 1\r\n"))
     one = replies([b"VERSION 1\r\nEND\r\nEND\r\n", b"END\r\n7\r\n"])
     other = replies([b"VERSION 2\r\nEND\r\n" + ITEM, OTHER + b"8\r\n"])
-    version = ["connection 0, session 0, answer 0, command 0: version", "  a: VERSION 1", "  b: VERSION 2"]
-    rest = ["connection 0, session 0, answer 2, command 2: get b", "  a: END", r"  b: VALUE a 0 1\x0d\x0ax\x0d\x0aEND",
-            "connection 1, session 0, answer 0, command 0: get c", "  a: END", r"  b: VALUE a 0 1\x0d\x0ay\x0d\x0aEND",
-            "connection 1, session 0, answer 1, command 1: incr d 1", "  a: 7", "  b: 8"]
-    differ("the first of several", one, other, *version, "4 differences: get 2, version 1, incr 1; --all prints them", OURS,
-           sent=sent)
-    differ("all of them", one, other, *version, *rest, "4 differences: get 2, version 1, incr 1", OURS, sent=sent,
-           words=("--all",))
-    differ("all but one", one, other, *rest, "3 differences: get 2, incr 1", OURS, sent=sent,
+    version = ["connection 0, session 0, answer 0, command 2: version", "  a: VERSION 1", "  b: VERSION 2"]
+    rest = ["connection 0, session 0, answer 2, command 4: get b", "  a: END", r"  b: VALUE a 0 1\x0d\x0ax\x0d\x0aEND",
+            "connection 1, session 0, answer 0, command 2: get c", "  a: END", r"  b: VALUE a 0 1\x0d\x0ay\x0d\x0aEND",
+            "connection 1, session 0, answer 1, command 3: incr d 1", "  a: 7", "  b: 8"]
+    differ("the first of several", one, other, *version, "4 differences: get 2, version 1, incr 1; --all prints them",
+           "get 2, version 1, incr 1" + SERVERS, sent=sent)
+    differ("all of them", one, other, *version, *rest, "4 differences: get 2, version 1, incr 1",
+           "get 2, version 1, incr 1" + SERVERS, sent=sent, words=("--all",))
+    differ("all but one", one, other, *rest, "3 differences: get 2, incr 1", "get 2, incr 1" + SERVERS, sent=sent,
            words=("--all", "--except", "version"))
     same("all are left out", (0, ["same: connections 2, sessions 2, answers 5; left out: get 2, version 1, incr 1"]),
          compared(one, other, "--except=version,get,incr", sent=sent))
@@ -95,7 +120,9 @@ def all_differences():
            "4 differences; --all prints them")
     beyond = capture(1, pieces(0, b"get a\r\nge"))
     differ("an answer that no command has", replies([b"END\r\n"]), replies([b"END\r\nERROR\r\n"]),
-           "connection 0, session 0, answer 1", "  a: nothing", "  b: ERROR", OURS, sent=beyond)
+           "connection 0, session 0, answer 1", "  a: ends here, with 1 answer missing", "  b: ERROR",
+           "1 answer: of no command in the capture, so not all requests were recorded, or the capture is of other traffic",
+           sent=beyond)
 
 
 def silent_commands():
@@ -104,33 +131,139 @@ def silent_commands():
     one = b"END\r\nVA 1\r\nx\r\nMN\r\nEND\r\n"
     differ("one of two silent commands", replies([one]), replies([one.replace(b"x\r\nMN", b"y\r\nMN")]),
            "connection 0, session 0, answer 1, commands 1 to 3: mg a v q", r"  a: VA 1\x0d\x0ax\x0d\x0aMN",
-           r"  b: VA 1\x0d\x0ay\x0d\x0aMN", OURS, sent=sent)
-    differ("after silent commands", replies([one]), replies([b"END\r\nMN\r\nOK\r\n"]),
-           "connection 0, session 0, answer 1, commands 1 to 3: mg a v q", r"  a: VA 1\x0d\x0ax\x0d\x0aMN", "  b: MN",
-           "connection 0, session 0, answer 3, command 4: get c", "  a: END", "  b: OK", "2 differences: mg 1, get 1", OURS,
-           sent=sent, words=("--all",))
+           r"  b: VA 1\x0d\x0ay\x0d\x0aMN", "mg 1" + BEFORE, sent=sent)
+    sent = capture(1, pieces(0, quiet(b"b", b"c") + b"mg a v q\r\nmg b v q\r\nmn\r\nget c\r\n"))
+    differ("after silent commands", replies([one[5:]]), replies([b"MN\r\nOK\r\n"]),
+           "connection 0, session 0, answer 0, commands 2 to 4: mg a v q", r"  a: VA 1\x0d\x0ax\x0d\x0aMN", "  b: MN",
+           "connection 0, session 0, answer 2, command 5: get c", "  a: END", "  b: OK", "2 differences: mg 1, get 1",
+           "mg 1: commands with the flag q, of which it is not known which one differs", "get 1" + SERVERS, sent=sent,
+           words=("--all",))
 
 
-def premises():
-    """Whether a difference is one of the servers."""
-    for reason, *sent in (
-        ("", b"set a 0 0 1\r\nx\r\nmg a v q\r\nmn\r\n", b"get b\r\n"),
-        ("connections 0 and 1 both call the key a", b"get a\r\n", b"get b a\r\n"),
-        ("connection 1 sends gets, command 1", b"get a\r\n", b"get b\r\ngets c\r\n"),
-        ("connection 0 sends flush_all, command 0", b"flush_all\r\n", b"get b\r\n"),
-        ("connection 0 sends cas, command 0", b"cas a 0 0 1 5\r\nx\r\n", b""),
-        ("connection 0 sends mg with c, command 0", b"mg a c\r\n", b""),
-        ("connection 0 sends ms with C, command 0", b"ms a 1 C5\r\nx\r\n", b""),
+# ---- causes
+
+
+def caused(name, sent, one, other, *lines, words=()):
+    """The last lines that are printed of outputs, which say why they differ."""
+    version = 2 if isinstance(one[0], list) else 1
+    made = sent if isinstance(sent, bytes) else capture(len(sent), [record for number, text in enumerate(sent)
+                                                                    for record in pieces(number, text)])
+    files = [(sessions if version == 2 else replies)(texts) for texts in (one, other)]
+    got = compared(*files, *words, sent=made)
+    same(name, (1, list(lines)), (got[0], got[1][-len(lines) :]))
+    return got[1]
+
+
+def numbered(count):
+    """Commands on keys of one connection, and their answers."""
+    return (b"".join(b"set k%d 0 0 1\r\nx\r\n" % at for at in range(count)) + b"".join(b"get k%d\r\n" % at for at in range(count)),
+            b"STORED\r\n" * count + b"".join(b"VALUE k%d 0 1\r\nx\r\nEND\r\n" % at for at in range(count)))
+
+
+def not_recorded():
+    """The end of outputs is missing: the last packets were not written, packets were lost, a recording was killed, or a
+    server was stopped while a capture was played."""
+    sent, whole = numbered(4)
+    caused("the last packets", [sent, b"get a\r\n"], [whole[:-22], b""], [whole, b"END\r\n"], missing(2, 2, "a"))
+    caused("lost packets", [sent] * 3, [whole[:30], whole, b""], [whole] * 3, missing(13, 2, "a"))
+    lines = caused("a recording that was killed", [sent], [whole[:40]], [whole], missing(4, 1, "a"))
+    same("where it ends", ["connection 0, session 0, answer 4, command 4: get k0", "  a: ends here, with 4 answers missing",
+                           r"  b: VALUE k0 0 1\x0d\x0ax\x0d\x0aEND"], lines[:3])
+    caused("a server that was stopped", [sent] * 3, [whole] * 3, [whole[:8], b"", b""], missing(23, 3, "b"))
+    caused("and another difference", [sent], [whole[:-22]], [whole.replace(b"STORED", b"NOT_STORED", 1)], missing(1, 1, "a"),
+           "set 1" + SERVERS)
+
+
+def items_from_before():
+    """Hits on keys that the capture did not store, and what follows from them."""
+    sent = b"get a\r\nget a b\r\nadd a 0 0 1\r\ny\r\nget a\r\ndelete c\r\nincr d 1\r\nappend e 0 0 1\r\nx\r\nget e\r\n"
+    one = ITEM * 2 + b"NOT_STORED\r\n" + ITEM + b"DELETED\r\n8\r\nSTORED\r\nVALUE e 0 2\r\nzx\r\nEND\r\n"
+    other = b"END\r\nEND\r\nSTORED\r\n" + OTHER + b"NOT_FOUND\r\nNOT_FOUND\r\nNOT_STORED\r\nEND\r\n"
+    caused("items from before", [sent], [one], [other],
+           "8 differences: get 4, add 1, delete 1, incr 1, append 1; --all prints them",
+           "get 4, add 1, delete 1, incr 1, append 1" + BEFORE)
+    caused("the same, of meta commands", [b"mg a v\r\nmd b\r\nms c 1 ME\r\nx\r\nms d 1 MA\r\nx\r\n"],
+           [b"VA 1\r\nx\r\nHD\r\nNS\r\nHD\r\n"], [b"EN\r\nNF\r\nHD\r\nNS\r\n"], "4 differences: ms 2, mg 1, md 1; --all prints them",
+           "ms 2, mg 1, md 1" + BEFORE)
+    caused("an item that the capture stored", [b"set a 0 0 1 noreply\r\nx\r\nget a\r\nget b\r\n"], [ITEM + b"END\r\n"],
+           [b"END\r\nVALUE b 0 1\r\nx\r\nEND\r\n"], "get 1" + BEFORE, "get 1" + SERVERS)
+    caused("an item that is the same again", [b"get a\r\nset a 0 0 1\r\nx\r\nget a\r\n"], [ITEM + b"STORED\r\n" + ITEM],
+           [b"END\r\nSTORED\r\n" + OTHER], "get 1" + BEFORE, "get 1" + SERVERS)
+    made = capture(1, [*pieces(0, b"set a 0 0 1\r\nx\r\n"), close(0), *pieces(0, b"get a\r\nget b\r\n")], 2)
+    caused("an item of an earlier session", made, [[b"STORED\r\n", ITEM + ITEM.replace(b"a", b"b")]],
+           [[b"STORED\r\n", b"END\r\nEND\r\n"]], "get 1" + BEFORE, "get 1" + SERVERS)
+    caused("a shared key that nobody stores", [b"get a\r\n", b"get a\r\n"], [ITEM, ITEM], [b"END\r\n"] * 2, "get 2" + BEFORE)
+
+
+def shared_keys():
+    """Keys that two connections call, and other commands that depend on the order."""
+    both = "connections 0 and 1 both call the key a"
+    for reason, sent, one, other in (
+        (both, [b"get a\r\n", b"set a 0 0 1\r\nx\r\n"], [ITEM, b"STORED\r\n"], [b"END\r\n", b"STORED\r\n"]),
+        ("connection 1 sends flush_all, command 1", [b"set a 0 0 1\r\nx\r\nget a\r\n", b"get b\r\nflush_all\r\n"],
+         [b"STORED\r\n" + ITEM, b"END\r\nOK\r\n"], [b"STORED\r\nEND\r\n", b"END\r\nOK\r\n"]),
     ):
-        made = capture(2, pieces(0, sent[0]) + pieces(1, sent[1]))
-        line = compared(replies([b"A\r\n", b""]), replies([b"B\r\n", b""]), sent=made)[1][-1]
-        same(f"of {sent}", ORDER + reason if reason else OURS, line)
-    made = capture(1, [*pieces(0, b"get a\r\n"), close(0), *pieces(0, b"get a\r\n")], 2)
-    line = compared(sessions([[b"A\r\n", b""]]), sessions([[b"B\r\n", b""]]), sent=made)[1][-1]
-    same("two sessions of a connection", OURS, line)
-    made = capture(1, pieces(0, b"gets a\r\nget b\r\n"))
-    line = compared(replies([b"A\r\nX\r\n"]), replies([b"B\r\nY\r\n"]), "--except", "gets", sent=made)[1][-1]
-    same("the answers to gets are left out", OURS, line)
+        caused(reason, sent, one, other, "get 1" + ORDER.format(reason))
+    stats = b"STAT cmd_get %d\r\nEND\r\n"
+    caused("stats", [b"stats\r\n", b"get a\r\n"], [stats % 0, b"END\r\n"], [stats % 1, b"END\r\n"],
+           "stats 1" + ORDER.format("stats counts the calls of all connections"))
+    lines = caused("keys of both kinds", [b"set a 0 0 1\r\nx\r\nget a\r\nset b 0 0 1\r\nx\r\nget b\r\n", b"get b\r\n"],
+                   [b"STORED\r\n" + ITEM + b"STORED\r\nVALUE b 0 1\r\nx\r\nEND\r\n", b"END\r\n"],
+                   [b"STORED\r\n" + OTHER + b"STORED\r\nEND\r\n", b"END\r\n"],
+                   "get 1" + ORDER.format("connections 0 and 1 both call the key b"), "get 1" + SERVERS)
+    same("the first of each", 2, sum(line.startswith("connection") for line in lines[:-3]))
+
+
+def steps():
+    """A command that one side answers is one difference, whatever comes after it."""
+    sent, whole = numbered(50)
+    touch = ["connection 0, session 0, answer 0, command 0: touch k0 0 noreply", "  a: nothing", "  b: ERROR", STEP,
+             "touch 1: answered in b alone"]
+    got = compared(replies([whole]), replies([b"ERROR\r\n" + whole]), sent=capture(1, pieces(0, b"touch k0 0 noreply\r\n" + sent)))
+    same("a silent touch", (1, touch), got)
+    later, told = numbered(500)
+    for name, at in (("in the middle", 250), ("later", 700), ("at the end", 1000)):
+        commands = [b"set k%d 0 0 1\r\nx\r\n" % n for n in range(500)] + [b"get k%d\r\n" % n for n in range(500)]
+        answers = [b"STORED\r\n"] * 500 + [b"VALUE k%d 0 1\r\nx\r\nEND\r\n" % n for n in range(500)]
+        made = b"".join(commands[:at] + [b"touch k0 0 noreply\r\n"] * 3 + commands[at:])
+        caused(f"three of them {name}", [made], [b"".join(answers)],
+               [b"".join(answers[:at] + [b"ERROR\r\n"] * 3 + answers[at:])],
+               "3 differences: touch 3; --all prints them", "touch 3: answered in b alone")
+    key = b"k" * 251
+    caused("a long key with noreply", [b"set %s 0 0 1 noreply\r\nx\r\n" % key + sent], [whole],
+           [b"CLIENT_ERROR bad command line format\r\nERROR\r\n" + whole],
+           "2 differences: set 1, other lines 1; --all prints them", "set 1, other lines 1: answered in b alone")
+    lines = compared(replies([whole]), replies([b"ERROR\r\n" + whole]))[1]
+    same("a step without a capture", ["connection 0, session 0, answer 0", "  a: nothing", "  b: ERROR", STEP,
+                                      "1 answer: answered in b alone"], lines)
+    caused("many keys with other values", [sent], [whole], [whole.replace(b"\r\nx\r\n", b"\r\ny\r\n")],
+           "50 differences: get 50; --all prints them", "get 50" + SERVERS)
+    caused("other traffic", [sent], [b"END\r\n" * 100], [b"OK\r\n" * 100],
+           "100 answers: out of step, and not compared, since they do not fit the commands; is the capture of other traffic?")
+
+
+def uniques():
+    """The numbers of uniques are left out, and a `cas` that fails by its number is named, with what follows."""
+    item = b"VALUE a 0 1 %d\r\nx\r\nEND\r\n"
+    sent = capture(1, pieces(0, b"gets a\r\nmg a c k\r\nget b\r\n"))
+    made = [replies([item % number + b"HD c%d ka\r\nEND\r\n" % number]) for number in (7, 28)]
+    same("uniques", (0, ["same: connections 1, sessions 1, answers 3; left out: uniques 2"]), compared(*made, sent=sent))
+    sent = b"set a 0 0 1\r\nx\r\ngets a\r\ncas a 0 0 1 7\r\ny\r\nget a\r\n"
+    caused("a recorded cas", [sent], [b"STORED\r\n" + item % 7 + b"STORED\r\n" + OTHER],
+           [b"STORED\r\n" + item % 28 + b"EXISTS\r\n" + ITEM], "2 differences: cas 1, get 1; --all prints them",
+           "cas 1, get 1" + UNIQUES)
+    caused("ms with C", [b"ms a 1\r\nx\r\nms a 1 C7\r\ny\r\n"], [b"HD\r\nHD\r\n"], [b"HD\r\nEX\r\n"], "ms 1" + UNIQUES)
+
+
+def other_causes():
+    caused("an exptime", [b"set a 0 1 1\r\nx\r\nget a\r\n"], [b"STORED\r\nEND\r\n"], [b"STORED\r\n" + ITEM], "get 1" + EXPIRY)
+    caused("an exptime by touch", [b"set a 0 0 1\r\nx\r\ntouch a 1\r\nget a\r\n"], [b"STORED\r\nTOUCHED\r\nEND\r\n"],
+           [b"STORED\r\nERROR\r\n" + ITEM], "2 differences: touch 1, get 1; --all prints them", "touch 1, get 1" + REFUSED)
+    for name, count in (("more", 2), ("fewer", 1)):
+        made = capture(3 - count, [])
+        got = compared(replies([b""] * count), replies([b""] * count), sent=made)
+        same(f"a capture of other traffic, with {name} connections", (1, 1), (got[0], len(got[1])))
+        same("what is said of it", "not of the same traffic: a has ", got[1][0][:31])
 
 
 def drawn_captures():
@@ -145,6 +278,41 @@ def drawn_captures():
                 wanted = b"".join(texts[exchange.first : exchange.last + 1]) if exchange.line is not None else None
                 same(f"drawn capture {number}, {output[:2]}, command {exchange.first}", (wanted or None,) * 2,
                      (exchange.one[1], exchange.other[1]))
+
+
+def edited(draw, text):
+    """An output with an answer left out, put in or changed, or cut off."""
+    found = list(answers(text))
+    at = draw.randrange(len(found))
+    return b"".join(draw.choice((
+        found[:at] + found[at + 1 :], [*found[:at], b"ERROR\r\n", *found[at:]], found[:at],
+        [*found[:at], b"SERVER_ERROR out of memory\r\n", *found[at + 1 :]], [*found[:at], found[at][:-1]])))
+
+
+def edited_outputs():
+    """Each answer of an edited output is in an exchange, and one edit is few differences; each has a cause."""
+    for number in range(200):
+        draw = random.Random(number)
+        made = plain.run_of(read_capture(Part("capture", drawn.drawn_capture(draw, 4))), 4)
+        streams = {output[:2]: made.streams[output[0]][output[1]] for output in made.outputs}
+        causes = Causes(Callers(streams))
+        for output in (output for output in made.outputs if output.text):
+            other = edited(draw, output.text)
+            causes.begin(output.connection, streams[output[:2]])
+            for pair in ((output.text, other), (other, output.text)):
+                for found in (list(by_commands(streams[output[:2]], *pair)), list(by_answers(*pair))):
+                    name = f"edited capture {number}, {output[:2]}"
+                    ends = [exchange for exchange in found if exchange.kind in (ENDED, LEFT)]
+                    sides = [b"".join(exchange[side][1] or b"" for exchange in found if exchange not in ends)
+                             for side in (-2, -1)]
+                    same(name, (True, True), tuple(text == joined or ends and text.startswith(joined) for text, joined in
+                                                   zip(pair, sides)))
+                    differ = [exchange for exchange in found if exchange.one[1] != exchange.other[1]]
+                    if len(differ) > 3:
+                        fail(name, f"{len(differ)} differences")
+                    for exchange in differ:
+                        if exchange.kind == BOTH and exchange.group:
+                            same(f"a cause: {name}", True, causes.differed(exchange) in CAUSES)
 
 
 def texts_of(made, connection, session):
@@ -176,4 +344,5 @@ def large():
 
 
 if __name__ == "__main__":
-    carry_out(first_differences, one_answer_each, all_differences, silent_commands, premises, drawn_captures, large)
+    carry_out(first_differences, one_answer_each, all_differences, silent_commands, not_recorded, items_from_before,
+              shared_keys, steps, uniques, other_causes, drawn_captures, edited_outputs, large)

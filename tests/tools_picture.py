@@ -48,7 +48,17 @@ def last_cores():
     found = shows("seven of eight cores", given, has=("A run of 1 connection; cores not given: 7 seen",
                                                       "9 commands, 0 calls, 2 holds"))
     same("words of stealing", [], [text for text in found if "stolen" in text.lower() or "home" in text])
+    said = [run("picture", "--cores", str(cores), given=given).stderr for cores in (7, 8, 10)]
+    same("cores that held nothing", [b"", *(b"tools/picture: standard input: %s held nothing; were there %d cores?\n" % one
+                                           for one in ((b"core 7", 8), (b"cores 7 to 9", 10)))], said)
     shows("all eight cores", given, "--cores", "8", has=("9 commands, 0 calls, 2 holds; 100.0 % of the commands were stolen",))
+
+
+def names():
+    """The numbers of a row say whether it has all between them."""
+    of = module("picture").names
+    for given, wanted in (([4], "4"), ([0, 4], "0, 4"), ([0, 4, 8, 12], "0, 4 .. 12"), (range(3, 9), "3-8")):
+        same(f"the names of {given}", wanted, of(given))
 
 
 def marks():
@@ -96,4 +106,4 @@ def large_pictures():
 
 
 if __name__ == "__main__":
-    carry_out(small_pictures, last_cores, marks, counts, large_pictures)
+    carry_out(small_pictures, last_cores, names, marks, counts, large_pictures)

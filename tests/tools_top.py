@@ -20,6 +20,7 @@ from model import commands_of
 CAPTURE = """\
 capture: 7 commands, 2 connections, 3 keys
   get 3, set 2, fault 1, ms 1
+  not served, by first word: other lines 1
 
 keys, the first 2 of 3
   calls   share  gets  stores  largest  key
@@ -108,7 +109,8 @@ def faults():
     same("cores that are not given", "home cores are left out: --cores is not given, and core 6 has commands",
          lines[-2])
     same("and no home", "         5  100.0 %     -  1", lines[-4])
-    same("no file to count", (1, "", f"{begun}: no capture or journal in it\n"), run(given=replies([b""])))
+    same("no file to count", (1, "", f"{begun}: no capture or journal in it; `zygos run --out both` writes a"
+                                   " journal\n"), run(given=replies([b""])))
     for words, line in ((["--first", "0"], "--first takes a number of 1 or more, not 0"),
                         (["--cores", "65"], "--cores takes a number from 1 to 64, not 65"),
                         (["--what"], "no such option: --what; --help lists them")):

@@ -1,16 +1,12 @@
-"""The answers in the outputs of a server, and which command each of them answers."""
+"""The answers in the outputs of a server, and which commands they answer where each has its answer."""
 import re
-from collections import namedtuple
 
 from meaning import framed, line_of
-
-# an exchange: the number of the first command and of the last, the name, the line of the first command, and what two
-# servers answered, each as the number of its first answer and its bytes; None in place of bytes where there is none
-Exchange = namedtuple("Exchange", "first last name line one other")
 
 # the answers of several lines that end in another line, by how they begin
 LISTS = (b"VALUE ", b"STAT ")
 META, FAULT = re.compile(rb"(HD|VA|EN|NS|EX|NF)[ \r\n]"), re.compile(rb"((CLIENT|SERVER)_)?ERROR\b")
+UNIQUE_MARK = re.compile(rb" c[0-9]{1,20}(?=[ \r\n])")
 NAME = re.compile(rb"[a-z_]{2,16}")
 
 
@@ -46,6 +42,26 @@ def answers(text):
         yield text[begin:at]
 
 
+def items(text):
+    """The items of an answer to `get` or `gets`: the words after VALUE, and the value."""
+    at = 0
+    while text.startswith(b"VALUE ", at):
+        begin, at = at, line_end(text, at)
+        words, end = text[begin + 6 : at].split(), block_end(text, begin, at, 3)
+        yield words, text[at : end - 2]
+        at = end
+
+
+def without_uniques(text):
+    """An answer with a mark in place of each unique that it shows; the numbers are each server's own."""
+    at = line_end(text, 0)
+    if text.startswith(b"VALUE ") and text.count(b" ", 0, at) > 3:
+        return [(words[:3], len(words), value) for words, value in items(text)]
+    if text.startswith((b"HD ", b"VA ")):
+        return UNIQUE_MARK.sub(b" c", text[:at]) + text[at:]
+    return text
+
+
 def name_of(line):
     """The name of the command of a line."""
     words = line.split(None, 1)
@@ -76,7 +92,7 @@ class Answers:
 
 
 class Group(list):
-    """Commands, each as its number and its line, to which one or several answers belong.
+    """Commands, each as its number, its line and its meaning, to which one or several answers belong.
 
     A command with the flag `q` may have no answer. Then it is not known whose the next answers are, up to one that no
     such command has: that of `mn`, or of a classic command. The commands up to there are a group; every other command
@@ -87,7 +103,7 @@ class Group(list):
     faults = 0
 
     def add(self, number, command, line):
-        self.append((number, line))
+        self.append((number, line, command))
         self.faults += command.verb == "fault"
         is_open = len(self) > 1 or "q" in command.letters
         self.is_whole = not is_open or command.verb not in ("mg", "ms", "md", "fault")
@@ -113,33 +129,3 @@ def groups(stream):
                 group = Group()
     if group:
         yield group
-
-
-def by_commands(stream, one, other):
-    """The exchanges of a session with two servers, cut by its commands."""
-    one, other = Answers(one), Answers(other)
-    for group in groups(stream):
-        number, line = group[0]
-        taken = (one.take(), other.take()) if len(group) == 1 else (one.take_group(group), other.take_group(group))
-        yield Exchange(number, group[-1][0], name_of(line), line, *taken)
-    yield from rest(one, other, lambda _, __: "no command")
-
-
-def by_answers(one, other):
-    """The exchanges of a session of which only the answers are known."""
-    return rest(Answers(one), Answers(other), named_by)
-
-
-def rest(one, other, name):
-    """The exchanges that are left, with a name by both answers."""
-    while one.at < len(one.text) or other.at < len(other.text):
-        taken = one.take(), other.take()
-        yield Exchange(None, None, name(taken[0][1], taken[1][1]), None, *taken)
-
-
-def named_by(one, other):
-    """The name of the command of two answers, where they show it; else None."""
-    for name, begin in (("version", b"VERSION "), ("stats", b"STAT ")):
-        if one and other and one.startswith(begin) and other.startswith(begin):
-            return name
-    return None

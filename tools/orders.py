@@ -1,0 +1,131 @@
+"""An order of commands that came close to each other in which a server may have answered as it was recorded.
+
+A server takes the commands of several connections in an order of its own. Each command was carried out after it came and,
+if its client waits for answers, before the next one of its connection came. So it may change places with those that came
+in between. A `get` whose recorded answer is what its key has goes at once. One that shows what a later `set` stores waits
+for that, and a `set` waits as long as it can. A `set` that no `get` shows any more goes right before another one.
+"""
+from collections import Counter
+
+UNKNOWN, STORED = object(), b"STORED\r\n"
+
+
+class Waiting:
+    """A command that came and has no place yet: a `set`, or a `get`, with what a `get` then answers or it answered."""
+
+    __slots__ = "arrival", "key", "text", "is_set", "since"
+
+    def __init__(self, arrival, text, since):
+        self.arrival, self.key, self.text, self.since = arrival, arrival.command.keys[0], text, since
+        self.is_set = arrival.command.verb == "set"
+
+
+def shown(command, answer):
+    """What a `get` answers that follows a `set`, or that this is; None for any other command."""
+    if command.verb == "set" and command.value is not None and answer in (STORED, None):
+        flags, value = command.numbers["flags"], command.value
+        return b"VALUE %s %d %d\r\n%s\r\nEND\r\n" % (command.keys[0], flags, len(value), value)
+    return answer if command.verb == "get" and len(command.keys) == 1 else None
+
+
+class Order:
+    """The order, as commands come; `wanted` counts the `get`s that have no place yet, by their keys and answers."""
+
+    def __init__(self, wanted):
+        self.wanted, self.is_unknown, self.items, self.waiting, self.by_connection = wanted, False, {}, {}, {}
+        self.places, self.last_set = [], {}  # commands, with those that are right before one; and the place of a key's set
+
+    def add(self, arrival, answer):
+        """Another command came, and was answered by this."""
+        if (before := self.by_connection.get(arrival.connection)) is not None:
+            self.force(before)
+        text = shown(arrival.command, answer)
+        if text is None:
+            self.other(arrival)
+            return
+        one = Waiting(arrival, text, len(self.places))
+        self.by_connection[arrival.connection] = one
+        self.waiting.setdefault(one.key, []).append(one)
+        self.settle(one.key)
+
+    def all(self):
+        """All commands in the order, once all have come."""
+        while self.by_connection:
+            self.force(next(iter(self.by_connection.values())))
+        return (arrival for place in self.places for arrival in place)
+
+    # ---- places
+
+    def item(self, key):
+        """What a `get` of a key would answer now."""
+        return self.items.get(key, UNKNOWN if self.is_unknown else b"END\r\n")
+
+    def leave(self, one):
+        """A command waits no more."""
+        del self.by_connection[one.arrival.connection]
+        self.waiting[one.key].remove(one)
+        if not one.is_set:
+            self.wanted[one.key, one.text] -= 1
+
+    def go(self, one):
+        """A command comes next."""
+        self.leave(one)
+        if one.is_set:
+            self.last_set[one.key] = len(self.places)
+        if one.is_set or self.item(one.key) is UNKNOWN:
+            self.items[one.key] = one.text
+        self.places.append([one.arrival])
+
+    def settle(self, key):
+        """Each `get` goes that shows what there is."""
+        for one in list(self.waiting[key]):
+            if not one.is_set and (self.item(key) is UNKNOWN or self.item(key) == one.text):
+                self.go(one)
+
+    def force(self, one):
+        """A command goes now at the latest."""
+        source = None
+        if not one.is_set:
+            source = next((other for other in self.waiting[one.key] if other.is_set and other.text == one.text), None)
+        elif not self.wanted[one.key, one.text] and self.last_set.get(one.key, -1) >= one.since:
+            self.leave(one)
+            self.places[self.last_set[one.key]].insert(0, one.arrival)
+            return
+        else:
+            self.show_others(one)
+        self.go(source or one)
+        self.settle(one.key)
+
+    def show_others(self, one):
+        """Before a `set`, those others go that only waiting `get`s show."""
+        waiting = self.waiting[one.key]
+        seen = Counter(other.text for other in waiting if not other.is_set)
+        for other in [other for other in waiting if other.is_set and other is not one]:
+            if other.text != one.text and 0 < seen[other.text] == self.wanted[other.key, other.text]:
+                self.go(other)
+                self.settle(one.key)
+
+    def other(self, arrival):
+        """A command of another kind goes where it came, after all that wait for its keys."""
+        command = arrival.command
+        is_wide = command.verb in ("flush_all", "stats", "fault")
+        for key in list(self.waiting) if is_wide else command.keys:
+            while self.waiting.get(key):
+                self.force(self.waiting[key][0])
+        self.places.append([arrival])
+        if is_wide and command.verb != "stats":
+            self.items, self.is_unknown, self.last_set = {}, True, {}
+        elif command.verb not in ("get", "gets", "mg", "stats"):
+            for key in command.keys:
+                self.items[key] = UNKNOWN
+                self.last_set.pop(key, None)
+
+
+def ordered(answered):
+    """The commands in such an order, of a list of pairs: a command that came, and its recorded answer."""
+    wanted = Counter((arrival.command.keys[0], answer) for arrival, answer in answered
+                     if arrival.command.verb == "get" and answer is not None and shown(arrival.command, answer))
+    order = Order(wanted)
+    for one in answered:
+        order.add(*one)
+    return order.all()

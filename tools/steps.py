@@ -1,0 +1,291 @@
+"""Which answers of two servers belong to one command, also where one of them was silent or said more.
+
+Both sides are in step while they answer the same command. Where they differ, the answers ahead say whether they still
+are: each has to fit its command, and most of them are the same on both sides. If not, the fewest answers are passed over
+after which they are.
+"""
+import re
+from collections import deque, namedtuple
+
+from answers import FAULT, META, answers, groups, name_of, without_uniques
+from meaning import STORAGE
+
+# an exchange: the number of the first command and of the last, the name, the line of the first command and its group,
+# and what two servers answered, each as the number of its first answer and its bytes; None in place of bytes where there
+# is none
+Exchange = namedtuple("Exchange", "kind first last name line group one other")
+# what an exchange is: the answers of both; that of one, where the other has none and goes on; the end of one output, with
+# the number of answers that are left of the other; and all that is left, where both are never in step again
+BOTH, ALONE, ENDED, LEFT = "both", "alone", "ended", "left"
+
+# how many answers are looked at ahead, how many are passed over at most, and for how many the step is not asked again while
+# they fit their commands: for twice as many each time that both are in step
+LOOK, MOST, LEAST_SURE, MOST_SURE = 64, 8, 16, 1024
+# how far the answers of both are passed over, and how many commands
+Move = namedtuple("Move", "one other groups cost")
+
+GETTING = (b"get", b"gets", b"gat", b"gats", b"bget")
+FITTING = {
+    **{verb.encode(): re.compile(rb"STORED|NOT_STORED|EXISTS|NOT_FOUND") for verb in [*STORAGE, "cas"]},
+    **dict.fromkeys((b"incr", b"decr"), re.compile(rb"[0-9]|NOT_FOUND")),
+    **dict.fromkeys((b"mg", b"ms", b"md", b"ma", b"me"), META),
+    **dict.fromkeys((b"verbosity", b"flush_all", b"cache_memlimit"), re.compile(rb"OK")),
+    b"delete": re.compile(rb"DELETED|NOT_FOUND"), b"touch": re.compile(rb"TOUCHED|NOT_FOUND"),
+    b"version": re.compile(rb"VERSION"), b"stats": re.compile(rb"STAT |END|RESET|OK"), b"mn": re.compile(rb"MN"),
+}
+# the commands of which any answer is taken
+UNKNOWN = (b"slabs", b"lru", b"lru_crawler", b"watch", b"shutdown")
+
+
+def fits(line, answer):
+    """Whether an answer can be that of the command of a line."""
+    if FAULT.match(answer):
+        return True
+    words = line.split(None, 1)
+    verb = words[0] if words else b""
+    if verb in GETTING:
+        return answer.startswith(b"END") or answer.startswith(b"VALUE ") and answer[:400].split(b" ", 2)[1] in line.split()
+    return verb in UNKNOWN or verb in FITTING and FITTING[verb].match(answer) is not None
+
+
+def alike(one, other):
+    """Whether two answers are the same but for the numbers of their uniques."""
+    return one == other or without_uniques(one) == without_uniques(other)
+
+
+class Ahead:
+    """What an iterator gives, and what comes after it; `taken` were passed over."""
+
+    def __init__(self, source):
+        self.source, self.kept, self.taken = iter(source), deque(), 0
+
+    def get(self, at=0):
+        """The next one, or one after it; None where there is none."""
+        while len(self.kept) <= at:
+            found = next(self.source, None)
+            if found is None:
+                return None
+            self.kept.append(found)
+        return self.kept[at]
+
+    def take(self):
+        """The next one after its number."""
+        found = self.get()
+        if found is not None:
+            self.kept.popleft()
+            self.taken += 1
+        return self.taken - (found is not None), found
+
+    def take_group(self, group):
+        """The answers of the commands of a group, as one after the number of the first."""
+        first, found = self.taken, []
+        while len(found) < len(group) and self.get() is not None:
+            found.append(self.take()[1])
+            if group.is_last(found):
+                break
+        return first, b"".join(found) or None
+
+    def left(self):
+        """How many there are; they are passed over."""
+        count = len(self.kept) + sum(1 for _ in self.source)
+        self.kept.clear()
+        return count
+
+
+def is_silent(group):
+    """Whether a command is one that zygos answers and a memcached does not: a faulty line with noreply."""
+    _, line, command = group[0]
+    return command.verb == "fault" and line.rstrip().endswith(b" noreply")
+
+
+class Steps:
+    """The exchanges of a session; without its commands only the answers are known."""
+
+    def __init__(self, one, other, stream=None):
+        self.one, self.other = Ahead(answers(one)), Ahead(answers(other))
+        self.groups, self.sure, self.next_sure = None if stream is None else Ahead(groups(stream)), 0, LEAST_SURE
+
+    def exchange(self, kind, group, one, other):
+        """What is exchanged, and the next place."""
+        if self.groups is not None and group:
+            (first, line, _), last = group[0], group[-1][0]
+            return Exchange(kind, first, last, name_of(line), line, group, one, other)
+        name = "no command" if self.groups is not None else named_by(one[1], other[1])
+        return Exchange(kind, None, None, name, None, None, one, other)
+
+    def all(self):
+        """The exchanges in order."""
+        while self.one.get() is not None or self.other.get() is not None:
+            group = self.groups.get() if self.groups else None
+            is_open = group is not None and not group.is_whole
+            if (self.one.get() is None or self.other.get() is None) and not is_open:
+                yield self.ended(group)
+            elif group and (len(group) > 1 or is_open):
+                self.groups.take()
+                yield self.exchange(BOTH, group, self.one.take_group(group), self.other.take_group(group))
+            else:
+                yield from self.both(group)
+
+    def ended(self, group):
+        """One output is at its end."""
+        if group and is_silent(group):
+            return self.alone(ALONE, group)
+        found = self.exchange(ENDED, group, (self.one.taken, self.one.get()), (self.other.taken, self.other.get()))
+        return self.finish(found)
+
+    def finish(self, exchange):
+        """All that is left is one exchange, whose last command is the number of answers that are left."""
+        return exchange._replace(last=max(self.one.left(), self.other.left()))
+
+    def alone(self, kind, group):
+        """A command that one side answered."""
+        if group:
+            self.groups.take()
+        return self.exchange(kind, group, *((side.take() if side.get() is not None else (side.taken, None))
+                                            for side in (self.one, self.other)))
+
+    def both(self, group):
+        """Both sides go on."""
+        one, other = self.one.get(), self.other.get()
+        if one == other or alike(one, other):
+            if group and is_silent(group) and not fits(group[0][1], one):
+                self.groups.take()
+            else:
+                yield self.pair(group)
+            return
+        for side, text, longer in ((self.one, one, other), (self.other, other, one)):
+            if side.get(1) is None and longer.startswith(text):
+                found = self.exchange(ENDED, group, *((at.taken, None if at is side else longer)
+                                                      for at in (self.one, self.other)))
+                side.take()
+                yield self.finish(found)
+                return
+        move = self.move()
+        if move is None:
+            found = self.exchange(LEFT, group, (self.one.taken, one), (self.other.taken, other))
+            yield self.finish(found)
+            return
+        if not move.one and not move.other and not move.groups:
+            yield self.pair(group)
+        yield from self.passed(move)
+
+    def pair(self, group):
+        if group:
+            self.groups.take()
+        self.sure = max(0, self.sure - 1)
+        return self.exchange(BOTH, group, self.one.take(), self.other.take())
+
+    def passed(self, move):
+        """The answers that a move passes over, each of one side alone."""
+        groups_left = move.groups if self.groups else 0
+        for side in [self.one] * move.one + [self.other] * move.other:
+            group = self.groups.get() if groups_left else None
+            if groups_left:
+                self.groups.take()
+                groups_left -= 1
+            taken = side.take()
+            pair = (taken, (self.other.taken, None)) if side is self.one else ((self.one.taken, None), taken)
+            yield self.exchange(ALONE, group, *pair)
+        for _ in range(groups_left):
+            self.groups.take()
+
+    # ---- the step
+
+    def move(self):
+        """What is passed over so that both are in step; a move of nothing where they are, and None if they never are."""
+        stay = Move(0, 0, 0, 0)
+        if self.sure and all(self.fits(self.line(0), side.get()) for side in (self.one, self.other)):
+            return stay
+        differ, odd, seen = self.ahead()
+        if differ <= seen // (2 if self.groups else 8) and not odd:
+            self.be_sure()
+            return stay
+        best, least = stay, self.cost(stay, LOOK * 4)
+        for count in range(1, MOST + 1):
+            for move in (Move(1, 1 + count, 1 + count, count), Move(1 + count, 1, 1 + count, count)):
+                cost = self.cost(move, least, True)
+                if cost < least:
+                    best, least = stay, cost
+        for move in self.moves():
+            cost = self.cost(move, least)
+            if cost < least:
+                best, least = move, cost
+        if best is stay and odd > seen and seen > 4:
+            return None
+        if best is stay and not odd:
+            self.be_sure()
+        else:
+            self.sure, self.next_sure = 0, LEAST_SURE
+        return best
+
+    def be_sure(self):
+        self.sure, self.next_sure = self.next_sure, min(2 * self.next_sure, MOST_SURE)
+
+    def moves(self):
+        for count in range(1, MOST + 1):
+            yield Move(0, count, count, count)
+            yield Move(count, 0, count, count)
+            if self.groups:
+                yield Move(0, count, 0, count + 0.5)
+                yield Move(count, 0, 0, count + 0.5)
+                yield Move(0, 0, count, count + 1)
+
+    def ahead(self):
+        """How many of the next answers differ, how many do not fit their commands, and how many there are."""
+        differ = odd = seen = 0
+        for at in range(LOOK):
+            one, other, line = self.one.get(at), self.other.get(at), self.line(at)
+            if one is None or other is None:
+                break
+            seen += 1
+            differ += one != other
+            odd += not self.fits(line, one)
+            odd += one != other and not self.fits(line, other)
+        return differ, odd, seen
+
+    def line(self, at):
+        """The line of a later command; None where it is not known."""
+        group = self.groups.get(at) if self.groups else None
+        return group[0][1] if group and len(group) == 1 else None
+
+    @staticmethod
+    def fits(line, answer):
+        return line is None or fits(line, answer)
+
+    def cost(self, move, most, is_paired=False):
+        """How badly the next answers agree after a move: no more than about `most` is counted."""
+        cost = move.cost
+        if is_paired:  # the first answers belong together all the same
+            line = self.line(0)
+            cost += 1 + sum(not self.fits(line, side.get()) for side in (self.one, self.other))
+        for side, count in ((self.one, move.one), (self.other, move.other)):
+            for at in range(is_paired, min(count, move.groups)):
+                if (answer := side.get(at)) is not None and count == move.groups:
+                    cost += not self.fits(self.line(at), answer)
+        for at in range(LOOK):
+            one, other, line = self.one.get(move.one + at), self.other.get(move.other + at), self.line(move.groups + at)
+            if one is None or other is None:
+                return cost + sum(1 + (not self.fits(line, text)) for text in (one, other) if text is not None)
+            differ = one != other and not alike(one, other)
+            cost += differ + (not self.fits(line, one)) + (differ and not self.fits(line, other))
+            if cost > most:
+                break
+        return cost
+
+
+def by_commands(stream, one, other):
+    """The exchanges of a session with two servers, cut by its commands."""
+    return Steps(one, other, stream).all()
+
+
+def by_answers(one, other):
+    """The exchanges of a session of which only the answers are known."""
+    return Steps(one, other).all()
+
+
+def named_by(one, other):
+    """The name of the command of two answers, where they show it; else None."""
+    for name, begin in (("version", b"VERSION "), ("stats", b"STAT ")):
+        if one and other and one.startswith(begin) and other.startswith(begin):
+            return name
+    return None
