@@ -14,7 +14,7 @@ from judging.events import Asked, No, Unknown
 NOT_HIDDEN = {"get": (b"HD", b"VA"), "set": (), "cas": (b"EX", b"NF"), "delete": (b"NF",)}
 STORING = (b"NS",)
 
-STATS, TOUCH = "stats", "touch"
+STATS = "stats"
 
 
 class Recording:
@@ -55,7 +55,7 @@ class Recording:
 
     def meant(self, asked):
         """The command, read as what takes its place."""
-        if asked.command.verb == "fault":
+        if asked.command.verb in ("fault", STATS):
             words = asked.frame.split()
             if words[:1] and words[0] in READ_AS:
                 read_as(asked, words)
