@@ -114,6 +114,7 @@ class Draw:
         self.left, self.due = [commands] * clients, [0] * clients
         self.records, self.outputs, self.heap, self.count = [], [b""] * clients, [], 0
         self.framers, self.late = [Framer() for _ in range(clients)], [0.0] * clients
+        self.asked, self.truth = [0] * clients, []  # how many commands there were, and the calls as they were made
 
     def at(self, time, client, what, *more):
         self.count += 1
@@ -132,11 +133,11 @@ class Draw:
         return self
 
     def send(self, time, number):
-        """A client sends some commands, sometimes in two segments."""
+        """A client sends some commands, sometimes in two segments; without ends a segment says that all before is answered."""
         count = min(self.left[number], self.draw.randint(1, self.in_flight))
         self.left[number] -= count
         text = b"".join(self.clients[number].command() for _ in range(count))
-        cut = self.draw.randrange(1, len(text)) if count and self.draw.random() < 0.1 else len(text)
+        cut = self.draw.randrange(1, len(text)) if count and self.has_ends and self.draw.random() < 0.1 else len(text)
         for piece in (text[:cut], text[cut:]):
             if piece:
                 self.records.append(segment(number, piece))
@@ -146,15 +147,16 @@ class Draw:
     def plan(self, time, number, command, frame):
         """The moments at which a command's calls are made."""
         self.due[number] += 1
-        keys = command.keys or [None]
-        replies = []
+        keys, replies = command.keys or [None], []
         for at, key in enumerate(keys):
             time += 0.3 * self.wait()
-            self.at(time, number, self.make, command, frame, key, replies, at == len(keys) - 1)
+            self.at(time, number, self.make, command, frame, (self.asked[number], at), key, replies, at == len(keys) - 1)
+        self.asked[number] += 1
         return time
 
-    def make(self, time, number, command, frame, key, replies, is_last):
+    def make(self, time, number, command, frame, place, key, replies, is_last):
         """A call is made."""
+        self.truth.append((number, *place))
         if command.verb == "flush_all":
             self.server.items = {}
         elif key is not None:

@@ -215,17 +215,17 @@ class Makers:
             if is_only and self.needs.first[key] not in (thing[2], ANYTHING):
                 place, rest = found[0]
                 new = ITEM, key, self.values.number(flags, rest)
-                if self.needs.want(place, new):
-                    self.index_new(new)
-                    work.append(new)
+                is_new = self.needs.want(place, new)
+                self.find_again(new, is_new)
+                work += [new] * is_new
 
-    def index_new(self, thing):
-        """Finds who stores or counts to a value that is needed now."""
-        for place in self.setters.get(thing[1:], ()):
+    def find_again(self, thing, is_new):
+        """Finds who stores or counts to a value that is needed now, or is needed by one more call."""
+        for place in self.setters.get(thing[1:], ()) if is_new else ():
             self.made(thing, place)
         number = self.values.numeric(thing[2])
         for place in self.counts.get(thing[1], ()) if number is not None else ():
-            if self.events[place].number in (None, number):
+            if self.events[place].number is None or is_new and self.events[place].number == number:
                 self.made(thing, place)
 
 
