@@ -92,6 +92,7 @@ def words():
         (["--port", "0"], "--port takes a number from 1 to 65535, not 0"),
         (["--what"], "no such option: --what; --help lists them"),
         (["a", "b"], "one file is read, and at most one is written to standard output; --help says more"),
+        (["--ends"], "--ends needs --in-order, the capture in which answers end"),
         (["--in-order", "-", "--replies", "-"],
          "one file is read, and at most one is written to standard output; --help says more"),
     ):
@@ -145,6 +146,29 @@ def order():
         segment(second, b"get a\r\n"), segment(first, b"set a 0 0 1\r\nx\r\n")], 2)
     same("a gap that is filled later", wanted, run("--in-order", "-", given=timed(
         *((at, frame) for at, (_, frame) in enumerate(late)))).stdout)
+
+
+def ends():
+    """With --ends a segment without bytes is where an answer is whole, at the time of its last packet."""
+    one, other = CLIENTS
+    first, second = map(number_of, CLIENTS)
+    frames = [frame_of(b"", 99, 2, one), answer_of(b"", 499, one, 18), frame_of(b"", 199, 2, other),
+              answer_of(b"", 899, other, 18), frame_of(b"get a\r\nget b\r\nset c 0 0 1 noreply\r\n", 100, 16, one),
+              frame_of(b"get d\r\n", 200, 16, other), answer_of(b"END\r\nVALUE b 0 1\r\n", 500, one),
+              frame_of(b"z\r\nget", 135, 16, one), answer_of(b"END\r\n", 900, other), frame_of(b" e\r\n", 141, 16, one),
+              answer_of(b"x\r\nEND\r\nEND\r\n", 518, one), answer_of(b"END\r\n", 523, one),
+              frame_of(b"", 300, 2, one), frame_of(b"get f\r\n", 301, 16, one), answer_of(b"", 7, one, 18),
+              answer_of(b"END\r\n", 8, one), answer_of(b"too much", 13, one)]
+    wanted = [(first, b"get a\r\nget b\r\nset c 0 0 1 noreply\r\n"), (second, b"get d\r\n"), (first, b""),
+              (first, b"z\r\nget"), (second, b""), (first, b" e\r\n"), (first, b""), (first, b""), None,
+              (first, b"get f\r\n"), (first, b"")]
+    made = capture(max(first, second) + 1, [close(first) if record is None else segment(*record) for record in wanted], 2)
+    given = timed(*enumerate(frames))
+    same("ends", made, run("--in-order", "-", "--ends", given=given).stdout)
+    same("streams with ends", *(streams(run("--in-order", "-", *words, given=given).stdout) for words in ((), ("--ends",))))
+    lost = timed(*((at, frame) for at, frame in enumerate(frames) if at != 6))
+    same("ends after a lost answer", made.replace(segment(first, b"") * 2, b"").replace(segment(first, b""), b"", 1),
+         run("--in-order", "-", "--ends", given=lost).stdout)
 
 
 def answers():
@@ -255,4 +279,4 @@ def real():
 
 
 if __name__ == "__main__":
-    all_of(messages, words, model, order, answers, answers_to_lost_requests, nothing_written, real)
+    all_of(messages, words, model, order, ends, answers, answers_to_lost_requests, nothing_written, real)

@@ -5,10 +5,11 @@ usage: tests/tools_play.py [PROGRAM]     (run by tools/test; if left out, crates
 """
 import os
 import re
+import signal
 import subprocess
 import sys
 
-from traffic import NAME, TOP, Recorder, Server, all_of, at_once, fail, files_of, free_port, memcached, same, talk
+from traffic import NAME, TOP, Recorder, Server, all_of, at_once, fail, files_of, free_port, memcached, same, talk, until
 from formats import Part, capture, close, pieces, read_replies, replies, segment, sessions
 
 PROGRAM = os.path.realpath(sys.argv[1] if len(sys.argv) > 1 else os.path.join(TOP, "crates/zygos/out/zygos"))
@@ -62,6 +63,8 @@ def orders():
     plays("what is said", replies(told), capture(5, turns),
           said="tools/play: 5 connections, 200 commands answered\n")
     both_orders("nothing", replies([]), capture(0, []))
+    ends = [record for k in range(20) for c in range(5) for record in [*pieces(c, asked[c][k]), segment(c, b"")]]
+    both_orders("segments without bytes", replies(told), capture(5, ends))
     both_orders("a connection that sends nothing", replies([b"", b"MN\r\n"]), capture(2, [segment(1, b"mn\r\n"),
                                                                                         segment(0, b"")]))
 
@@ -111,6 +114,83 @@ def quiet():
                 capture(1, [segment(0, one) for one in text]))
 
 
+def tabs():
+    """A tab is part of a key."""
+    text = b"set a\tb 0 0 1\r\nx\r\nget a\tb 1 2\r\nset \t 0 0 1 noreply\r\ny\r\nget \t\r\n"
+    both_orders("keys with tabs", replies([b"STORED\r\nVALUE a\tb 0 1\r\nx\r\nEND\r\nVALUE \t 0 1\r\ny\r\nEND\r\n"]),
+                capture(1, pieces(0, text)))
+
+
+def swaps(first):
+    """Commands of a client that compares and swaps, each with its answer, for a server whose uniques begin after `first`.
+    The last two name a unique of no item, and one that the key had before."""
+    return [(b"set a 0 0 1\r\nx\r\n", b"STORED\r\n"), (b"set b 0 0 1\r\nx\r\n", b"STORED\r\n"),
+            (b"gets a b\r\n", b"VALUE a 0 1 %d\r\nx\r\nVALUE b 0 1 %d\r\nx\r\nEND\r\n" % (first + 1, first + 2)),
+            (b"cas a 0 0 1 %d\r\ny\r\n" % (first + 1), b"STORED\r\n"), (b"mg b c\r\n", b"HD c%d\r\n" % (first + 2)),
+            (b"ms b 1 C%d\r\nz\r\n" % (first + 2), b"HD\r\n"), (b"get b\r\n", b"VALUE b 0 1\r\nz\r\nEND\r\n"),
+            (b"gets a\r\n", b"VALUE a 0 1 %d\r\ny\r\nEND\r\n" % (first + 3)),
+            (b"cas a 0 0 1 1234567\r\nx\r\n", b"EXISTS\r\n"), (b"cas a 0 0 1 %d\r\nx\r\n" % (first + 1), b"EXISTS\r\n")]
+
+
+def uniques():
+    """A recorded `cas` names the unique of the server to which it is played."""
+    asked, told = (b"".join(texts) for texts in zip(*swaps(77)))
+    answered = b"".join(answer for _, answer in swaps(1000))
+    with open("recorded", "wb") as file:
+        file.write(replies([told]))
+    for name, size in (("by command", None), ("in pieces", 7), ("byte by byte", 1)):
+        texts = [text for text, _ in swaps(77)] if size is None else [asked[at : at + size] for at in range(0, len(asked), size)]
+        given = capture(1, [segment(0, text) for text in texts])
+        for words in ((), ("--in-order",)):
+            with Server(unique=1000) as server:
+                same(f"uniques, {name}", (replies([answered]), "tools/play: 1 connections, 10 commands answered\n"
+                     "tools/play: 2 uniques translated, 2 sent as they are\n"),
+                     played(f"uniques, {name}", server, given, "--recorded", "recorded", *words))
+    given = capture(1, [segment(0, text) for text, _ in swaps(77)])
+    with Server(unique=1000) as server:
+        stored = answered.replace(b"EXISTS\r\n", b"STORED\r\n", 1)
+        same("uniques without a recording", (replies([stored]), "tools/play: 1 connections, 10 commands answered\n"
+             "tools/play: 4 uniques translated, 0 sent as they are\n"), played("uniques without a recording", server, given))
+    with Server(unique=1000) as server:
+        same("uniques as they are", (4, True), (lambda text, said: (text.count(b"EX"), "uniques" not in said))(
+            *played("uniques as they are", server, given, "--as-is")))
+    with Server(unique=77) as server:
+        same("uniques as they are, and right", replies([told]), played("right uniques", server, given, "--as-is")[0])
+
+
+def uniques_of_others():
+    """A `cas` names a unique that another connection, or another session, was shown; those of its own come first."""
+    sent = [(0, b"set a 0 0 1\r\nx\r\n"), (0, b"gets a\r\n"), (1, b"cas a 0 0 1 8\r\ny\r\n"), (1, b"gets a\r\n"), (1, None),
+            (1, b"cas a 0 0 1 9\r\nz\r\nquit\r\n"), (0, b"cas a 0 0 1 9\r\nz\r\n")]
+    given = capture(2, [close(c) if text is None else segment(c, text) for c, text in sent], 2)
+    shows = b"VALUE a 0 1 %d\r\n%s\r\nEND\r\n"
+    outputs = [[[b"STORED\r\n" + shows % (u, b"x") + b"EXISTS\r\n"], [b"STORED\r\n" + shows % (u + 1, b"y"), b"STORED\r\n"]]
+               for u in (8, 501)]
+    with open("recorded", "wb") as file:
+        file.write(sessions(outputs[0]))
+    for words in (("--recorded", "recorded"), ()):
+        with Server(unique=500) as server:
+            same(f"uniques of others {words}", sessions(outputs[1]),
+                 played("uniques of others", server, given, "--in-order", *words)[0])
+
+
+def interrupted():
+    """Ctrl-C ends it, and what came back is written."""
+    given = capture(2, [segment(0, b"mn\r\n"), segment(0, b"hush\r\n"), segment(1, b"hush\r\n"), close(1), segment(1, b"mn\r\n")], 2)
+    with open("my.cap", "wb") as file:
+        file.write(given)
+    with Server() as server:
+        words = [os.path.join(TOP, "tools/play"), "my.cap", "--server", server.place, "--wait", "60"]
+        with subprocess.Popen(words, stdout=subprocess.PIPE, stderr=subprocess.PIPE) as process:
+            until("both connections ask", lambda: server.hushed == 2)
+            process.send_signal(signal.SIGINT)
+            text, said = process.communicate(timeout=300)
+    lines = [line for line in said.decode().splitlines() if " in " not in line and "within" not in line]
+    same("what is interrupted", (1, {(0, 0): b"MN\r\n", (1, 0): b""}, ["tools/play: 2 commands were not answered",
+         "tools/play: interrupted: what came back so far is written"]), (process.returncode, {
+             (one.connection, one.session): one.text for one in read_replies(Part("replies", text)).outputs}, lines))
+
+
 def faulty_servers():
     """Answers that do not come, and a server that closes."""
     plays("a missing answer", replies([b"MN\r\nMN\r\n", b"OK\r\n"]),
@@ -123,7 +203,8 @@ def faulty_servers():
     plays("a server that closes", replies([b"MN\r\n", b"MN\r\n"]),
           capture(2, [segment(0, b"mn\r\nquitting\r\nmn\r\n"), segment(1, b"mn\r\n")]), status=1,
           said="tools/play: connection 0: closed by the server\ntools/play: 2 connections, 2 commands answered\n"
-          "tools/play: 2 commands were not answered\ntools/play: 1 sessions ended too early\n")
+          "tools/play: 2 commands were not answered\ntools/play: 1 sessions ended too early\n"
+          "tools/play: 1 of them the server closed: if it allows fewer connections, --connections 50 has no more at a time\n")
 
 
 def other_sockets():
@@ -192,7 +273,7 @@ def against_memcached():
     with memcached() as place:
         if place is None:
             return
-        recorder = Recorder(place)
+        recorder = Recorder(place, "--ends")
         at_once([lambda text=text: talk(recorder.place, text, 9) for text in texts])
         recorder.end()
     same("what is recorded", sorted(texts), sorted(files_of()[0].values()))
@@ -213,5 +294,6 @@ def against_memcached():
 
 
 if __name__ == "__main__":
-    all_of(words, orders, in_order, later_sessions, many, large, quiet, faulty_servers, other_sockets, closed_pipe,
+    all_of(words, orders, in_order, later_sessions, many, large, quiet, tabs, uniques, uniques_of_others,
+           interrupted, faulty_servers, other_sockets, closed_pipe,
            against_memcached)

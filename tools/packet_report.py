@@ -3,10 +3,10 @@ from collections import Counter
 
 import recorded
 from meaning import Framer, framed
+from pace import ODD, Pace
 from packet_faults import told
 
 MOST_PORTS = 5
-FIRST_BYTES = {0x80: "the binary protocol", 0x16: "TLS"}
 
 
 def place(address, port):
@@ -67,10 +67,11 @@ class Report:
 
     def session(self, session):
         """How many requests a session has, and what is to be said of it."""
-        stream, notes, framer = session.requests, [], Framer()
+        stream, notes, framer, pace = session.requests, [], Framer(), Pace()
         text = stream.text()
-        if text[:1] and text[0] in FIRST_BYTES:
-            notes.append(f"warning: its first byte is {text[0]:#x}, as in {FIRST_BYTES[text[0]]}; "
+        pace.sent(text)
+        if not pace.is_text:
+            notes.append(f"warning: its first byte is {text[0]:#x}, as in {ODD[text[0]]}; "
                          "only text commands are served")
         count = sum(1 for _ in framer.feed(text))
         if stream.syn is None:

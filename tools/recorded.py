@@ -7,8 +7,9 @@ import struct
 from bisect import bisect_right
 from collections import namedtuple
 from itertools import groupby
+from operator import itemgetter
 
-from formats import END, capture, capture_start, close, output, pieces, replies_start
+from formats import END, capture, capture_start, close, output, pieces, replies_start, segment
 
 MOST_FILE = (1 << 32) - 1
 MOST_FRAME, GROUPS, MOST_OF_GROUP = 262144, 128, 32
@@ -26,8 +27,8 @@ HASH_KEY_BITS = 320
 
 Record = namedtuple("Record", "at time frame")
 Packet = namedtuple("Packet", "flow sequence is_syn payload")
-# how much of the stream of a session had come with a packet
-Arrival = namedtuple("Arrival", "time connection session size")
+# how much of the requests of a session, or of its answers, had come with a packet
+Arrival = namedtuple("Arrival", "time connection session is_answer size")
 
 
 class PacketFault(Exception):
@@ -287,10 +288,12 @@ class Flows:
         """The current session of a flow; None before its first packet."""
         return self.sessions[self.numbers[flow]][-1] if flow in self.numbers else None
 
-    def arrival(self, flow, time):
+    def arrival(self, flow, time, is_answer=False):
         """How much of the current session of a flow has come, at this time."""
         number = self.numbers[flow]
-        return Arrival(time, number, len(self.sessions[number]) - 1, self.sessions[number][-1].requests.size())
+        last = len(self.sessions[number]) - 1
+        session = self.sessions[number][last]
+        return Arrival(time, number, last, is_answer, (session.answers if is_answer else session.requests).size())
 
     def count(self):
         return max(self.sessions, default=-1) + 1
@@ -304,18 +307,30 @@ class Flows:
                 made += pieces(number, session.requests.text())
         return capture(self.count(), made, 2)
 
-    def in_order(self, arrivals):
-        """The bytes of the capture with the same streams, cut where in time other connections come in between."""
+    def in_order(self, arrivals, ends_of=None):
+        """The bytes of the capture with the same streams, cut where in time other connections come in between.
+
+        Where an answer is whole that arrived, there is a segment without bytes; `ends_of` gives the places at which the
+        answers of a session end.
+        """
         yield capture_start(self.count(), 2)
-        place = {}
-        for (number, session), some in groupby(by_time(arrivals), lambda one: (one.connection, one.session)):
-            before, begin = place.get(number, (0, 0))
-            if session > before:
+        last, written, ends = {}, {}, {}
+        for key, some in groupby(by_time(arrivals), itemgetter(1, 2, 3)):
+            number, at, is_answer = key
+            if at < last.setdefault(number, at):
+                continue
+            session = self.sessions[number][at]
+            if at > last[number]:
                 yield close(number)
-                begin = 0
-            end = max(one.size for one in some)
-            yield from pieces(number, self.sessions[number][session].requests.text(begin, end))
-            place[number] = session, end
+                last[number] = at
+            begin, end = written.get(key, 0), max(one.size for one in some)
+            written[key] = end
+            if not is_answer:
+                yield from pieces(number, session.requests.text(begin, end))
+                continue
+            if key not in ends:
+                ends[key] = ends_of(session)
+            yield segment(number, b"") * (bisect_right(ends[key], end) - bisect_right(ends[key], begin))
         yield END
 
     def replies(self, answered):
@@ -328,10 +343,14 @@ class Flows:
 
 
 def by_time(arrivals):
-    """Arrivals by their time; those of a connection stay in their order."""
+    """Arrivals by their time; requests of a connection stay in their order, and answers come after the requests that
+    were before them."""
     latest, found = {}, []
     for one in arrivals:
-        time = latest[one.connection] = max(one.time, latest.get(one.connection, one.time))
+        number, time = one.connection, max(one.time, latest.get((one.connection, one.is_answer), one.time))
+        latest[number, True] = max(time, latest.get((number, True), time))
+        if not one.is_answer:
+            latest[number, False] = time
         found.append(one._replace(time=time))
     return sorted(found, key=lambda one: one.time)
 
