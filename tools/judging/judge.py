@@ -41,7 +41,8 @@ class Judge:
     def __init__(self, capture, outputs, shards=16, kind=None, is_warm=False, loses=False, limit=200000, clock=None):
         self.clock, self.shards = clock or Clock(), shards
         self.recording = Recording(capture, outputs)
-        self.kind = times.set_times(self.recording, self.recording.pair(), kind)
+        self.recording.pair()
+        self.kind = times.set_times(self.recording, kind)
         self.clock.set("reading answers")
         self.events = Seeing(self.recording, shards).all()
         self.clock.set("sorting calls by keys")

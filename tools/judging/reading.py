@@ -72,17 +72,16 @@ class Recording:
                 yield (connection, session), asked[begin:at]
 
     def pair(self):
-        """Gives each command its answer. Gives how many answers each session has."""
-        found = {}
+        """Gives each command its answer."""
         for key, asked in self.by_session():
             text = self.outputs.pop(key, b"")
-            found[key] = self.pair_session(asked, whole_answers(text, self.notes), key)
+            self.pair_session(asked, whole_answers(text, self.notes), key)
         if any(self.outputs.values()):
             connection, session = min(key for key, text in self.outputs.items() if text)
-            raise Unknown(f"the replies have an output of connection {connection}, session {session}; the capture hasn't")
-        return found
+            raise Unknown(f"the replies have an output of connection {connection}, session {session}, and the capture hasn't")
 
     def pair_session(self, asked, found, key):
+        """Gives the commands of a session these answers, one after the other."""
         at, met = 0, set()
         for one in asked:
             command = one.command
@@ -102,7 +101,6 @@ class Recording:
         if at < len(found):
             why = f"connection {key[0]}, session {key[1]}: answer {at} is to no command: {found[at][:60]!r}"
             raise (Unknown if key in self.outside else No)(why)
-        return len(found)
 
 
 def whole_answers(text, notes):

@@ -10,32 +10,24 @@ from judging.events import FOREVER
 ENDS, SEGMENTS, NONE = "ends", "segments", "none"
 
 
-def set_times(recording, answers, kind=None):
-    """Sets the times of all commands; `answers` has the number of answers of each session. Gives of what the times are;
-    where ends are missing, the sessions whose times are of segments are counted."""
+def set_times(recording, kind=None):
+    """Sets the times of all commands. Gives of what they are."""
     kind = kind or (ENDS if recording.ends else SEGMENTS)
-    short = 0
     for key, asked in recording.by_session():
-        ends = recording.ends.get(key, ())
-        if kind == ENDS and len(ends) >= answers[key]:
-            set_ends(asked, ends)
+        if kind == ENDS:
+            set_ends(asked, recording.ends.get(key, ()))
         else:
-            short += kind == ENDS
             set_starts(asked, recording.starts.get(key, ()))
-    if short:
-        recording.notes["sessions without the ends of all answers"] += short
     for asked in recording.asked.values():
         close(asked, kind)
     return kind
 
 
 def set_ends(asked, ends):
-    """The end of an answer is that of its command."""
-    at = 0
-    for one in asked:
-        if one.answer is not None:
-            one.end = ends[at]
-            at += 1
+    """The end of an answer is that of its command; the last answers may have none, where a recording was cut off."""
+    answered = [one for one in asked if one.answer is not None]
+    for one, end in zip(answered, ends):
+        one.end = end
 
 
 def set_starts(asked, starts):
