@@ -15,7 +15,7 @@ import sys
 
 sys.dont_write_bytecode = True
 sys.path.insert(0, os.path.join(os.path.dirname(os.path.dirname(os.path.realpath(__file__))), "tools"))
-from pace import Pace
+from pace import ALWAYS, Answers, Commands
 from thought import Client
 
 FLEET = "get get get get get get get mget mget set set add delete"
@@ -35,18 +35,19 @@ async def client(place, number, words):
     host, port = place.rsplit(":", 1)
     reader, writer = await asyncio.open_connection(host, int(port))
     draw = Skewed(words.seed * 4096 + number)
-    one, pace, left = Client(number, draw, [b"key:%d" % at for at in range(words.keys)], words.kinds), Pace(), words.commands
+    one = Client(number, draw, [b"key:%d" % at for at in range(words.keys)], words.kinds)
+    commands, answers, left = Commands(), Answers(), words.commands
     while left:
         count = min(left, draw.randint(1, words.in_flight))
         text = b"".join(one.command() for _ in range(count))
         left -= count
-        pace.sent(text)
+        owed = sum(command.answered == ALWAYS for command in commands.feed(text))
         writer.write(text)
-        while pace.owed:
+        while owed:
             heard = await reader.read(65536)
             if not heard:
                 sys.exit(f"tests/load.py: the server has closed connection {number}")
-            pace.heard(heard)
+            owed -= sum(1 for _ in answers.feed(heard))
             one.uniques.update((key, int(unique)) for key, unique in SHOWN.findall(heard))
     writer.close()
     await writer.wait_closed()
