@@ -1,11 +1,9 @@
 """Looks for an order of all calls of a recording, step by step."""
-import sys
 import time
-from collections import Counter
 
 from judging import times
 from judging.certificate import Certificate, added
-from judging.events import GET, Unknown
+from judging.events import Unknown
 from judging.graph import Graph
 from judging.keys import Keys
 from judging.mending import MOST_TURNS, Mending, give_up
@@ -44,9 +42,10 @@ class Judge:
         self.recording.pair()
         self.kind = times.set_times(self.recording, kind)
         self.clock.set("reading answers")
-        self.events = Seeing(self.recording, shards).all()
+        seeing = Seeing(self.recording, shards)
+        self.events = seeing.all()
         self.clock.set("sorting calls by keys")
-        self.keys = Keys(self.events, shards, loses, is_warm, limit, self.clock.look)
+        self.keys = Keys(self.events, shards, loses, is_warm, limit, self.clock.look, seeing.unsure)
         self.is_numbered = shards == 1 and any(event.unique is not None for event in self.events)
         self.losses, self.order = 0, []
 

@@ -20,10 +20,12 @@ class Keys:
     """The calls of each key in the order of their begins, and in the order that was found.
 
     A flush is a call on each key of its shard. With `is_warm` a key may have an item at first: one that explains what was
-    seen. `limit` is how many states of a key are looked at, and `look` is called from time to time.
+    seen. `limit` is how many states of a key are looked at, and `look` is called from time to time. Of keys that are
+    `unsure` nothing can be refused.
     """
 
-    def __init__(self, events, shards, loses=False, is_warm=False, limit=200000, look=None):
+    def __init__(self, events, shards, loses=False, is_warm=False, limit=200000, look=None, unsure=()):
+        self.unsure = set(unsure)
         self.states, self.shards, self.is_warm, self.limit, self.look = States(True, loses), shards, is_warm, limit, look
         self.events, self.first, self.found, self.shard_of = {}, {}, {}, {}
         self.reach = {}

@@ -29,6 +29,8 @@ class Reason:
         what = "key " + shown(self.names[0]) if len(self.names) == 1 else "keys " + ", ".join(map(shown, self.names))
         if self.keys.is_warm and any(event.want is None and event.kind in (INCR, DECR, APPEND, PREPEND) for event in self.all):
             return Unknown(f"{what}: which item was there at first was not found, as calls without answers changed it")
+        if self.keys.unsure.intersection(self.names):
+            return Unknown(f"{what}: a retrieval names a key twice and has one item of it: which was found is not known")
         lost = self.never_made()
         if lost:
             return No(f"{what}: no command stores what this one answers", lines=[lost.told()])

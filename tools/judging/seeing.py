@@ -24,10 +24,14 @@ Shown = namedtuple("Shown", "key flags unique value")
 
 
 class Seeing:
-    """Makes the events of a recording, those of a connection in their order."""
+    """Makes the events of a recording, those of a connection in their order.
+
+    Of a key that a retrieval names twice and has one item of, the first one is taken to have been found: such keys are
+    `unsure`.
+    """
 
     def __init__(self, recording, shards):
-        self.recording, self.shards, self.events, self.known = recording, shards, [], {}
+        self.recording, self.shards, self.events, self.known, self.unsure = recording, shards, [], {}, set()
 
     def all(self):
         for connection in sorted(self.recording.asked):
@@ -117,7 +121,7 @@ class Seeing:
         event.want = want
 
     def see_items(self, asked):
-        """The items of a retrieval; of a key that is asked for twice the first one is taken to be meant."""
+        """The items of a retrieval."""
         try:
             items, line = items_of(asked.answer)
         except (ValueError, IndexError):
@@ -137,6 +141,9 @@ class Seeing:
             at += 1
         if at < len(items):
             self.refuse(asked, "an item of a key that was not asked for there")
+        if len(set(asked.command.keys)) < len(asked.events):
+            missed = {event.key for event in asked.events if event.want == "miss"}
+            self.unsure.update(event.key for event in asked.events if event.want == "hit" and event.key in missed)
 
     def see_meta(self, asked, event):
         """The answer to an `mg`, or to a `touch` that is read as one."""
