@@ -1,6 +1,6 @@
 """The commands of a stream, as docs/PROFILE.md says: how it is cut into frames, and what each frame means.
 
-It is a part of the plain model of the tests (tests/model.py), written from the tables of the page.
+It is a part of the plain model (model.py), written from the tables of the page.
 """
 import functools
 import re

@@ -1,6 +1,6 @@
 """The profile, plainly: the commands of a stream, the calls of a command, the replies of a shard, and the texts.
 
-It is written from the tables of docs/PROFILE.md, and takes its time. The commands are in tools/meaning.py.
+It is written from the tables of docs/PROFILE.md, and takes its time. The commands are in meaning.py.
 """
 import re
 from collections import namedtuple

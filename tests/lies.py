@@ -1,0 +1,211 @@
+#!/usr/bin/env python3
+"""Lies, planted in a recording: answers that no server could have given at their times.
+
+usage: tests/lies.py CAPTURE REPLIES [NUMBER] [SEED]
+
+As a command it plants a number of lies of each kind, one at a time (if left out, 1), and prints what the judge says.
+
+The order that the judge has found says who saw whose work. A lie is planted only where times leave no doubt: where what
+is answered was overwritten before the command began, or was stored after it had ended. Its value is one that a single
+command stores, so nobody else can have stored it.
+"""
+import os
+import random
+import sys
+import time
+from collections import Counter, namedtuple
+
+sys.dont_write_bytecode = True
+sys.path.insert(0, os.path.join(os.path.dirname(os.path.dirname(os.path.realpath(__file__))), "tools"))
+from formats import Part, replies_records, replies_version
+from judging.events import ADD, CAS, DELETE, FLUSH, FOREVER, GET, INCR, SET, Verdict
+from judging.judge import Judge
+from judging.seeing import items_of
+
+# a lie: what it is, and the answers that it puts in place of others, by their commands
+Lie = namedtuple("Lie", "kind answers")
+
+
+def outputs_of(replies):
+    part = Part("replies", replies)
+    return list(replies_records(part, replies_version(part)))
+
+
+class Liar:
+    """Who saw whose work in a recording; each kind of lie is a method that gives all lies of this kind."""
+
+    def __init__(self, capture, replies):
+        self.capture, self.outputs = capture, outputs_of(replies)
+        judge = Judge(capture, self.outputs)
+        judge.run()
+        self.recording, self.keys = judge.recording, judge.keys
+        self.stored = Counter(event.item for some in self.keys.events.values() for event in some if self.is_store(event))
+        self.reads, self.seen = [], {}
+        for key in sorted(self.keys.found):
+            self.walk(self.keys.found[key])
+
+    def is_store(self, event):
+        return event.kind in (SET, ADD, CAS) and event.want in ("stored", None)
+
+    def is_alone(self, event):
+        """Whether nobody else can have stored what a call surely stored."""
+        is_sure = event.kind == SET or event.want == "stored"
+        return is_sure and self.stored[event.item] == 1 and b"." in event.call.value
+
+    def walk(self, placed):
+        """The stores of a key in their order, each with the reads that saw it."""
+        before, maker, self_seen = None, None, None
+        for event, is_change, _, _ in placed:
+            if event.kind == GET and event.want == "hit" and event.asked.command.verb == "get" and maker is not None and \
+                    self.is_mine(event):
+                self.reads.append((event, maker, before))
+                self.seen.setdefault(maker, []).append(event)
+            elif is_change and event.kind != GET:
+                before, maker = maker, event if self.is_store(event) and self.is_alone(event) else None
+
+    def is_mine(self, event):
+        return not event.asked.original.startswith(b"gat") and len({*event.asked.command.keys}) == len(event.asked.command.keys)
+
+    # ---- answers
+
+    def instead(self, event, store):
+        """The answer to the command of a read, where it sees what another call stored; None for no item."""
+        text = b""
+        for item in items_of(event.asked.answer)[0]:
+            flags, value = item.flags, item.value
+            if item.key == event.key:
+                if store is None:
+                    continue
+                flags, value = store
+            text += b"VALUE %s %d %d\r\n%s\r\n" % (item.key, flags, len(value), value)
+        return text + b"END\r\n"
+
+    def sees(self, event, store):
+        return {event.asked: self.instead(event, (store.call.flags, store.call.value))}
+
+    # ---- kinds of lies
+
+    def value(self):
+        """A read sees a value that nobody stored."""
+        for event, _, _ in self.reads:
+            yield {event.asked: self.instead(event, (event.flags, event.value + b"?"))}
+
+    def stale(self):
+        """A read sees what was overwritten before it began."""
+        for event, maker, before in self.reads:
+            if before is not None and before.end < maker.begin and maker.end < event.begin:
+                yield self.sees(event, before)
+
+    def early(self):
+        """A read sees what is stored after it."""
+        stores = sorted((store for store in self.seen if store.begin), key=lambda store: store.begin)
+        for event, maker, _ in self.reads:
+            later = [store for store in stores if store.key == event.key and store.begin > event.end]
+            if later:
+                yield self.sees(event, later[0])
+
+    def dropped(self):
+        """A set changes nothing."""
+        before_of = {maker: before for _, maker, before in self.reads}
+        for store, events in self.seen.items():
+            before = before_of[store]
+            if before is not None and before.end < store.begin and any(store.end < event.begin for event in events):
+                yield {asked: text for event in events for asked, text in self.sees(event, before).items()}
+
+    def swapped(self):
+        """Two clients get each other's answers."""
+        alone = [one for one in self.reads if len(one[0].asked.events) == 1]
+        for (event, maker, _), (other, later, _) in zip(alone, alone[1:]):
+            if event.key == other.key and maker is not later and maker.end < later.begin and later.end < other.begin and \
+                    event.connection != other.connection:
+                yield {event.asked: other.asked.answer, other.asked: event.asked.answer}
+
+    def mixed(self):
+        """A client gets the answers to two commands the other way round."""
+        for asked in self.recording.asked.values():
+            for one, other in zip(asked, asked[1:]):
+                if one.answer and other.answer and one.command.verb == other.command.verb == "get" and \
+                        not {*one.command.keys} & {*other.command.keys} and len(one.answer) + len(other.answer) > 10:
+                    yield {one: other.answer, other: one.answer}
+
+    def missed(self):
+        """A read misses an item that was surely there."""
+        for key, events in sorted(self.keys.events.items()):
+            if not any(event.kind in (DELETE, FLUSH) for event in events):
+                first = min((event.end for event in events if event.kind == SET), default=FOREVER)
+                for event in events:
+                    if event.kind == GET and event.asked.command.verb == "get" and event.want == "hit" and event.begin > first:
+                        yield {event.asked: self.instead(event, None)}
+
+    def uncounted(self):
+        """A count does not count: two give the same number, and nothing else has changed it."""
+        for key in sorted(self.keys.found):
+            last = None
+            for event, is_change, _, _ in self.keys.found[key]:
+                if event.kind == INCR and event.want == "number" and event.call.number:
+                    if last is not None and self.only_counted(key, last, event):
+                        yield {event.asked: b"%d\r\n" % last.number}
+                    last = event
+                elif is_change:
+                    last = None
+
+    def only_counted(self, key, one, other):
+        """Whether nothing but counting up can have changed a key at the time of two calls."""
+        near = self.keys.overlapping(key, min(one.begin, other.begin), max(one.end, other.end))
+        return all(event.kind == GET or event.kind == INCR and event.want == "number" for event in near)
+
+    def unstored(self):
+        """An add is answered that it stored nothing, and its value was seen."""
+        for store, events in self.seen.items():
+            if store.kind == ADD and store.asked.answer == b"STORED\r\n" and events:
+                yield {store.asked: b"NOT_STORED\r\n"}
+
+    def lies(self, kind):
+        return [Lie(kind, answers) for answers in getattr(self, kind)() if any(
+            asked.answer != text for asked, text in answers.items())]
+
+    def told(self, lie):
+        """The outputs with a lie in them."""
+        texts = {}
+        for some in self.recording.asked.values():
+            for asked in some:
+                texts.setdefault((asked.connection, asked.session), []).append(lie.answers.get(asked, asked.answer) or b"")
+        return [one._replace(text=b"".join(texts.get(one[:2], []))) for one in self.outputs]
+
+
+KINDS = ("value", "stale", "early", "dropped", "swapped", "mixed", "missed", "uncounted", "unstored")
+
+
+def verdict(capture, outputs, **more):
+    """The word of the judge, and its lines."""
+    try:
+        judge = Judge(capture, outputs, **more)
+        judge.run()
+        judge.certificate()
+    except Verdict as said:
+        return said.word, said.told()
+    return "order found", []
+
+
+def planted(capture, replies, count, seed=1):
+    """Some lies of each kind, drawn."""
+    liar, draw = Liar(capture, replies), random.Random(seed)
+    for kind in KINDS:
+        lies = liar.lies(kind)
+        for lie in draw.sample(lies, min(count, len(lies))):
+            yield lie, liar.told(lie)
+
+
+def main(words):
+    texts = []
+    for name in words[:2]:
+        with open(name, "rb") as file:
+            texts.append(file.read())
+    for lie, outputs in planted(*texts, *map(int, words[2:] or ["1"])):
+        begin = time.perf_counter()
+        word, lines = verdict(texts[0], outputs)
+        print(f"-- {lie.kind}: {word}, {time.perf_counter() - begin:.1f} s, {len(lines)} lines", *lines[:5], sep="\n   ", flush=True)
+
+
+if __name__ == "__main__":
+    main(sys.argv[1:])

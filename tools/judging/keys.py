@@ -1,0 +1,123 @@
+"""The orders of all keys: for each an order of its calls that explains their replies."""
+from bisect import bisect_left, bisect_right
+from collections import namedtuple
+
+from formats import shown
+from judging.events import FLUSH, GET, Unknown
+from judging.needs import ITEM, NUMBER, Needs
+from judging.reasons import Reason
+from judging.search import GaveUp, Search, Stuck
+from judging.states import ABSENT, States, of_several
+from model import shard_of
+
+# a call in the order of a key: whether it changed the key, whether the item was lost before it, and the state after it
+Placed = namedtuple("Placed", "event is_change was_lost state")
+# how many states are looked at where an item is guessed, and how many items are tried
+MOST_STATES, MOST_GUESSES = 20000, 50
+
+
+class Keys:
+    """The calls of each key in the order of their begins, and in the order that was found.
+
+    A flush is a call on each key of its shard. With `is_warm` a key may have an item at first: one that explains what was
+    seen. `limit` is how many states of a key are looked at, and `look` is called from time to time. Of keys that are
+    `unsure` nothing can be refused.
+    """
+
+    def __init__(self, events, shards, loses=False, is_warm=False, limit=200000, look=None, unsure=()):
+        self.unsure = set(unsure)
+        self.states, self.shards, self.is_warm, self.limit, self.look = States(True, loses), shards, is_warm, limit, look
+        self.events, self.first, self.found, self.shard_of = {}, {}, {}, {}
+        self.reach = {}
+        self.states.learn(events)
+        self.split(events)
+
+    def split(self, events):
+        flushes = {}
+        for event in events:
+            if event.kind == FLUSH:
+                flushes.setdefault(event.shard, []).append(event)
+            else:
+                self.events.setdefault(event.key, []).append(event)
+                self.shard_of[event.key] = event.shard
+        for key, some in self.events.items():
+            some += flushes.get(self.shard_of[key], ())
+            some.sort(key=lambda event: (event.begin, event.id))
+
+    def of(self, keys):
+        """The calls on some keys."""
+        if len(keys) == 1:
+            return self.events[keys[0]]
+        return sorted({event.id: event for key in keys for event in self.events[key]}.values(),
+                      key=lambda event: (event.begin, event.id))
+
+    def model_of(self, keys):
+        """The step of a group of keys, its state at first, and the places of keys in it, None where there is one."""
+        begin = tuple([(self.first_of(key), 0, 0) for key in keys])
+        if len(keys) == 1:
+            return self.states.step, begin[0], None
+        slots, of_shard = {key: at for at, key in enumerate(keys)}, {}
+        for key, at in slots.items():
+            of_shard.setdefault(self.shard_of[key], []).append(at)
+        return of_several(self.states, slots, of_shard), begin, slots
+
+    def search(self, keys):
+        """Looks for an order of the calls on some keys."""
+        events = self.of(keys)
+        step, begin, slots = self.model_of(keys)
+        first = {key: self.first_of(key) for key in keys}
+        try:
+            order = Search(events, begin, step, self.limit, Needs(events, self.states, first), slots, None, self.look).run()
+        except Stuck:
+            raise Reason(self, keys, events).verdict() from None
+        except GaveUp:
+            names = f"key {shown(keys[0])}" if len(keys) == 1 else "keys " + ", ".join(map(shown, keys[:5]))
+            raise Unknown(f"{names}: more than {self.limit} states were looked at") from None
+        for key in keys:
+            slot = slots and slots[key]
+            self.found[key] = [
+                Placed(events[place], is_change, was_lost, state if slot is None else state[slot])
+                for place, is_change, was_lost, state in order
+                if events[place].key == key or events[place].kind == FLUSH and events[place].shard == self.shard_of[key]]
+
+    # ---- items that were there at first
+
+    def first_of(self, key):
+        """The item of a key at first, by its number."""
+        if not self.is_warm:
+            return ABSENT
+        if key not in self.first:
+            self.first[key] = self.guess(key)
+        return self.first[key]
+
+    def guess(self, key):
+        """The first of these that explains all: one that was seen and that nobody stores, none, a number from which it was
+        counted, one that nobody saw, any other that was seen."""
+        events, number = self.events[key], self.states.values.number
+        needs = Needs(events, self.states, {key: ABSENT})
+        lost = [item for at, (kind, _, item) in enumerate(needs.things) if kind == ITEM and item and not needs.make[at]]
+        lost.sort(key=lambda item: len(self.states.values.pairs[item][1]))
+        counted = [number(0, b"%d" % value) for kind, _, value in needs.things if kind == NUMBER]
+        seen = [event.item for event in events if event.kind == GET and event.item]
+        for item in dict.fromkeys([*lost[:1], ABSENT, *counted[:2], number(0, b""), *seen[:MOST_GUESSES]]):
+            try:
+                Search(events, (item, 0, 0), self.states.step, MOST_STATES, Needs(events, self.states, {key: item}), None,
+                       None, self.look).run()
+                return item
+            except (Stuck, GaveUp):
+                continue
+        return lost[0] if lost else ABSENT
+
+    # ---- times
+
+    def overlapping(self, key, begin, end):
+        """The calls on a key that overlap a time."""
+        events = self.events[key]
+        if key not in self.reach:
+            latest, some = 0, []
+            for event in events:
+                latest = max(latest, event.end)
+                some.append(latest)
+            self.reach[key] = some, [event.begin for event in events]
+        some, begins = self.reach[key]
+        return [event for event in events[bisect_left(some, begin) : bisect_right(begins, end)] if event.end >= begin]

@@ -1,0 +1,208 @@
+"""Mends the orders of the keys in circles, so that all calls have one order."""
+from formats import shown
+from judging.events import ADD, APPEND, CAS, DECR, INCR, PREPEND, REPLACE, Unknown
+from judging.fitting import Contradiction, Fitting, Piece, fit
+from judging.keys import Placed
+from judging.needs import Needs
+from judging.search import GaveUp, Search, Stuck
+from judging.states import Lost
+
+# after how many turns circles that overlap in time are mended together, and keys are searched together; how many turns
+# there are; how many calls are fitted at a time, how many choices are made, and how many states are looked at
+FEW_TURNS, MANY_TURNS, MOST_TURNS, MOST_CALLS, MOST_CHOICES, MOST_STATES = 3, 12, 40, 1500, 20000, 20000
+# the kinds of calls whose makers may be chosen anew, by searching their keys again, in further tries
+SOFT = ((), (INCR, DECR), (INCR, DECR, APPEND, PREPEND))
+
+
+class Mending:
+    """Mends circles of a graph; `numbers` gives the stores that must keep the order of their uniques."""
+
+    def __init__(self, events, keys, numbers=(), look=None):
+        self.events, self.keys, self.found, self.numbers, self.look = events, keys, keys.found, numbers, look
+        self.places, self.together = {}, []
+
+    def turn(self, circles, turn):
+        """Mends these circles, or searches their keys together where that was tried often."""
+        self.places = {}
+        done = sum(self.mend(calls, turn) for calls in self.near(circles, turn))
+        if not done and turn >= MANY_TURNS:
+            self.search_together(circles)
+
+    def near(self, circles, turn):
+        """The calls in circles; after some turns those of circles whose times overlap together."""
+        found = [[self.events[node] for node in circle if node < len(self.events)] for circle in circles]
+        if turn < FEW_TURNS:
+            return found
+        found.sort(key=lambda calls: min(event.begin for event in calls))
+        joined, end = [], -1
+        for calls in found:
+            if joined and min(event.begin for event in calls) <= end:
+                joined[-1] += calls
+            else:
+                joined.append(calls)
+            end = max(end, max(event.end for event in calls))
+        return joined
+
+    def window(self, calls, turn):
+        """The keys of calls in circles, and all calls on these keys that overlap them, by their numbers; after some turns
+        the calls on all keys of an ever longer time."""
+        begin, end = min(event.begin for event in calls), max(event.end for event in calls)
+        more = max(0, turn - FEW_TURNS) * (end - begin) // 2
+        begin, end = begin - more, end + more
+        names = {event.key for event in calls if event.key is not None} if turn < FEW_TURNS else self.keys.events
+        window, found = {event.id: event for event in calls}, []
+        for key in sorted(names):
+            some = self.keys.overlapping(key, begin, end)
+            window.update((event.id, event) for event in some)
+            if some:
+                found.append(key)
+        return found, window
+
+    def mend(self, calls, turn):
+        """Fits the orders of the keys in a circle to each other. Gives whether that was done."""
+        names, window = self.window(calls, turn)
+        if len(window) > MOST_CALLS:
+            return False
+        for kinds in SOFT:
+            soft = [key for key in names if kinds and self.is_soft(key, kinds)]
+            if kinds and not soft:
+                continue
+            try:
+                self.fit(names, window, soft)
+                return True
+            except Contradiction:
+                continue
+        return False
+
+    def fit(self, names, window, soft):
+        """Fits the orders of keys, the soft ones last and one by one, which are searched again."""
+        fitting, pieces = Fitting(window.values()), {}
+        for key in names:
+            if key not in soft:
+                pieces[key] = self.piece(key, window, fitting)
+        numbered = [fitting.place[number] for number in self.numbers if number in window]
+        for one, other in zip(numbered, numbered[1:]):
+            fitting.add(one, other)
+        fitting = fit(fitting, MOST_CHOICES, self.look)
+        for key in soft:
+            self.search_within(key, window, fitting)
+            pieces[key] = self.piece(key, window, fitting)
+            fitting = fit(fitting, MOST_CHOICES, self.look)
+        for key, (first, last, runs) in pieces.items():
+            self.put(key, fitting, first, last, runs)
+
+    def is_soft(self, key, kinds):
+        """Whether another one may have made what a call on this key saw: if there are such kinds of calls, or calls
+        that may change something without an answer."""
+        return any(event.kind in kinds or event.want is None and event.kind in (CAS, ADD, REPLACE, APPEND, PREPEND)
+                   for event in self.keys.events[key])
+
+    # ---- pieces of a key's order
+
+    def bounds(self, key, window):
+        """Where the piece of a key's order is that has the calls of a window, and what saw the last of them."""
+        placed = self.found[key]
+        if key not in self.places:
+            self.places[key] = {one.event.id: at for at, one in enumerate(placed)}
+        places = self.places[key]
+        ours = [places[number] for number in window if number in places]
+        first, last = min(ours), max(ours) + 1
+        while last < len(placed):  # and those behind them that saw the last change, and the next one
+            last += 1
+            if placed[last - 1].is_change:
+                break
+        return first, last
+
+    def piece(self, key, window, fitting):
+        """Puts a piece of a key's order into a fitting. Gives where it is, and its runs."""
+        first, last = self.bounds(key, window)
+        return first, last, Piece(fitting, self.found[key][first:last], self.state(key, first)[0] != 0).runs
+
+    def state(self, key, at):
+        """The state of a key before a place of its order."""
+        return self.found[key][at - 1].state if at else (self.keys.first_of(key), 0, 0)
+
+    def put(self, key, fitting, first, last, runs):
+        """Puts the calls of a key that were fitted in their new order."""
+        placed = self.found[key][first:last]
+        by_number = {one.event.id: one for one in placed}
+        fresh = iter([fitting.events[at].id for run in runs for at in fitting.sorted(run)])
+        self.exchange(key, first, last, [by_number[next(fresh)] if one.event.id in fitting.place else one for one in placed])
+
+    def exchange(self, key, first, last, new):
+        """Puts a piece of a key's order in place of another one, with the states after its calls."""
+        placed, layers = self.found[key], [{self.state(key, first): None}]
+        for one in new:
+            layers.append(self.layer(layers[-1], one))
+        end = placed[last - 1].state
+        while last < len(placed) and layers[-1] and end[0] not in {state[0] for state in layers[-1]}:
+            new.append(placed[last])  # other states up to a later place
+            end = placed[last].state
+            layers.append(self.layer(layers[-1], placed[last]))
+            last += 1
+        if not layers[-1]:
+            raise Contradiction
+        alike = [state for state in layers[-1] if state[0] == end[0]]
+        state = end if end in layers[-1] else (alike or list(layers[-1]))[0]
+        states = []
+        for layer in reversed(layers[1:]):
+            states.append(state)
+            state = layer[state]
+        states.reverse()
+        placed[first:last] = [Placed(*one[:3], state) for one, state in zip(new, states)]
+        self.places.pop(key, None)
+
+    def layer(self, states, one):
+        """The states after a call, each with one before it."""
+        found = {}
+        for state in states:
+            for new in self.keys.states.step(state, one.event):
+                was_lost = new.__class__ is Lost
+                if was_lost == one.was_lost:
+                    found.setdefault(new.state if was_lost else new, state)
+        return found
+
+    def search_within(self, key, window, fitting):
+        """Looks for another order of a piece of a key, within the bounds of a fitting; what is not in its window stays."""
+        first, last = self.bounds(key, window)
+        placed = self.found[key][first:last]
+        events = sorted([one.event for one in placed], key=lambda event: (event.begin, event.id))
+        places = {event.id: at for at, event in enumerate(events)}
+        after, last_out, run = {}, None, []
+        for one in placed:
+            at = places[one.event.id]
+            before = [] if last_out is None else [last_out]
+            if one.event.id in window:
+                run.append(at)
+            else:
+                before, last_out, run = before + run, at, []
+            after[at] = before
+        ours = [fitting.place[event.id] for event in events if event.id in window]
+        for at in ours:
+            after[places[fitting.events[at].id]] += [places[fitting.events[one].id] for one in ours
+                                                     if fitting.before[at] >> one & 1]
+        state = self.state(key, first)
+        try:
+            order = Search(events, state, self.keys.states.step, MOST_STATES,
+                           Needs(events, self.keys.states, {key: state[0]}), None, after, self.look).run()
+        except (Stuck, GaveUp):
+            raise Contradiction from None
+        self.exchange(key, first, last, [Placed(events[one.place], *one[1:]) for one in order])
+
+    def search_together(self, circles):
+        """Searches the keys of circles together, where they cannot be fitted."""
+        for circle in circles:
+            names = {self.events[node].key for node in circle if node < len(self.events)} - {None}
+            for group in [group for group in self.together if group & names]:
+                self.together.remove(group)
+                names |= group
+            self.together.append(names)
+        for names in self.together:
+            self.keys.search(sorted(names))
+
+
+def give_up(circles, events):
+    """What is said where circles are left."""
+    names = sorted({events[node].key for circle in circles for node in circle if node < len(events)} - {None})
+    more = f" and {len(names) - 5} more" if len(names) > 5 else ""
+    return Unknown("keys " + ", ".join(map(shown, names[:5])) + f"{more}: their orders do not fit each other")

@@ -1,0 +1,172 @@
+"""Why no order explains the calls on a few keys: a few of these calls that have none, whatever the others do.
+
+What is left out is left out soundly: calls before a time may have left anything, calls that end after the first time
+that no order gets past may not have been made, reads may always be left out, and what a call answered may be
+forgotten. So the calls that are left have no order either, and that can be seen by going through them by hand.
+"""
+import copy
+
+from formats import shown
+from judging.events import DECR, FLUSH, FOREVER, GET, INCR, APPEND, PREPEND, No, Unknown
+from judging.needs import ITEM, Needs
+from judging.search import GaveUp, Search, Stuck
+from judging.states import NOTHING_KNOWN, ANYTHING
+
+# how many searches are made, how many states each looks at, and how many calls are printed
+MOST_SEARCHES, MOST_STATES, MOST_PRINTED = 300, 3000, 12
+
+
+class Reason:
+    """The calls on some keys that no order explains; `is_known` says whether the items at first count."""
+
+    def __init__(self, keys, names, events):
+        self.keys, self.names, self.all, self.events, self.is_known = keys, names, events, events, True
+        self.step, self.begin, self.slots = keys.model_of(names)
+        self.searches = 0
+
+    def verdict(self):
+        """What is said of these calls."""
+        what = "key " + shown(self.names[0]) if len(self.names) == 1 else "keys " + ", ".join(map(shown, self.names))
+        if self.keys.is_warm and any(event.want is None and event.kind in (INCR, DECR, APPEND, PREPEND) for event in self.all):
+            return Unknown(f"{what}: which item was there at first was not found, as calls without answers changed it")
+        if self.keys.unsure.intersection(self.names):
+            return Unknown(f"{what}: a retrieval names a key twice and has one item of it: which was found is not known")
+        lost = self.never_made()
+        if lost:
+            return No(f"{what}: no command stores what this one answers", lines=[lost.told()])
+        if not self.shrink():
+            return No(f"{what}: no order of the {len(self.all)} calls explains their answers", lines=self.lines())
+        came = "after no others" if self.is_known else "whatever came before"
+        return No(f"{what}: no order of these commands explains their answers, {came}", lines=self.lines())
+
+    def never_made(self):
+        """A call that saw what nobody makes."""
+        first = {name: self.keys.first_of(name) for name in self.names}
+        needs = Needs(self.all, self.keys.states, first)
+        for event in self.all:
+            if event.kind == GET and event.item and first[event.key] != event.item:
+                if not needs.make[needs.numbers[ITEM, event.key, event.item]]:
+                    return event
+        return None
+
+    # ---- fewer calls
+
+    def shrink(self):
+        """Leaves out calls as long as the others have no order. Gives whether the calls that are left surely have none."""
+        self.cut_behind()
+        if not self.is_stuck(self.events):
+            self.events = self.all
+            return False
+        self.cut_before()
+        self.drop_reads()
+        self.forget()
+        return True
+
+    def is_stuck(self, events, is_known=None):
+        """Whether these calls surely have no order."""
+        self.searches += 1
+        is_known = self.is_known if is_known is None else is_known
+        begin, first = self.begin, {name: self.keys.first_of(name) for name in self.names}
+        if not is_known:
+            begin = NOTHING_KNOWN if self.slots is None else (NOTHING_KNOWN,) * len(self.names)
+            first = dict.fromkeys(self.names, ANYTHING)
+        try:
+            Search(events, begin, self.step, MOST_STATES, Needs(events, self.keys.states, first), self.slots).run()
+        except Stuck:
+            return True
+        except GaveUp:
+            pass
+        return False
+
+    def cut_behind(self):
+        """Cuts off what comes after the first time at which there is no order any more."""
+        times = sorted({event.end for event in self.all})
+        least, most = 0, len(times) - 1
+        while least < most:
+            middle = (least + most) // 2
+            if self.is_stuck(self.until(times[middle])):
+                most = middle
+            else:
+                least = middle + 1
+        self.events = self.until(times[most])
+
+    def until(self, time):
+        """The calls up to a time, where those that had not ended may have been made or not."""
+        return [event if event.end <= time else loosened(event, None) for event in self.all
+                if event.begin < time and not (event.kind == GET and event.end > time)]
+
+    def cut_before(self):
+        """Cuts off what comes before the last time from which on there is no order, whatever came before."""
+        times = sorted({event.begin for event in self.events} | {event.end + 1 for event in self.events if event.end < FOREVER})
+        least, most = -1, len(times) - 1
+        while least < most:
+            middle = (least + most + 1) // 2
+            if self.is_stuck(self.since(times[middle]), False):
+                least = middle
+            else:
+                most = middle - 1
+        if least >= 0:
+            self.events, self.is_known = self.since(times[least]), False
+
+    def since(self, time):
+        """The calls from a time on, where those that had begun may have been made or not."""
+        return [event if event.begin >= time else loosened(event, event.want) for event in self.events
+                if event.end >= time and not (event.begin < time and event.kind == GET)]
+
+    def drop_reads(self):
+        """Leaves out reads, many at a time at first."""
+        size = max(1, sum(event.kind == GET for event in self.events) // 2)
+        while self.searches < MOST_SEARCHES:
+            reads, at = [event for event in self.events if event.kind == GET], 0
+            while at < len(reads) and self.searches < MOST_SEARCHES:
+                gone = set(map(id, reads[at : at + size]))
+                left = [event for event in self.events if id(event) not in gone]
+                if self.is_stuck(left):
+                    self.events = left
+                at += size
+            if size == 1:
+                break
+            size = max(1, size // 2)
+
+    def forget(self):
+        """Lets calls be made or not, with whatever answer, as far as there is no order still."""
+        for at, event in enumerate(self.events):
+            if event.kind in (GET, FLUSH) or event.optional and event.want is None or self.searches > MOST_SEARCHES:
+                continue
+            for want in (None, event.want):
+                events = [*self.events[:at], loosened(event, want), *self.events[at + 1 :]]
+                if self.is_stuck(events):
+                    self.events = events
+                    break
+
+    # ---- lines
+
+    def lines(self):
+        sure = [event for event in self.events if not (event.optional and event.want is None)]
+        lines = []
+        for event in sure[:MOST_PRINTED]:
+            lines.append(event.told())
+            maker = self.maker_of(event)
+            if maker:
+                lines.append("  stored before by" + maker.told()[1:])
+        if len(sure) > MOST_PRINTED:
+            lines.append(f"  and {len(sure) - MOST_PRINTED} more")
+        if len(self.events) > len(sure):
+            lines.append(f"  {len(self.events) - len(sure)} others that may have been made then, or not, do not help")
+        return lines
+
+    def maker_of(self, event):
+        """The last call before all these that stored what a read of these saw."""
+        if self.is_known or event.kind != GET or not event.item:
+            return None
+        inside = {(one.asked, one.part) for one in self.events}
+        made = [one for one in self.all if one.item == event.item and one.kind != GET and one.key == event.key and
+                (one.asked, one.part) not in inside and one.begin < event.end]
+        return made[-1] if made else None
+
+
+def loosened(event, want):
+    """A call that may have been made or not, of which this reply was seen."""
+    event = copy.copy(event)
+    event.optional, event.want = True, want
+    return event
