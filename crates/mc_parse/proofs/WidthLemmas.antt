@@ -2,7 +2,7 @@
 -- that a command is no wider than its line has bytes.
 use Rattle.std.specs.Prelude.{◌&&◌, if◌then◌else◌, Option, None, Some, IfSome, not}
 use Rattle.std.specs.List.{list_all}
-use Rattle.std.proofs.Common.{◌≡◌, ℕ, ◌+◌, ◌*◌, ◌≤◌, List, [], ◌∷◌, length, Bool, true, false, refl, sym, ap, subst, arith}
+use Rattle.std.proofs.Common.{ℕ, ◌+◌, ◌*◌, ◌≤◌, List, [], ◌∷◌, length, Bool, true, false, ap, arith}
 use Rattle.std.proofs.lemmas.List.{length-map}
 use Rattle.std.proofs.lemmas.List.FromFn.{length-map-range_with_len}
 use Rattle.zy_base.specs.declared.call.Call.{Call}
@@ -20,8 +20,8 @@ use Rattle.mc_parse.specs.declared.error_line.ErrorLine.TheVariants as Errors
 use Rattle.mc_parse.specs.declared.name.Name.{Name}
 use Rattle.mc_parse.specs.Name.{name_of, arity_of}
 use Rattle.mc_parse.specs.Arity.{Following, but_last, following, has_count, lacks_noreply, asks_silence}
-use Rattle.mc_parse.specs.MetaAsk.{MetaAsk, meta_gets, meta_stores, meta_exchanges, meta_deletes, storing_ask}
-use Rattle.mc_parse.specs.Form.{Ask, gets, metas, Form, faulty, asks, is_key, first_word, keys_among, ask_of, number_fault, check, find, form_with, form_after, form_of, meta_form, form_in, line_form}
+use Rattle.mc_parse.specs.MetaAsk.{MetaAsk, meta_gets, meta_stores, storing_ask}
+use Rattle.mc_parse.specs.Form.{Ask, metas, Form, faulty, asks, is_key, first_word, keys_among, ask_of, number_fault, check, find, form_with, form_after, form_of, meta_form, form_in, line_form}
 use Rattle.mc_parse.specs.Meaning.{is_ended, value_of, alone_meta, value_meta, value_command, command_for, block_command_for, large_command_for, line_command, block_command, large_command}
 use Rattle.mc_parse.specs.OnAll.{made_by}
 use Rattle.mc_parse.specs.Deed.{Deed, does_nothing, makes_one, gets_each, makes_on_all, deed_of}
