@@ -19,7 +19,6 @@ use Rattle.mc_parse.specs.MetaAsk.{noops, meta_gets, meta_stores, meta_exchanges
 use Rattle.mc_parse.specs.declared.verb.Verb.{Verb}
 use Rattle.mc_parse.specs.declared.name.Name.{Name}
 use Rattle.mc_parse.specs.declared.name.Name.TheVariants.{Store, Cas, Get, Delete, Count, Version, Verbosity, Flush, Quit, Stats}
-use Rattle.mc_parse.specs.declared.sizes.Sizes.{Sizes}
 use Rattle.mc_parse.specs.Words.{words as words_of, is_noreply}
 use Rattle.mc_parse.specs.Name.{name_of, arity_of}
 use Rattle.mc_parse.specs.Number.{small_number_of, is_zero}
@@ -85,7 +84,7 @@ map_may : {A : Type 0} → (make : A → Ask) (found : Option A) → ((x : A) �
 map_may make None each = refl
 map_may make (Some x) each = each x
 
-cas_may : (key : List ℕ) (sizes : Option Sizes) (unique : Option ℕ) → may_all (cas_ask key sizes unique) ≡ true
+cas_may : (key : List ℕ) (sizes : Option _) (unique : Option ℕ) → may_all (cas_ask key sizes unique) ≡ true
 cas_may key None unique = refl
 cas_may key (Some sizes) None = refl
 cas_may key (Some sizes) (Some unique) = refl

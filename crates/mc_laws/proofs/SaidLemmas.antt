@@ -1,10 +1,9 @@
 -- What lines with a key and few flags say.
-use Rattle.std.proofs.Common.{◌≡◌, ℕ, Bool, true, false, if◌then◌else◌, map, List, [], ◌∷◌, refl, ap, ◌∙◌}
+use Rattle.std.proofs.Common.{◌≡◌, ℕ, ◌+◌, ◌-◌, length, take, drop, arith, Bool, true, false, if◌then◌else◌, map, List, [], ◌∷◌, refl, ap, ◌∙◌}
 use Rattle.std.specs.Prelude.{◌||◌, codes, Option, None, Some, option_map}
 use Rattle.std.specs.List.{AllByRecursion}
 use Rattle.std.specs.Option.{option_and_then}
 use Rattle.std.specs.Str.{bytes_eq}
-use Rattle.mc_meta.specs.declared.flags.Flags.{Flags}
 use Rattle.mc_meta.specs.declared.meta_line.Span.{Span}
 use Rattle.mc_meta.specs.declared.meta_line.MetaLine.{MetaLine}
 use Rattle.mc_meta.specs.declared.meta_line.MetaLine.TheVariants.{Other, Bad, Get, Set, Delete}
@@ -15,6 +14,13 @@ use Rattle.mc_meta.specs.Key.{bytes_in}
 use Rattle.mc_meta.specs.Meta.{span_of, is_key, get_with, delete_with, set_with, noop_line, get_line, set_line, delete_line, is_meta_name, line_of, meta_of, meta_line}
 use Rattle.mc_meta.proofs.LineLemmas.{reads_as}
 use Rattle.mc_meta.proofs.PlaceLemmas.{words_at-texts}
+
+-- what flags say, by its first value, since its name is not for other crates
+abbrev Of : {A : Type 0} → A → Type 0
+Of {A} a = A
+
+abbrev Flags : Type 0
+Flags = Of no_flags
 
 -- the bytes at the place of a word are the word
 pub bytes_in-word : (line : List ℕ) (word : Placed) → IsWordIn line word → bytes_in line (span_of word) ≡ word.text

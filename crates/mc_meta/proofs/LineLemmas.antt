@@ -1,9 +1,8 @@
 -- What a line says, by its words alone, which are at their places.
-use Rattle.std.proofs.Common.{◌≡◌, ℕ, ◌+◌, ◌-◌, List, [], ◌∷◌, length, map, take, drop, refl, ap, ◌∙◌, arith}
+use Rattle.std.proofs.Common.{◌≡◌, ℕ, List, [], ◌∷◌, map, refl, ap, ◌∙◌}
 use Rattle.std.specs.List.{AllByRecursion}
 use Rattle.mc_meta.specs.Words.{Placed, words, words_at, text_of, IsWordIn}
-use Rattle.mc_meta.specs.Key.{bytes_in}
-use Rattle.mc_meta.specs.Meta.{span_of, line_of, meta_of, meta_line}
+use Rattle.mc_meta.specs.Meta.{line_of, meta_of, meta_line}
 use Rattle.mc_meta.proofs.PlaceLemmas.{words_at-texts, words_at-places}
 
 -- a line with this first word and these words after it says what the name says with them

@@ -1,18 +1,13 @@
 -- What lines with these words say, and which lines need a block.
 use Rattle.std.proofs.Common.{◌≡◌, ℕ, Bool, true, false, if◌then◌else◌, map, List, [], ◌∷◌, refl, ap, ◌∙◌}
-use Rattle.std.specs.Prelude.{◌||◌, codes, Option, None, Some, option_map}
-use Rattle.std.specs.List.{AllByRecursion}
-use Rattle.std.specs.Option.{option_and_then}
+use Rattle.std.specs.Prelude.{◌||◌, codes, Option, None, Some}
 use Rattle.std.specs.Str.{bytes_eq}
 use Rattle.mc_meta.specs.declared.flags.Flags.{Flags}
-use Rattle.mc_meta.specs.declared.meta_line.Span.{Span}
 use Rattle.mc_meta.specs.declared.meta_line.MetaLine.{MetaLine}
-use Rattle.mc_meta.specs.declared.meta_line.MetaLine.TheVariants.{Other, Bad, Get, Set, Delete}
-use Rattle.mc_meta.specs.Words.{Placed, words, words_at, text_of, IsWordIn}
-use Rattle.mc_meta.specs.Number.{number_of, small_number_of}
-use Rattle.mc_meta.specs.Flags.{no_flags, get_letters, set_letters, delete_letters, with_letter, with_flags, with_unique, with_flag, flags_after, flags_of}
-use Rattle.mc_meta.specs.Key.{bytes_in}
-use Rattle.mc_meta.specs.Meta.{span_of, is_key, get_with, delete_with, set_with, noop_line, get_line, set_line, delete_line, is_meta_name, line_of, meta_of, meta_line}
+use Rattle.mc_meta.specs.declared.meta_line.MetaLine.TheVariants.{Other, Bad, Set}
+use Rattle.mc_meta.specs.Words.{Placed, words, words_at, text_of}
+use Rattle.mc_meta.specs.Flags.{get_letters, delete_letters, flags_of}
+use Rattle.mc_meta.specs.Meta.{is_key, get_with, delete_with, noop_line, get_line, set_line, delete_line, is_meta_name, line_of, meta_of, meta_line}
 use Rattle.mc_meta.proofs.LineLemmas.{reads_as}
 use Rattle.mc_meta.proofs.PlaceLemmas.{words_at-texts}
 

@@ -1,11 +1,11 @@
 -- What the calls of a command have in common.
-use Rattle.std.proofs.Common.{◌≡◌, ℕ, ◌+◌, ◌<◌, ◌≤◌, Bool, List, [], ◌∷◌, ◌++◌, length, take, append_assoc, append-nil, ◌∙◌, map, refl, ap, sym, zero, suc, arith}
+use Rattle.std.proofs.Common.{◌≡◌, ℕ, ◌+◌, ◌<◌, ◌≤◌, Bool, List, [], ◌∷◌, ◌++◌, length, take, append_assoc, append-nil, ◌∙◌, map, refl, ap, sym, zero, suc, arith, length-append, get_or, ◌⊎◌, inl, inr}
 use Rattle.std.specs.Prelude.{All, Option, None, Some, option_map}
 use Rattle.std.proofs.lemmas.List.Elements.{All-nil, All-cons, All-head, All-tail, All-append}
 use Rattle.std.specs.List.{range_with_len, slice_get}
-use Rattle.std.proofs.lemmas.Option.{slice_get_past, slice_get_read, slice_get-map, slice_get_within, get_or_from_slice_get}
+use Rattle.std.proofs.lemmas.Option.{slice_get_past, slice_get_read, slice_get-map, slice_get_within, get_or_from_slice_get, slice_get_cases}
 use Rattle.std.proofs.lemmas.List.FromFn.{length-map-range_with_len, get_or-map-range_with_len}
-use Rattle.std.proofs.lemmas.List.{map-append, take_more}
+use Rattle.std.proofs.lemmas.List.{map-append, take_more, take_all}
 use Rattle.zy_base.specs.Call.{key_of}
 use Rattle.zy_base.specs.declared.call.Call.TheVariants.{Get as GetCall}
 use Rattle.zy_base.specs.declared.call.Call.{Call}
@@ -26,6 +26,24 @@ use Rattle.mc_parse.proofs.DeedLemmas.{stored_key, counted_key, no_key}
 pub take_next : (calls : List ShardCall) (part : ℕ) (call : ShardCall) → slice_get calls part ≡ Some call → take (part + 1) calls ≡ take part calls ++ call ∷ []
 take_next calls part call is =
     take_more calls part call (slice_get_within calls part call is) ∙ ap (λ (x : ShardCall). take part calls ++ x ∷ []) (get_or_from_slice_get calls part call call is)
+
+-- so calls that are the first of all are so with the next one
+pub taken_more : (all calls more : List ShardCall) (call : ShardCall) → take (length calls) all ≡ calls → slice_get all (length calls) ≡ Some call → more ≡ calls ++ call ∷ [] → take (length more) all ≡ more
+taken_more all calls more call front is next =
+    let long = ap (λ (l : List ShardCall). length l) next in
+    let size : length more ≡ length calls + 1 = omega (arith, long, length-append calls (call ∷ [])) in
+    ap (λ (n : ℕ). take n all) size ∙ take_next all (length calls) call is ∙ ap (λ (l : List ShardCall). l ++ call ∷ []) front ∙ sym next
+
+past_all : (all : List ShardCall) (n : ℕ) → slice_get all n ≡ None → length all ≤ n
+past_all all n none = go (slice_get_cases all n).1
+  where
+    go : ((x : ShardCall) × (n < length all) × (slice_get all n ≡ Some x) × (get_or all n x ≡ x)) ⊎ ((length all ≤ n) × (slice_get all n ≡ None)) → length all ≤ n
+    go (inl found) = let no : ◌≡◌ {A = Option ShardCall} None (Some found.0) = sym none ∙ found.2 in absurd (cc)
+    go (inr past) = past.0
+
+-- and they are all where there is no next one
+pub taken_all : (all calls : List ShardCall) → take (length calls) all ≡ calls → slice_get all (length calls) ≡ None → calls ≡ all
+taken_all all calls front none = sym front ∙ take_all (length calls) all (past_all all (length calls) none)
 
 -- the first call of what makes one call
 pub alone_first : (shards : ℕ) (call : Call) (key : List ℕ) → key_of call ≡ Some key → slice_get (call_alone shards call (key_of call)) 0 ≡ Some (at_key shards key call)

@@ -1,6 +1,6 @@
 -- What the calls of commands are: their keys, that they are steady, and their bounds.
 use Rattle.std.proofs.Common.{◌≡◌, ℕ, Bool, true, false, List, refl}
-use Rattle.std.specs.Prelude.{Option, None, Some}
+use Rattle.std.specs.Prelude.{None, Some}
 use Rattle.zy_base.specs.Call.{key_of}
 use Rattle.zy_base.specs.Told.{IsSteady}
 use Rattle.zy_base.specs.Bounds.{IsKey, IsValue, IsCall}

@@ -12,7 +12,7 @@ use Rattle.mc_parse.specs.declared.name.Name.{Name}
 use Rattle.mc_parse.specs.declared.need.Need.TheVariants.{Nothing}
 use Rattle.mc_parse.specs.Words.{words}
 use Rattle.mc_parse.specs.Name.{name_of}
-use Rattle.mc_parse.specs.Form.{Ask, Form, faulty, asks, find, form_after, form_of, form_in, meta_form, line_form}
+use Rattle.mc_parse.specs.Form.{Ask, asks, find, form_after, form_of, form_in, meta_form, line_form}
 use Rattle.mc_parse.specs.Need.{need_for}
 
 -- ---- names

@@ -1,5 +1,5 @@
 -- The command of a line, and of a line with its block (docs/PROFILE.md, "Commands").
-use Rattle.std.specs.Prelude.{◌≡◌, ℕ, ◌+◌, ◌-◌, ◌<◌, ◌≤◌, Bool, true, false, if◌then◌else◌}
+use Rattle.std.specs.Prelude.{◌≡◌, ℕ, ◌+◌, ◌-◌, ◌<◌, ◌≤◌, Bool, false, if◌then◌else◌}
 use Rattle.std.specs.Prelude.{List, [], ◌∷◌, length, take, drop}
 use Rattle.std.specs.Str.{bytes_eq}
 use Rattle.mc_parse.specs.declared.command.Command.{Command}
@@ -15,7 +15,7 @@ use Rattle.mc_parse.specs.declared.need.Need.TheVariants.{Nothing, Block, Quit}
 use Rattle.mc_parse.specs.Deed.{stored_by}
 use Rattle.mc_parse.specs.MetaAsk.{MetaAsk, noops, meta_gets, meta_stores, meta_exchanges, meta_deletes}
 use Rattle.mc_parse.specs.Form.{Ask, stores, exchanges, gets, deletes, counts, tells_version, tells_counts}
-use Rattle.mc_parse.specs.Form.{sets_verbosity, flushes, quits, metas, Form, line_form, faulty, asks}
+use Rattle.mc_parse.specs.Form.{sets_verbosity, flushes, metas, Form, line_form, faulty, asks}
 
 -- ---- blocks
 

@@ -27,6 +27,7 @@ pub use command::{Command, Keys};
 pub use error_line::ErrorLine;
 pub use listing::calls;
 pub use meta::Meta;
+pub use name::Name;
 pub use need::{Need, need_of};
 pub use one_call::call_at;
 pub use parse::{parse_block, parse_large, parse_line};

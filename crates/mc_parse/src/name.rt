@@ -9,7 +9,7 @@ use crate::verb::Verb;
 
 /// The name that a line begins with.
 #[derive(Clone, Copy)]
-pub(crate) enum Name {
+pub enum Name {
     /// `set`, `add`, `replace`, `append` or `prepend`.
     Store { verb: Verb },
     /// `cas`.

@@ -24,7 +24,13 @@ pub fn call_at(command: &Command, part: usize, shards: u32) -> Result<Option<Sha
         Command::Get { keys, .. } => get_at(keys.items(), part, shards),
         Command::Flush { .. } => Ok(on_all_at(OnAll::Flush, part, shards)),
         Command::Stats => Ok(on_all_at(OnAll::Tally, part, shards)),
-        _ => { if part == 0 { only_call(command, shards) } else { Ok(None) } }
+        _ => {
+            if part == 0 {
+                only_call(command, shards)
+            } else {
+                Ok(None)
+            }
+        }
     }
 }
 

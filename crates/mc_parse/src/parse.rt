@@ -46,7 +46,7 @@ pub fn parse_line(alloc: Global, line: &[u8]) -> Result<Command, NoMemory>
 
 /// The command of a line that needs a block, with its block: the value, and the two bytes that must
 /// end it. The value is moved and not copied. After a refusal the block is handed back.
-#[tactic(auto, unfolding(crate::specs::Meaning::block_command), using(crate::proofs::GetLemmas::block_few))]
+#[tactic(auto, unfolding(crate::specs::Meaning::block_command))]
 pub fn parse_block(alloc: Global, line: &[u8], block: Blob) -> Result<Command, (Blob, NoMemory)>
     requires within { length line.now ≤ line_limit }
     requires fits { IsBlockFor (need line.now) block }
@@ -61,7 +61,7 @@ pub fn parse_block(alloc: Global, line: &[u8], block: Blob) -> Result<Command, (
 
 /// The command of a line that needs a block whose value is over the limit, whatever the block
 /// contains. Takes no memory.
-#[tactic(auto, unfolding(crate::specs::Meaning::large_command), using(crate::proofs::GetLemmas::large_few))]
+#[tactic(auto, unfolding(crate::specs::Meaning::large_command))]
 pub fn parse_large(line: &[u8]) -> Command
     requires within { length line.now ≤ line_limit }
     requires large { IsTooLarge (need line.now) }

@@ -11,4 +11,5 @@ mod meta_answer;
 mod stats;
 mod writing;
 
+pub use stats::Stat;
 pub use writing::reply_text;

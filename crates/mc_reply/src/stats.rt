@@ -12,7 +12,7 @@ const LINE_ROOM: usize = 57;
 
 /// A number that `stats` reports.
 #[derive(Clone, Copy)]
-pub(crate) enum Stat {
+pub enum Stat {
     /// Calls that get the item of a key.
     Gets,
     /// Calls that store a value.
