@@ -128,8 +128,8 @@ pub fn worked_entries()
 #[tactic(auto, unfolding(zy_read::specs::Format::verdict_on, zy_read::specs::Format::reading_of, zy_read::specs::Format::read_on))]
 pub fn worked_codes()
     ensures no_call { journal_verdict (with_call (0 ∷ [])) ≡ Bad (Form 37) }
-    ensures next_call { journal_verdict (with_call (last_call_code + 1 ∷ [])) ≡ Bad (Form 37) }
+    ensures next_call { journal_verdict (with_call ((last_call_code + 1) ∷ [])) ≡ Bad (Form 37) }
     ensures no_reply { journal_verdict (with_call (codes "\u{1}\u{1}a" ++ 0 ∷ [])) ≡ Bad (Form 40) }
-    ensures next_reply { journal_verdict (with_call (codes "\u{1}\u{1}a" ++ last_reply_code + 1 ∷ []))
+    ensures next_reply { journal_verdict (with_call (codes "\u{1}\u{1}a" ++ (last_reply_code + 1) ∷ []))
         ≡ Bad (Form 40) }
 {}

@@ -18,7 +18,6 @@ use Rattle.mc_parse.specs.Plain.{all_keys_of, IsPlain}
 use Rattle.zy_run.specs.Apart.{commands_of_all, AreApart}
 use Rattle.mc_parse.specs.Plain.{IsDueOwn, bare}
 use Rattle.zy_run.specs.Keyed.{told_by}
-use Rattle.run_laws.specs.Alone.{alone}
 use Rattle.zy_base.specs.Told.{all_told}
 use Rattle.zy_run.proofs.AloneLemmas.{told-alone, told_by-bare}
 use Rattle.zy_run.proofs.CountLemmas.{length-same}
