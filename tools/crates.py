@@ -1,9 +1,13 @@
-"""What crates.txt lists, and what checks leave of each crate in crates/*/out: for tools/cost and tools/chain."""
+"""What crates.txt lists, the laws of crates, and what checks leave of each crate in crates/*/out."""
 import os
 import re
 
 TOP = os.path.dirname(os.path.dirname(os.path.realpath(__file__)))
 MADE = re.compile(r"Rattle-(\w+)-proofs\.(.+)\.Lts\.oantt")
+# a law: its page, its name, and the laws that its body calls, if there are any
+LAW = re.compile(r"((?:^ *///.*\n)+)(?: *#\[.*\n)*^ *pub fn (\w+)(?:<[^>]*>)?\(\)\n(?:(?!pub fn)[\s\S])*?"
+                 r"^\{((?:\n +\w+(?:::<\w+>)?\(\);)*)\n?\}", re.M)
+CALLED = re.compile(r"\b(\w+)(?:::<[^>]*>)?\(\);")
 
 
 def crates_in(top):
@@ -35,3 +39,30 @@ def below_of(name, needs, seen=None):
             below_of(lower, needs, seen)
             seen.append(lower)
     return seen
+
+
+def sources(top, name):
+    """The text of each file of a crate's source."""
+    for at, folders, files in os.walk(f"{top}/crates/{name}/src"):
+        folders.sort()
+        for file in sorted(files):
+            if file.endswith(".rt"):
+                with open(f"{at}/{file}", encoding="utf-8") as text:
+                    yield text.read()
+
+
+def vain_laws(top):
+    """The laws of the program's crates that no code of them calls, nor a law that it calls, as crate and name."""
+    needs = crates_in(top)
+    laws, wanted = [], []
+    for crate in [*below_of("zygos", needs), "zygos"]:
+        for text in sources(top, crate):
+            laws += [(crate, name, CALLED.findall(body)) for _, name, body in LAW.findall(text)]
+            wanted += CALLED.findall(LAW.sub("", text))
+    used = set()
+    while wanted:
+        called = wanted.pop()
+        if called not in used:
+            used.add(called)
+            wanted += [other for _, name, calls in laws if name == called for other in calls]
+    return [(crate, name) for crate, name, _ in laws if name not in used]

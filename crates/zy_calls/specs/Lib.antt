@@ -1,4 +1,3 @@
 pub mod Texts
 pub mod Batch
 pub mod Output
-pub mod Worked

@@ -1,5 +1,5 @@
 -- The output of a connection: the texts of the batches that were carried out.
-use Rattle.std.specs.Prelude.{ℕ, List, [], ◌∷◌, ◌++◌, take}
+use Rattle.std.specs.Prelude.{ℕ, List, [], ◌++◌, take}
 use Rattle.std.specs.List.{concat}
 use Rattle.zy_calls.specs.Batch.{Batch}
 
@@ -17,16 +17,6 @@ nothing_sent conn = record { conn = conn; texts = []; finished = 0 }
 abbrev pub with_batch : Output → Batch → Output
 with_batch output batch =
     record { conn = output.conn; texts = output.texts ++ batch.texts; finished = batch.finished }
-
--- the output after batches, one after another
-abbrev pub with_batches : Output → List Batch → Output
-with_batches output [] = output
-with_batches output (batch ∷ batches) = with_batches (with_batch output batch) batches
-
--- the texts of batches, one after another
-abbrev pub texts_sent : List Batch → List (List ℕ)
-texts_sent [] = []
-texts_sent (batch ∷ batches) = batch.texts ++ texts_sent batches
 
 -- the bytes of the first `count` texts
 abbrev pub bytes_upto : Output → ℕ → List ℕ

@@ -11,7 +11,7 @@ use Rattle.zy_capture.specs.declared.session_bytes.SessionBytes.{SessionBytes}
 use Rattle.zy_capture.specs.Outputs.{AllOutputs, AreOutputs, HasSessions, MayAdd, with_session, with_output}
 use Rattle.zy_capture.specs.Streams.{sessions_of, no_bytes, last_grown, with_record, with_records}
 use Rattle.zy_capture.specs.Replies.{AreNumbers, AreBySession, IsNextSession, session_items, all_items, items_of}
-use Rattle.zy_capture.specs.RepliesFaults.{connections_after, sessions_after}
+use Rattle.zy_capture.specs.Replies.{connections_after, sessions_after}
 
 -- ---- records
 

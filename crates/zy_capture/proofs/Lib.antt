@@ -9,17 +9,10 @@ pub mod NumberedLemmas
 pub mod RepliesFeeding
 pub mod ByteLemmas
 pub mod AgainLemmas
-pub mod FaultLemmas
-pub mod FaultReadLemmas
-pub mod BegunLemmas
 pub mod SoFarLemmas
 pub mod AddLemmas
 pub mod TellLemmas
-pub mod LengthLemmas
 pub mod RepliesWholeLemmas
 pub mod RepliesSpelledLemmas
 pub mod RepliesTellLemmas
 pub mod RepliesSoFarLemmas
-pub mod RepliesFaultLemmas
-pub mod RepliesFaultReadLemmas
-pub mod RepliesBegunLemmas

@@ -19,7 +19,7 @@ use Rattle.zy_capture.specs.declared.capture_fault.CaptureFault.TheVariants.{Bad
 use Rattle.zy_capture.specs.declared.due.Due.TheVariants.{Magic, Count, Tag, Connection, Length, Payload, Closed}
 use Rattle.zy_capture.specs.declared.capture_state.CaptureState.{CaptureState}
 use Rattle.zy_capture.specs.Capture.{letters, capture_magic, spelled, IsRecordOf, IsCapture, connection_limit, segment_limit}
-use Rattle.zy_capture.specs.Faults.{front_text}
+use Rattle.zy_capture.specs.Capture.{front_text}
 use Rattle.zy_capture.specs.Steps.{state, start, to, number, segment, judge_count, judge_connection, judge_length, judge_closed, judged, fields}
 
 -- whole fields of a capture lead from a state to a state, and give these records

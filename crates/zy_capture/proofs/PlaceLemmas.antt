@@ -1,5 +1,6 @@
 -- The bytes up to each field of a capture: what whole fields spell that lead to it.
-use Rattle.std.proofs.Common.{◌≡◌, ℕ, ◌+◌, ◌-◌, ◌<◌, ◌≤◌, ◌^◌, List, [], ◌∷◌, ◌++◌, length, refl, sym, ◌∙◌, ap, subst, arith, append_assoc, length-append}
+use Rattle.std.proofs.Common.{◌≡◌, ℕ, ◌+◌, ◌-◌, ◌<◌, ◌≤◌, List, [], ◌∷◌, ◌++◌, length, refl, sym, ◌∙◌, ap, subst}
+use Rattle.std.proofs.Common.{arith, append_assoc, length-append}
 use Rattle.std.specs.Prelude.{◌==◌, ◌&&◌, nat_lt, flat_map}
 use Rattle.std.specs.List.{AllByRecursion}
 use Rattle.std.specs.Int.{to_be_bytes, w32}
@@ -19,10 +20,12 @@ use Rattle.zy_read.proofs.RunLemmas.{After, Keeps}
 use Rattle.zy_capture.specs.declared.record.Record.{Record}
 use Rattle.zy_capture.specs.declared.record.Record.TheVariants as Kinds
 use Rattle.zy_capture.specs.declared.due.Due.{Due}
-use Rattle.zy_capture.specs.declared.due.Due.TheVariants.{Magic, Count, Tag, Connection, Length, Payload, Closed, Nothing}
+use Rattle.zy_capture.specs.declared.due.Due.TheVariants.{Magic, Count, Tag, Connection, Length, Payload, Closed}
+use Rattle.zy_capture.specs.declared.due.Due.TheVariants.{Nothing}
 use Rattle.zy_capture.specs.declared.capture_state.CaptureState.{CaptureState}
-use Rattle.zy_capture.specs.Capture.{letters, capture_magic, spelled, IsRecordOf, IsCapture, connection_limit, segment_limit}
-use Rattle.zy_capture.specs.Faults.{front_text}
+use Rattle.zy_capture.specs.Capture.{letters, capture_magic, spelled, IsRecordOf, IsCapture, connection_limit}
+use Rattle.zy_capture.specs.Capture.{segment_limit}
+use Rattle.zy_capture.specs.Capture.{front_text}
 use Rattle.zy_capture.specs.Steps.{width, Judgement, number, byte, segment, judge_magic, judged, fields}
 use Rattle.zy_capture.proofs.ByteLemmas.{both_true, positive, chosen, assoc_twice}
 
@@ -60,9 +63,6 @@ Goes text given judged = After Stands text given judged
 -- the bytes of a field of four
 pub four_bytes : (field : List ℕ) → AreBytes field → length field ≡ 4 → to_be_bytes w32 (number field) ≡ field
 four_bytes field all four = be_bytes_4 field (number field) four (byte_at field all) refl
-
-pub small_number : (field : List ℕ) → AreBytes field → number field < 2 ^ 32
-small_number field all = omega (arith, byte_at field all 0, byte_at field all 1, byte_at field all 2, byte_at field all 3)
 
 after_on : (version count : ℕ) (given : List Record) (tail text field longer : List ℕ) → tail ++ field ≡ longer → IsAfter version count given tail text → IsAfter version count given longer (text ++ field)
 after_on version count given tail text field longer is after = record {

@@ -8,7 +8,8 @@ use Rattle.zy_read.proofs.MagicFieldLemmas as Magics
 use Rattle.zy_read.proofs.MagicFieldLemmas.{KnowsVersion}
 use Rattle.zy_read.proofs.VerdictLemmas.{Leaves}
 use Rattle.zy_capture.specs.declared.replies_due.RepliesDue.{RepliesDue}
-use Rattle.zy_capture.specs.declared.replies_due.RepliesDue.TheVariants.{Magic, Tag, Connection, Session, Length, Output, Nothing}
+use Rattle.zy_capture.specs.declared.replies_due.RepliesDue.TheVariants.{Magic, Tag, Connection, Session, Length}
+use Rattle.zy_capture.specs.declared.replies_due.RepliesDue.TheVariants.{Output, Nothing}
 use Rattle.zy_capture.specs.declared.replies_state.RepliesState.{RepliesState}
 use Rattle.zy_capture.specs.Replies.{letters}
 use Rattle.zy_capture.specs.RepliesSteps.{may_come, due_session, judged, replies_fields}
@@ -45,22 +46,18 @@ judged_leaves version (Output conn number others) s at field is past = (is, tt)
 judged_leaves version Nothing s at field is past = tt
 
 -- the state knows the version
-abbrev IsPastIn : RepliesState → Type 0
+abbrev pub IsPastIn : RepliesState → Type 0
 IsPastIn s = IsPast s.due
 
-abbrev known_in : RepliesState → ℕ
+abbrev pub known_in : RepliesState → ℕ
 known_in s = s.version
 
-knows : KnowsVersion replies_fields part_state after_state known_in IsPastIn
+pub knows : KnowsVersion replies_fields part_state after_state known_in IsPastIn
 knows = record {
   none = λ part. refl;
   whole = λ version. (refl, tt);
   stays = λ s at field past. judged_leaves s.version s.due s at field refl past;
 }
-
-pub magic_told : (text : List ℕ) (version : ℕ) → BeginsWithRepliesMagic text version → version_of text ≡ Some version
-unfolding version_of reading_of
-magic_told = Magics.magic_told replies_fields lawful letters part_state after_state Form reads_magic known_in IsPastIn knows
 
 pub told_magic : (text : List ℕ) (version : ℕ) → version_of text ≡ Some version → BeginsWithRepliesMagic text version
 unfolding version_of reading_of

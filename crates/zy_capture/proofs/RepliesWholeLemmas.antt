@@ -28,7 +28,7 @@ use Rattle.zy_capture.specs.declared.replies_due.RepliesDue.TheVariants.{Magic, 
 use Rattle.zy_capture.specs.declared.replies_state.RepliesState.{RepliesState}
 use Rattle.zy_capture.specs.Capture.{connection_limit}
 use Rattle.zy_capture.specs.Replies.{letters, replies_magic, session_text, spelled, spelling, IsNextSession, AreNumbers, AreBySession, SpellsReplies}
-use Rattle.zy_capture.specs.RepliesFaults.{front_text, connections_after, sessions_after}
+use Rattle.zy_capture.specs.Replies.{front_text, connections_after, sessions_after}
 use Rattle.zy_capture.specs.RepliesSteps.{shape, start, after_magic, tag, may_come, due_session, connection, session, size_read, judged, is_last, replies_fields}
 use Rattle.zy_capture.specs.RepliesVerdict.{Verdict, good, verdict}
 use Rattle.zy_capture.specs.RepliesVerdict.Verdict.{Good, Bad}

@@ -1,6 +1,7 @@
 -- The records of a text without a fault so far are those of a capture whose version and count were
 -- read.
-use Rattle.std.proofs.Common.{◌≡◌, ◌≢◌, ℕ, ◌+◌, ◌*◌, ◌^◌, ◌<◌, ◌≤◌, List, [], ◌∷◌, ◌++◌, length, refl, sym, ◌∙◌, ap, subst, arith, append_assoc, length-append}
+use Rattle.std.proofs.Common.{◌≡◌, ◌≢◌, ℕ, ◌+◌, ◌*◌, ◌^◌, ◌<◌, ◌≤◌, List, [], ◌∷◌, ◌++◌, length, refl, sym, ◌∙◌, ap}
+use Rattle.std.proofs.Common.{subst, arith, append_assoc, length-append}
 use Rattle.std.specs.Prelude.{Option, None, Some, flat_map, ◌==◌}
 use Rattle.std.specs.List.{concat}
 use Rattle.std.specs.Int.{to_be_bytes, w32}
@@ -19,15 +20,14 @@ use Rattle.zy_capture.specs.declared.due.Due.{Due}
 use Rattle.zy_capture.specs.declared.due.Due.TheVariants.{Magic, Count, Nothing}
 use Rattle.zy_capture.specs.declared.capture_state.CaptureState.{CaptureState}
 use Rattle.zy_capture.specs.Capture.{IsCapture, Spells, capture_magic, spelled, capture_limit}
-use Rattle.zy_capture.specs.Faults.{front_text}
+use Rattle.zy_capture.specs.Capture.{front_text}
 use Rattle.zy_capture.specs.Streams.{closes}
 use Rattle.zy_capture.specs.Steps.{CaptureProgress, state, fields}
-use Rattle.zy_capture.specs.Verdict.Verdict.{Good}
-use Rattle.zy_capture.specs.Verdict.{verdict, fault_of, version_of, count_in, count_of, records_of}
+use Rattle.zy_capture.specs.Verdict.{fault_of, version_of, count_in, count_of, records_of}
 use Rattle.zy_capture.specs.SoFar.{IsCaptureSoFar}
 use Rattle.zy_capture.proofs.ByteLemmas.{chosen}
 use Rattle.zy_capture.proofs.PlaceLemmas.{IsAt}
-use Rattle.zy_capture.proofs.WholeLemmas.{lawful, stands_there, good_spells, spells_whole}
+use Rattle.zy_capture.proofs.WholeLemmas.{lawful, stands_there, spells_whole}
 use Rattle.zy_capture.proofs.TellLemmas.{IsAfterSome, after_some}
 
 -- ---- a whole capture
@@ -48,9 +48,6 @@ spells_tells text version count items spells =
       count_is = ap (λ (r : Reading CaptureProgress Record). count_in r.last.state.due r.last.state.count) read;
       records_are = ap (λ (r : Reading CaptureProgress Record). r.given) read ∙ append-nil items;
     }
-
-pub good_tells : (text : List ℕ) (version count : ℕ) (items : List Record) → AreBytes text → verdict text ≡ Good version count items → Tells text version count items
-good_tells text version count items all good = spells_tells text version count items (good_spells text version count items all good)
 
 -- ---- records
 

@@ -1,5 +1,6 @@
 -- The version and the count that are read of a text are those with which it begins.
-use Rattle.std.proofs.Common.{◌≡◌, ℕ, ◌+◌, List, [], ◌∷◌, ◌++◌, length, refl, sym, ◌∙◌, ap, subst, arith, append_assoc}
+use Rattle.std.proofs.Common.{◌≡◌, ℕ, ◌+◌, List, [], ◌∷◌, ◌++◌, length, refl, sym, ◌∙◌, ap, subst, arith}
+use Rattle.std.proofs.Common.{append_assoc}
 use Rattle.std.specs.Prelude.{◌==◌, ◌&&◌, nat_lt, Some, flat_map, ⊤}
 use Rattle.std.specs.List.{concat}
 use Rattle.std.specs.Int.{to_be_bytes, w32}
@@ -15,10 +16,11 @@ use Rattle.zy_read.proofs.VerdictLemmas.{Leaves, Reaches, text_reaches, begins_r
 use Rattle.zy_capture.specs.declared.record.Record.{Record}
 use Rattle.zy_capture.specs.declared.capture_fault.CaptureFault.TheVariants.{BadMagic}
 use Rattle.zy_capture.specs.declared.due.Due.{Due}
-use Rattle.zy_capture.specs.declared.due.Due.TheVariants.{Magic, Count, Tag, Connection, Length, Payload, Closed, Nothing}
+use Rattle.zy_capture.specs.declared.due.Due.TheVariants.{Magic, Count, Tag, Connection, Length, Payload, Closed}
+use Rattle.zy_capture.specs.declared.due.Due.TheVariants.{Nothing}
 use Rattle.zy_capture.specs.declared.capture_state.CaptureState.{CaptureState}
 use Rattle.zy_capture.specs.Capture.{letters, capture_magic, spelled, connection_limit, segment_limit}
-use Rattle.zy_capture.specs.Faults.{front_text}
+use Rattle.zy_capture.specs.Capture.{front_text}
 use Rattle.zy_capture.specs.Steps.{CaptureProgress, state, number, byte, judged, fields}
 use Rattle.zy_capture.specs.Verdict.{captures, version_of, count_in, count_of}
 use Rattle.zy_capture.specs.SoFar.{BeginsWithMagic, BeginsWithCount}
@@ -101,13 +103,13 @@ count_told text count begins =
 -- ---- the version
 
 -- a state knows the version
-abbrev IsPastIn : CaptureState → Type 0
+abbrev pub IsPastIn : CaptureState → Type 0
 IsPastIn s = IsPast s.due
 
-abbrev known_in : CaptureState → ℕ
+abbrev pub known_in : CaptureState → ℕ
 known_in s = s.version
 
-knows : KnowsVersion fields part_state after_state known_in IsPastIn
+pub knows : KnowsVersion fields part_state after_state known_in IsPastIn
 knows = record {
   none = λ part. refl;
   whole = λ version. (refl, tt);
@@ -117,10 +119,6 @@ knows = record {
 pub magic_told : (text : List ℕ) (version : ℕ) → BeginsWithMagic text version → version_of text ≡ Some version
 unfolding version_of reading_of
 magic_told = Magics.magic_told fields lawful letters part_state after_state BadMagic reads_magic known_in IsPastIn knows
-
-pub told_magic : (text : List ℕ) (version : ℕ) → version_of text ≡ Some version → BeginsWithMagic text version
-unfolding version_of reading_of
-told_magic = Magics.told_magic fields lawful letters part_state after_state BadMagic reads_magic known_in IsPastIn knows
 
 -- the version of a text is that of every longer text
 pub version_stays : (text more : List ℕ) (version : ℕ) → version_of text ≡ Some version → version_of (text ++ more) ≡ Some version

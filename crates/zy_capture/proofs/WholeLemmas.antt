@@ -19,7 +19,7 @@ use Rattle.zy_capture.specs.declared.due.Due.{Due}
 use Rattle.zy_capture.specs.declared.due.Due.TheVariants.{Magic, Count, Tag, Connection, Length, Payload, Closed, Nothing}
 use Rattle.zy_capture.specs.declared.capture_state.CaptureState.{CaptureState}
 use Rattle.zy_capture.specs.Capture.{capture_magic, spelled, spelling, IsCapture, Spells, capture_limit}
-use Rattle.zy_capture.specs.Faults.{front_text}
+use Rattle.zy_capture.specs.Capture.{front_text}
 use Rattle.zy_capture.specs.Steps.{CaptureProgress, state, start, width, is_nothing, judged, fields}
 use Rattle.zy_capture.specs.Verdict.Verdict.{Good, Bad}
 use Rattle.zy_capture.specs.Verdict.{Verdict, good, verdict, fault_of}

@@ -53,3 +53,7 @@ pub record Spells (text : List ℕ) (version count : ℕ) (items : List Record) 
   pub valid : IsCapture version count items
   pub spelled : text ≡ spelling version count items
   pub short : length text ≤ capture_limit
+
+-- the bytes of a capture up to its end, or up to a further record
+abbrev pub front_text : ℕ → ℕ → List Record → List ℕ
+front_text version count items = capture_magic version ++ to_be_bytes w32 count ++ flat_map spelled items

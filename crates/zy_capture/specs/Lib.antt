@@ -10,6 +10,3 @@ pub mod RepliesLaws
 pub mod RepliesSteps
 pub mod RepliesVerdict
 pub mod RepliesStanding
-pub mod Faults
-pub mod RepliesFaults
-pub mod Worked

@@ -99,3 +99,21 @@ pub record SpellsReplies (text : List ℕ) (version : ℕ) (items : List Session
   pub valid : IsRepliesFile version items
   pub spelled : text ≡ spelling version items
   pub short : length text ≤ replies_limit
+
+-- ---- beginnings
+
+-- the bytes of a replies file up to its end, or up to a further record
+abbrev pub front_text : ℕ → List SessionBytes → List ℕ
+front_text version items = replies_magic version ++ flat_map (spelled version) items
+
+-- ---- lawful numbers
+
+-- how many connections have an output after these, where there were some before
+abbrev pub connections_after : ℕ → List SessionBytes → ℕ
+connections_after connections [] = connections
+connections_after connections (item ∷ items) = connections_after (item.conn + 1) items
+
+-- how many sessions the last connection has after these outputs, where the last one before had some
+abbrev pub sessions_after : ℕ → List SessionBytes → ℕ
+sessions_after sessions [] = sessions
+sessions_after sessions (item ∷ items) = sessions_after (item.session + 1) items

@@ -1,6 +1,5 @@
--- The verdict on a whole text as a replies file: the outputs that it spells, or its first fault. That it is good
--- exactly where it is a spelling, and bad exactly where it has a fault of specs/RepliesFaults.antt, are laws in
--- src/laws.rt.
+-- The verdict on a whole text as a replies file: the outputs that it spells, or its first fault. What texts
+-- are good and bad is said of whole texts in `format_laws`.
 use Rattle.std.specs.Prelude.{ℕ, Bool, true, false, List, Option}
 use Rattle.zy_base.specs.declared.file_fault.FileFault.{FileFault}
 use Rattle.zy_read.specs.Fields.{step, format_of}

@@ -1,6 +1,6 @@
 -- The verdict on a whole text: the capture that it spells, or its first fault. A text is read from
--- its first byte to its last. That it is good exactly where it is a spelling, and bad exactly where
--- it has a fault of specs/Faults.antt, are laws in src/laws.rt.
+-- its first byte to its last. That it is good exactly where it is a spelling is a law in
+-- src/laws.rt.
 use Rattle.std.specs.Prelude.{ℕ, Bool, true, false, List, Option, None, Some}
 use Rattle.zy_read.specs.Format.{Format, reading_of, given_by, fault_met, verdict_on}
 use Rattle.zy_read.specs.Fields.{format_of}

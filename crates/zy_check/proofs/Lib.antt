@@ -5,9 +5,7 @@ pub mod CursorLemmas
 pub mod WalkLemmas
 pub mod OneVerdictLemmas
 pub mod RunVerdictLemmas
-pub mod YesVerdictLemmas
 pub mod FileVerdictLemmas
-pub mod SomeVerdictLemmas
 pub mod RightLemmas
 pub mod ByteLemmas
 pub mod CompareLemmas
@@ -16,5 +14,3 @@ pub mod OutputLemmas
 pub mod TrackLemmas
 pub mod StepLemmas
 pub mod HoldLemmas
-pub mod TotalLemmas
-pub mod SizeLemmas

@@ -17,8 +17,5 @@ mod verdict;
 mod walk;
 
 pub use checking::check;
-pub use laws::{
-    a_run_has_short_files, a_run_is_right, served_runs_check, there_is_one_verdict,
-    what_checks_is_of_a_run, yes_means_a_run,
-};
+pub use laws::served_runs_check;
 pub use verdict::{Cause, Verdict};

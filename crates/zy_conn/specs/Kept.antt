@@ -8,7 +8,6 @@ use Rattle.mc_parse.specs.declared.command.Command.{Command}
 use Rattle.mc_parse.specs.declared.shard_call.ShardCall.{ShardCall}
 use Rattle.mc_parse.specs.Calls.{Due, calls_of, due, dues_of, tagged}
 use Rattle.mc_reply.specs.Answers.{AnswerEach}
-use Rattle.zy_frame.specs.declared.frame_kind.FrameKind.{FrameKind}
 use Rattle.zy_frame.specs.Frame.{command_of}
 use Rattle.zy_conn.specs.Work.{Start, idle, raw, going, Worked, commands_of_frames, texts_all, texts_taken}
 
@@ -70,9 +69,3 @@ pub record KeepsCommands (work : Worked) : Type 0 where
   pub shown : work.shown ≤ work.finished
   -- the number of frames taken is at most the number of commands that can be counted
   pub room : length work.taken ≤ 2 ^ 40
-
--- each frame that was offered was taken, and no command is in progress
-pub record HasDone (offered : List FrameKind) (work : Worked) : Type 0 where
-  pub kept : KeepsCommands work
-  pub none : work.begun ≡ idle
-  pub all : work.taken ≡ offered

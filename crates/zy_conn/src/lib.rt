@@ -8,10 +8,8 @@ mod block;
 mod calling;
 mod hold_end;
 mod holding;
-mod laws;
 mod work;
 
 pub use block::Block;
 pub use hold_end::HoldEnd;
-pub use laws::{all_commands_are_done, each_finished_command_has_one_text};
 pub use work::EventInlet;

@@ -1,5 +1,7 @@
 -- Each kind of step keeps the rule.
-use Rattle.std.proofs.Common.{◌≡◌, ◌≢◌, ℕ, ◌+◌, ◌%◌, ◌^◌, ◌<◌, ◌≤◌, List, [], ◌∷◌, ◌++◌, get_or, set, true, false, refl, sym, ap, ◌∙◌, subst, ⊎_elim, arith, length, length-set, get_or-set_same, get_or-set_other}
+use Rattle.std.proofs.Common.{◌≡◌, ◌≢◌, ℕ, ◌+◌, ◌%◌, ◌^◌, ◌<◌, ◌≤◌, List, [], ◌∷◌, ◌++◌, get_or, set, true, false}
+use Rattle.std.proofs.Common.{refl, sym, ap, ◌∙◌, subst, ⊎_elim, arith, length, length-set, get_or-set_same}
+use Rattle.std.proofs.Common.{get_or-set_other}
 use Rattle.std.specs.Int.{bit_at}
 use Rattle.std.proofs.lemmas.Nat.Bits.{bit_at_or, bit_at-lt, bit_at-zero}
 use Rattle.std.specs.Int.Bits.{bit_or}
@@ -14,11 +16,13 @@ use Rattle.zy_control.specs.declared.view.Role.{Role}
 use Rattle.zy_control.specs.declared.view.Role.TheVariants.{Root, Core, Watcher}
 use Rattle.zy_control.specs.declared.view.Trace.{Trace}
 use Rattle.zy_control.specs.declared.view.View.{View}
-use Rattle.zy_control.specs.View.{view, untraced, done_step, stop_step, counted, Covers, IsUncounted, MustHaveCounted, root_view, gave, newcomer}
+use Rattle.zy_control.specs.View.{view, untraced, done_step, stop_step, counted, Covers, IsUncounted, MustHaveCounted}
+use Rattle.zy_control.specs.View.{root_view, gave, newcomer}
 use Rattle.zy_control.specs.ControlRule.{has_one, is_one, is_named, is_asleep, cores_in, IsRole, Knows, ControlRule}
 use Rattle.zy_control.specs.Step.{counts, sees_done, sees_stop, stops, enters}
-use Rattle.zy_control.proofs.CountLemmas.{counted_set, cores_set, counted_end, cores_end, counted_le, missing}
-use Rattle.zy_control.proofs.RestLemmas.{one_same, one_other, named_counted, asleep_counted, named_set, asleep_set, named_end, asleep_end}
+use Rattle.zy_control.proofs.CountLemmas.{counted_set, cores_set, counted_end, cores_end, missing}
+use Rattle.zy_control.proofs.RestLemmas.{one_same, one_other, named_counted, asleep_counted, named_set, asleep_set}
+use Rattle.zy_control.proofs.RestLemmas.{named_end, asleep_end}
 
 -- ---- what other seats know
 
@@ -140,19 +144,12 @@ counts_allowed n slots id v is s r wide at low =
     )
 
 -- a seat that finds done at the number of cores has counted itself
-all_counted : (n : ℕ) (s : State ℕ View) (id : ℕ) (v : View) (r : Role) → v.role ≡ r → ControlRule n s → get_elem? s.views id ≡ some v → get_or s.words 0 0 ≡ v.cores → MustHaveCounted r
+pub all_counted : (n : ℕ) (s : State ℕ View) (id : ℕ) (v : View) (r : Role) → v.role ≡ r → ControlRule n s → get_elem? s.views id ≡ some v → get_or s.words 0 0 ≡ v.cores → MustHaveCounted r
 all_counted n s id v (Root given) is r at found = tt
 all_counted n s id v (Core number true announced) is r at found = refl
 all_counted n s id v (Core number false announced) is r at found = absurd (
     let m = missing s.views id v at (subst IsUncounted (sym is) refl) in let d = r.done in let f = r.few in let c = (r.each id v at).cores_are in omega arith)
 all_counted n s id v Watcher is r at found = tt
-
-pub where_all_counted : (n : ℕ) (s : State ℕ View) (id : ℕ) (v : View) → ControlRule n s → get_elem? s.views id ≡ some v → get_or s.words 0 0 ≡ n → MustHaveCounted v.role
-where_all_counted n s id v r at found = all_counted n s id v v.role refl r at (found ∙ sym (r.each id v at).cores_are)
-
--- done is never above the number of cores
-pub at_most_all : (n : ℕ) (s : State ℕ View) → ControlRule n s → get_or s.words 0 0 ≤ n
-at_most_all n s r = let a = counted_le s.views in let d = r.done in let f = r.few in omega arith
 
 pub sees_done_allowed : (n slots id : ℕ) (v : View) → Allows (ControlRule n) slots id (v, []) 0 (λ y. y) (λ r w. sees_done (v, []) r w)
 sees_done_allowed n slots id v s r wide at low =

@@ -1,8 +1,7 @@
 -- The seats of the cores with one number, and the bit of sleepers that they have.
-use Rattle.std.proofs.Common.{◌≡◌, ◌≢◌, ℕ, zero, suc, ◌+◌, ◌≤◌, ◌==◌, Bool, List, [], ◌∷◌, ◌++◌, set, true, false, refl, sym, ap, arith, eq-eqb, ne_eqb}
-use mathlib.Core.Logic.{dite}
+use Rattle.std.proofs.Common.{◌≡◌, ◌≢◌, ℕ, zero, suc, ◌+◌, ◌≤◌, ◌==◌, List, [], ◌∷◌, ◌++◌, set, true, false, refl}
+use Rattle.std.proofs.Common.{sym, ap, arith, eq-eqb, ne_eqb}
 use mathlib.Core.Option.{some, some-injective, some-ne-none}
-use native.Mathlib.Decide.{ℕ_discrete}
 use lib.ListN.{get_elem?}
 use Rattle.zy_control.specs.declared.view.Role.{Role}
 use Rattle.zy_control.specs.declared.view.Role.TheVariants.{Root, Core, Watcher}
@@ -77,20 +76,3 @@ pub asleep_some : (i : ℕ) (vs : List View) (j : ℕ) (v : View) → get_elem? 
 asleep_some i [] j v e = absurd (some-ne-none v (sym e))
 asleep_some i (x ∷ xs) zero v e = let same = ap (λ (y : View). is_asleep i y.role) (some-injective x v e) in omega arith
 asleep_some i (x ∷ xs) (suc j) v e = let r = asleep_some i xs j v e in omega arith
-
--- where the count is not 0, there is such a seat
-pub asleep_there : (i : ℕ) (vs : List View) → 1 ≤ asleep_in i vs → (j : ℕ) × (v : View) × (get_elem? vs j ≡ some v) × (is_asleep i v.role ≡ 1)
-asleep_there i [] more = absurd (omega arith)
-asleep_there i (x ∷ xs) more = dite (ℕ_discrete (is_asleep i x.role) 0)
-    (λ (none : is_asleep i x.role ≡ 0). let r = asleep_there i xs (omega arith) in (suc r.0, r.1, r.2, r.3))
-    (λ (one : is_asleep i x.role ≢ 0). (zero, x, refl, at_most_one i x.role one))
-  where
-    one_at_most : (b : Bool) → one_if b ≢ 0 → one_if b ≡ 1
-    one_at_most true ne = refl
-    one_at_most false ne = absurd (ne refl)
-
-    at_most_one : (i : ℕ) (r : Role) → is_asleep i r ≢ 0 → is_asleep i r ≡ 1
-    at_most_one i (Root given) ne = absurd (ne refl)
-    at_most_one i (Core number has true) ne = one_at_most (number == i) ne
-    at_most_one i (Core number has false) ne = absurd (ne refl)
-    at_most_one i Watcher ne = absurd (ne refl)

@@ -1,8 +1,10 @@
 -- The steps on sleepers keep the rule.
-use Rattle.std.proofs.Common.{◌≡◌, ◌≢◌, ◌↔◌, ℕ, ◌+◌, ◌*◌, ◌%◌, ◌^◌, ◌<◌, ◌≤◌, Bool, List, [], set, true, false, refl, sym, ap, ◌∙◌, subst, arith, length-set, get_or, get_or-set_same, get_or-set_other, w64}
+use Rattle.std.proofs.Common.{◌≡◌, ◌≢◌, ℕ, ◌+◌, ◌*◌, ◌%◌, ◌^◌, ◌<◌, ◌≤◌, Bool, List, [], set, true, false, refl, sym}
+use Rattle.std.proofs.Common.{ap, ◌∙◌, subst, arith, length-set, get_or, get_or-set_same, get_or-set_other, w64}
 use Rattle.std.specs.Int.{bit_at, bit_not}
 use Rattle.std.specs.Int.Bits.{bit_or, bit_and}
-use Rattle.std.proofs.lemmas.Nat.Bits.{bit_at_and, bit_at_above, bit_at_set_same, bit_at_set_other, bit_at_clear_same, bit_at_clear_other}
+use Rattle.std.proofs.lemmas.Nat.Bits.{bit_at_and, bit_at_above, bit_at_set_same, bit_at_set_other, bit_at_clear_same}
+use Rattle.std.proofs.lemmas.Nat.Bits.{bit_at_clear_other}
 use mathlib.Core.Logic.{dite}
 use mathlib.Core.Option.{some}
 use native.Mathlib.Decide.{ℕ_discrete, dec_le}
@@ -14,7 +16,7 @@ use Rattle.zy_control.specs.declared.view.View.{View}
 use Rattle.zy_control.specs.View.{view, sleepers_step, announcing}
 use Rattle.zy_control.specs.ControlRule.{is_named, is_asleep, has_one, is_one, IsRole, ControlRule}
 use Rattle.zy_control.specs.Step.{announces, withdraws, sees_sleepers}
-use Rattle.zy_control.proofs.RestLemmas.{one_same, one_other, asleep_else, asleep_some, asleep_there}
+use Rattle.zy_control.proofs.RestLemmas.{one_same, one_other, asleep_else, asleep_some}
 use Rattle.zy_control.proofs.MoveLemmas.{stepped, seen}
 
 -- the bit of a core, and every other bit
@@ -82,7 +84,7 @@ else_before number i (Core n has false) of ne = refl
 else_before number i Watcher of ne = absurd of
 
 -- before its step, the bit of a core says whether it has announced itself
-own_bit : (n : ℕ) (s : State ℕ View) (id number : ℕ) (v : View) → ControlRule n s → get_elem? s.views id ≡ some v → IsNumbered number v.role
+pub own_bit : (n : ℕ) (s : State ℕ View) (id number : ℕ) (v : View) → ControlRule n s → get_elem? s.views id ≡ some v → IsNumbered number v.role
     → bit_at (get_or s.words 2 0) number ≡ is_asleep number v.role
 own_bit n s id number v r at of =
     let a = r.sleepers number in let b = asleep_else number s.views id v at in let c = asleep_some number s.views id v at in let d = r.alone number in
@@ -159,33 +161,3 @@ sees_sleepers_allowed n slots id v s r wide at low =
       seen n s 2 id v (sleepers_step (get_or s.words 2 0) v.trace) r at k.done_seen k.stop_seen,
       refl,
     )
-
--- ---- what the rule says of a bit
-
-bit_is : (number : ℕ) (r : Role) (n : ℕ) (has announced : Bool) → r ≡ Core n has announced → number ≡ n → (is_asleep number r ≡ 1) ↔ (announced ≡ true)
-bit_is number r n has true is e = ((λ one. refl), λ yes. rw is (one_same n number (sym e)))
-bit_is number r n has false is e = ((λ one. absurd (let z : is_asleep number r ≡ 0 = rw is refl in omega arith)), λ yes. absurd (cc))
-
-pub bit_of_a_core : (cores : ℕ) (s : State ℕ View) (j number : ℕ) (v : View) (has announced : Bool) → ControlRule cores s → get_elem? s.views j ≡ some v
-    → v.role ≡ Core number has announced → (bit_at (get_or s.words 2 0) number ≡ 1) ↔ (announced ≡ true)
-bit_of_a_core cores s j number v has announced r at is =
-    let own = own_bit cores s j number v r at (subst (IsNumbered number) (sym is) refl) in
-    let b = bit_is number v.role number has announced is refl in
-    ((λ set. b.0 (sym own ∙ set)), λ yes. own ∙ b.1 yes)
-
--- a seat that counts as asleep is that of the core
-asleep_is : (number : ℕ) (r : Role) → is_asleep number r ≡ 1 → (has : Bool) × (r ≡ Core number has true)
-asleep_is number (Root given) one = absurd (omega arith)
-asleep_is number (Core n has true) one = dite (ℕ_discrete n number)
-    (λ (same : n ≡ number). (has, ap (λ m. Core m has true) same))
-    (λ (ne : n ≢ number). absurd (let z = one_other n number ne in omega arith))
-asleep_is number (Core n has false) one = absurd (omega arith)
-asleep_is number Watcher one = absurd (omega arith)
-
-pub only_bits_of_cores : (cores : ℕ) (s : State ℕ View) (number : ℕ) → ControlRule cores s → bit_at (get_or s.words 2 0) number ≡ 1
-    → (j : ℕ) × (v : View) × (has : Bool) × (get_elem? s.views j ≡ some v) × (v.role ≡ Core number has true)
-only_bits_of_cores cores s number r set =
-    let e = r.sleepers number in
-    let found = asleep_there number s.views (omega arith) in
-    let is = asleep_is number found.1.role found.3 in
-    (found.0, found.1, is.0, found.2, is.1)

@@ -3,7 +3,6 @@
 #![tactic(auto)]
 
 mod control;
-pub mod laws;
 mod pass;
 mod plays;
 mod view;

@@ -1,4 +1,3 @@
-pub mod RoundLemmas
 pub mod ListLemmas
 pub mod DealLemmas
 pub mod CoreLemmas

@@ -1,5 +1,5 @@
 -- The order of turns: rounds, and the core that each begins with.
-use Rattle.std.specs.Prelude.{◌≡◌, ℕ, ◌+◌, ◌%◌, ◌<◌, Option, Some, None}
+use Rattle.std.specs.Prelude.{ℕ, ◌+◌, ◌%◌, Option, Some, None}
 use Rattle.rand_pcg.specs.Lcg.{Lcg, started, increment_of}
 use Rattle.rand_pcg.specs.Pcg.{multiplier_64, pcg32}
 
@@ -21,10 +21,3 @@ after_round (Some generator) = Some (pcg32 generator).1
 -- the core that takes the turn with this number in a round which begins with `first`
 abbrev pub turn_of : ℕ → ℕ → ℕ → ℕ
 turn_of cores first turn = (first + turn) % cores
-
--- the core has a turn in the round, and no other
-pub record HasOneTurn (cores first core : ℕ) : Type 0 where
-  pub turn : ℕ
-  pub within : turn < cores
-  pub is : turn_of cores first turn ≡ core
-  pub only : (other : ℕ) → other < cores → turn_of cores first other ≡ core → other ≡ turn

@@ -4,7 +4,6 @@
 mod driven;
 mod feeding;
 mod handed_back;
-pub mod laws;
 mod ordered;
 mod round;
 mod rounds;

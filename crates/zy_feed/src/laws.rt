@@ -1,5 +1,5 @@
 //! What a feeder has done where it ended or broke.
-ghost use Rattle.std.specs.Prelude.{◌≡◌, ◌≤◌, Some};
+ghost use Rattle.std.specs.Prelude.{◌≡◌, Some};
 ghost use Rattle.zy_feed.specs.declared.intake.Header.{Header};
 ghost use Rattle.zy_read.specs.declared.stop.Stop.{Stop};
 ghost use Rattle.zy_capture.specs.declared.capture_fault.CaptureFault.{CaptureFault};
@@ -27,12 +27,4 @@ pub fn a_broken_feeder_has_its_cause<S: Source>()
         → HasBegun S.rest S.faults first f.source f.intake header → AreUnsent f.sents
         → f.stage ≡ Stages.Cutting → stop_in g.stage ≡ Some stop → LeadsTo S.rest S.faults f g
         → HasStoppedFeeding S.rest S.faults first g.source stop }
-{}
-
-/// However far it is, the count of faults has not fallen since the first read.
-pub fn a_feeder_counts_on<S: Source>()
-    ensures count { (first : S) (header : Header) (f g : Feeding S)
-        → HasBegun S.rest S.faults first f.source f.intake header → AreUnsent f.sents
-        → f.stage ≡ Stages.Cutting → LeadsTo S.rest S.faults f g
-        → S.faults first ≤ S.faults g.source }
 {}

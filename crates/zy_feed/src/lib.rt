@@ -12,7 +12,5 @@ mod stop;
 pub use feeder::CaptureFeeder;
 pub use inlets::Inlets;
 pub use intake::{Header, Intake};
-pub use laws::{
-    a_broken_feeder_has_its_cause, a_feeder_counts_on, a_feeder_that_ended_has_offered_the_capture,
-};
+pub use laws::{a_broken_feeder_has_its_cause, a_feeder_that_ended_has_offered_the_capture};
 pub use stop::Stop;

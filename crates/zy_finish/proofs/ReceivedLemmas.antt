@@ -1,17 +1,20 @@
 -- What a connection receives is what the capture has for it.
 use Rattle.std.specs.Prelude.{◌==◌, if◌then◌else◌, filter}
 use Rattle.std.specs.List.{slice_set}
-use Rattle.std.proofs.Common.{◌≡◌, inl, inr, ℕ, ◌+◌, ◌<◌, List, [], ◌∷◌, ◌++◌, length, map, Bool, true, false, cond, refl, sym, ap, subst, ◌∙◌, eq-eqb, arith}
+use Rattle.std.proofs.Common.{◌≡◌, inl, inr, ℕ, ◌+◌, ◌<◌, List, [], ◌∷◌, ◌++◌, length, map, Bool, true, false, cond}
+use Rattle.std.proofs.Common.{refl, sym, ap, subst, ◌∙◌, eq-eqb, arith}
 use Rattle.std.proofs.lemmas.List.{length-set, get_or-set_same, get_or-set_other, length-replicate, get_or-replicate}
 use Rattle.std.proofs.lemmas.Bool.Decides.{eqb_tells}
 use Rattle.zy_capture.specs.declared.record.Record.{Record}
 use Rattle.zy_capture.specs.declared.record.Record.TheVariants as Kinds
-use Rattle.zy_capture.specs.Streams.{sessions_of as sessions_at, no_bytes, last_grown, grown, closed, with_record, with_records}
+use Rattle.zy_capture.specs.Streams.{sessions_of as sessions_at, no_bytes, last_grown, grown, closed, with_record}
+use Rattle.zy_capture.specs.Streams.{with_records}
 use Rattle.zy_capture.proofs.StreamLemmas.{last_grown-append}
 use Rattle.zy_rx.specs.declared.rx.Rx.{Rx}
 use Rattle.zy_rx.specs.declared.rx.Rx.TheVariants.{Segment, Close, End}
 use Rattle.zy_rx.specs.Flow.{home_of}
-use Rattle.zy_rx.specs.Session.{Sessions, no_sessions, with_bytes, with_close, takes_in, sessions_from, received_by, streams_of}
+use Rattle.zy_rx.specs.Session.{Sessions, no_sessions, with_bytes, with_close, takes_in, sessions_from, received_by}
+use Rattle.zy_rx.specs.Session.{streams_of}
 use Rattle.zy_rx.proofs.SessionLemmas.{sessions-push}
 use Rattle.zy_run.specs.Commands.{streams_in}
 use Rattle.zy_run.proofs.StreamLemmas.{streams_held}
@@ -126,6 +129,3 @@ pub offered_streams : (cores core conn : ℕ) (records : List Record) → home_o
 offered_streams cores core conn records home =
     ap streams_of (sessions-push conn no_sessions (items_for cores core records) End)
     ∙ ap streams_of (routed cores core conn no_sessions (map offered_item records) home) ∙ received conn records
-
-pub offered_ended : (cores core conn : ℕ) (records : List Record) → (received_by conn (offered_to cores core records)).ended ≡ true
-offered_ended cores core conn records = ap (λ (s : Sessions). s.ended) (sessions-push conn no_sessions (items_for cores core records) End)

@@ -1,5 +1,6 @@
 -- A stream has exactly one cut, which `cut_of` computes.
-use Rattle.std.proofs.Common.{◌≡◌, ℕ, zero, suc, ◌<◌, ◌≤◌, true, false, List, [], ◌∷◌, ◌++◌, length, take, drop, refl, sym, ap, ◌∙◌, subst, arith, append_assoc, length-append}
+use Rattle.std.proofs.Common.{◌≡◌, ℕ, zero, suc, ◌<◌, ◌≤◌, true, false, List, [], ◌∷◌, ◌++◌, length, take, drop, refl}
+use Rattle.std.proofs.Common.{sym, ap, ◌∙◌, subst, arith, append_assoc, length-append}
 use Rattle.std.specs.Prelude.{Option, None, Some, MatchOption, nat_le, if◌then◌else◌, Bool}
 use Rattle.std.specs.List.{AllByRecursion}
 use Rattle.std.proofs.lemmas.Bool.{le-leb, leb-true}
@@ -7,7 +8,8 @@ use Rattle.std.proofs.lemmas.List.{append-nil, length-take, length-drop, take-ap
 use Rattle.std.proofs.Math.Seq.{take-append_seam, drop-append_seam}
 use Rattle.zy_frame.specs.Line.{Ended, first_line, line_feed}
 use Rattle.zy_frame.specs.Frame.{tail_length, IsFrameText}
-use Rattle.zy_frame.specs.Cut.{Piece, Cut, Splits, first_piece, piece_in, piece_with, cut_of, cut_within, cut_after, joined}
+use Rattle.zy_frame.specs.Cut.{Piece, Cut, Splits, first_piece, piece_in, piece_with, cut_of, cut_within, cut_after}
+use Rattle.zy_frame.specs.Cut.{joined}
 use Rattle.zy_frame.proofs.LineLemmas.{spelled, first_line-ended}
 
 abbrev pub piece : List ℕ → List ℕ → Piece
@@ -97,15 +99,6 @@ begun_in stream (Some e) is p h =
 
 pub begun : (stream : List ℕ) (p : Piece) → first_piece stream ≡ Some p → Begun stream p
 begun stream p h = begun_in stream (first_line stream) refl p h
-
--- no frame text is a proper prefix of another
-pub no_proper_prefix : (text more : List ℕ) → IsFrameText text → IsFrameText (text ++ more) → more ≡ []
-no_proper_prefix text more one other =
-    let a : first_piece (text ++ more) ≡ Some (piece text more) = first_piece-text text more one in
-    let b : first_piece ((text ++ more) ++ []) ≡ Some (piece (text ++ more) []) = first_piece-text (text ++ more) [] other in
-    let c = rw (append-nil (text ++ more)) at b in
-    let same : piece text more ≡ piece (text ++ more) [] = cc in
-    ap (λ (p : Piece). p.rest) same
 
 -- ---- the cut
 

@@ -6,6 +6,4 @@ pub mod StepLemmas
 pub mod Feeding
 pub mod CutLaws
 pub mod FrameFits
-pub mod TextKinds
 pub mod BoundLemmas
-pub mod WidthLemmas

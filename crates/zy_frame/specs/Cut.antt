@@ -5,7 +5,7 @@ use Rattle.std.specs.List.{AllByRecursion}
 use Rattle.mc_parse.specs.declared.command.Command.{Command}
 use Rattle.zy_frame.specs.declared.frame_kind.FrameKind.{FrameKind}
 use Rattle.zy_frame.specs.Line.{Ended, first_line, line_feed}
-use Rattle.zy_frame.specs.Frame.{tail_length, IsFrameText, IsQuitLine, frame_of, command_of}
+use Rattle.zy_frame.specs.Frame.{tail_length, IsFrameText, frame_of, command_of}
 
 -- ---- the cut
 
@@ -74,13 +74,6 @@ frames_of stream = map frame_of (cut_of stream).pieces
 -- the commands of a stream
 abbrev pub commands_of : List ℕ → List Command
 commands_of stream = map command_of (frames_of stream)
-
--- a quit line and its line feed come first
-pub record BeginsWithQuit (text : List ℕ) : Type 0 where
-  pub line : List ℕ
-  pub after : List ℕ
-  pub split : text ≡ line ++ line_feed ∷ after
-  pub quits : IsQuitLine line
 
 -- whether the line has ended and has no frame, as a quit line alone
 abbrev pub quits_in : Option Ended → Bool

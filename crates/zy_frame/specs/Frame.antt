@@ -1,7 +1,7 @@
 -- Frames: the bytes of a stream that make a frame, and its meaning (docs/PROFILE.md, "Lines and
 -- words" and "Commands").
-use Rattle.std.specs.Prelude.{◌≡◌, ℕ, ◌+◌, ◌<◌, nat_lt, if◌then◌else◌, List, []}
-use Rattle.std.specs.Prelude.{◌∷◌, ◌++◌, length, Option, None, Some, MatchOption}
+use Rattle.std.specs.Prelude.{◌≡◌, ℕ, ◌+◌, nat_lt, if◌then◌else◌, List}
+use Rattle.std.specs.Prelude.{length, Option, None, Some, MatchOption}
 use Rattle.zy_base.specs.Shard.{value_limit}
 use Rattle.mc_parse.specs.declared.need.Need.{Need}
 use Rattle.mc_parse.specs.declared.need.Need.TheVariants as Needs
@@ -11,7 +11,7 @@ use Rattle.mc_parse.specs.Meaning.{line_command, block_command, large_command, l
 use Rattle.zy_frame.specs.declared.frame_kind.FrameKind.{FrameKind}
 use Rattle.zy_frame.specs.declared.frame_kind.FrameKind.TheVariants.{Line, Block, Large, Long}
 use Rattle.mc_parse.specs.Words.{line_limit}
-use Rattle.zy_frame.specs.Line.{Ended, IsShort, first_line, chomped, line_feed}
+use Rattle.zy_frame.specs.Line.{Ended, first_line, chomped}
 
 -- ---- frame texts
 
@@ -31,37 +31,6 @@ tail_length line = if nat_lt line_limit (length line) then Some 0 else tail_by (
 abbrev pub IsFrameText : List ℕ → Type 0
 IsFrameText text =
     MatchOption (first_line text) ⊥ (λ ended. tail_length ended.line ≡ Some (length ended.after))
-
--- a line that ends the connection
-pub record IsQuitLine (line : List ℕ) : Type 0 where
-  pub short : IsShort line
-  pub quits : need (chomped line) ≡ Needs.Quit
-
--- ---- the kinds of frame texts
-
--- a line that is too long
-pub record IsLongText (text : List ℕ) : Type 0 where
-  pub line : List ℕ
-  pub split : text ≡ line ++ line_feed ∷ []
-  pub no_feed : first_line line ≡ None
-  pub long : line_limit < length line
-
--- a line that takes no block
-pub record IsLineText (text : List ℕ) : Type 0 where
-  pub line : List ℕ
-  pub split : text ≡ line ++ line_feed ∷ []
-  pub short : IsShort line
-  pub alone : need (chomped line) ≡ Needs.Nothing
-
--- a storage line with its block: the value and two bytes
-pub record IsBlockText (text : List ℕ) : Type 0 where
-  pub line : List ℕ
-  pub block : List ℕ
-  pub size : ℕ
-  pub split : text ≡ line ++ line_feed ∷ block
-  pub short : IsShort line
-  pub sized : need (chomped line) ≡ Needs.Block size
-  pub whole : length block ≡ size + 2
 
 -- ---- the frame of a frame text
 

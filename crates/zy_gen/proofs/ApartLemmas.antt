@@ -1,19 +1,16 @@
 -- The connections of generated traffic are apart.
-use Rattle.std.proofs.Common.{◌≡◌, ℕ, ◌+◌, ◌<◌, ◌≤◌, List, [], ◌∷◌, ◌++◌, length, map, sym, ap, ◌∙◌, subst, arith, append-nil, zero, suc, ◌*◌}
+use Rattle.std.proofs.Common.{◌≡◌, ℕ, ◌+◌, ◌<◌, ◌≤◌, List, [], ◌∷◌, ◌++◌, length, map, sym, ap, ◌∙◌, subst, arith}
+use Rattle.std.proofs.Common.{append-nil}
 use Rattle.std.specs.Prelude.{flat_map}
-use Rattle.std.specs.List.{AllByRecursion, Contains, range_with_len, sum_by}
+use Rattle.std.specs.List.{AllByRecursion, Contains, range_with_len}
 use Rattle.std.proofs.lemmas.List.Elements.{All-from_recursion, All-contains}
 use Rattle.mc_parse.specs.declared.command.Command.{Command}
-use Rattle.std.proofs.lemmas.List.{length-map}
-use Rattle.std.proofs.lemmas.List.Sums.{sum_by-cons}
-use Rattle.std.proofs.Math.Nat.{suc-mul}
 use Rattle.zy_capture.specs.declared.record.Record.{Record}
 use Rattle.zy_capture.specs.Streams.{stream}
 use Rattle.zy_frame.specs.Frame.{IsFrameText, frame_of, command_of}
 use Rattle.zy_frame.specs.Cut.{commands_of, joined}
 use Rattle.zy_frame.proofs.CutLaws.{commands_of_splits}
 use Rattle.zy_run.specs.Commands.{commands_in}
-use Rattle.zy_run.specs.Summary.{count_of_commands}
 use Rattle.mc_parse.specs.Plain.{keys_of, all_keys_of, IsPlain, IsOwnCommand}
 use Rattle.zy_run.specs.Apart.{AreApart}
 use Rattle.zy_gen.specs.Traffic.{request_text, traffic_records, IsTraffic}
@@ -56,17 +53,17 @@ commands_are conn bytes texts few whole own =
     commands_of_splits bytes texts [] (record { whole = whole ∙ sym (append-nil (joined texts)); each = texts_frame conn texts few own; partial = nothing_begins })
 
 module _ (number connections commands conn : ℕ) (is : IsTraffic number connections commands) (within : conn < connections) where
-  records : List Record
+  pub records : List Record
   records = traffic_records number connections commands
 
   few : conn < 4096
   few = let most = is.few_connections in omega arith
 
-  gives : CarriesRequests conn commands records
+  pub gives : CarriesRequests conn commands records
   unfolding records
   gives = gives-traffic conn number connections commands within
 
-  commands_is : commands_in records conn ≡ map (λ text. command_of (frame_of text)) gives.texts
+  pub commands_is : commands_in records conn ≡ map (λ text. command_of (frame_of text)) gives.texts
   unfolding records
   commands_is =
       ap (λ n. flat_map commands_of (map (λ session. stream conn session records) (range_with_len 0 (n + 1)))) (closes-none conn records gives.segments)
@@ -76,11 +73,6 @@ module _ (number connections commands conn : ℕ) (is : IsTraffic number connect
   own_commands : AllByRecursion (IsOwnCommand (IsKeyOf conn)) (commands_in (traffic_records number connections commands) conn)
   unfolding records
   own_commands = subst (AllByRecursion (IsOwnCommand (IsKeyOf conn))) (sym commands_is) (texts_own conn gives.texts few gives.each)
-
-  -- their number is the one that was asked for
-  pub length-commands : length (commands_in (traffic_records number connections commands) conn) ≡ commands
-  unfolding records
-  length-commands = ap length commands_is ∙ length-map gives.texts (λ text. command_of (frame_of text)) ∙ gives.count
 
 each_plain : (conn : ℕ) (commands : List Command) → AllByRecursion (IsOwnCommand (IsKeyOf conn)) commands → AllByRecursion IsPlain commands
 each_plain conn [] own = tt
@@ -111,19 +103,3 @@ traffic_apart number connections commands is =
           let low = small other below in
           key-conn conn other one.item two.item (omega arith) (omega arith) (sym one.is ∙ two.is);
     }
-
--- ---- the number of commands
-
-counted : (f : ℕ → ℕ) (first n k : ℕ) → ((c : ℕ) → first ≤ c → c < first + n → f c ≡ k) → sum_by f (range_with_len first n) ≡ n * k
-counted f first zero k each = omega arith
-counted f first (suc n) k each =
-    let here : f first ≡ k = each first (omega arith) (omega arith) in
-    let rest : sum_by f (range_with_len (first + 1) n) ≡ n * k = counted f (first + 1) n k (λ c low high. each c (omega arith) (omega arith)) in
-    let both : sum_by f (range_with_len first (suc n)) ≡ f first + sum_by f (range_with_len (first + 1) n) = sum_by-cons f first (range_with_len (first + 1) n) in
-    let more : suc n * k ≡ n * k + k = suc-mul n k in
-    omega arith
-
--- all connections together have `connections * commands` commands
-pub traffic_count : (number connections commands : ℕ) → IsTraffic number connections commands → count_of_commands connections (commands_in (traffic_records number connections commands)) ≡ connections * commands
-traffic_count number connections commands is =
-    counted (λ conn. length (commands_in (traffic_records number connections commands) conn)) 0 connections commands (λ conn low high. length-commands number connections commands conn is (omega arith))

@@ -1,7 +1,6 @@
 pub mod StepLemmas
 pub mod LengthLemmas
 pub mod TrafficLemmas
-pub mod WorkedLemmas
 pub mod SolidLemmas
 pub mod SaidLemmas
 pub mod RequestLemmas

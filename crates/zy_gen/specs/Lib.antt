@@ -1,4 +1,3 @@
 pub mod Draw
 pub mod Traffic
-pub mod Worked
 pub mod Said

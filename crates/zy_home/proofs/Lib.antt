@@ -9,4 +9,3 @@ pub mod JoinLemmas
 pub mod ReceiveLemmas
 pub mod ItemLemmas
 pub mod MakeLemmas
-pub mod LawLemmas

@@ -1,9 +1,9 @@
 -- A connection at the end, when all that it received was carried out.
-use Rattle.std.specs.Prelude.{◌≡◌, ℕ, ◌+◌, ◌-◌, List, [], ◌∷◌, length, take, drop, flat_map}
+use Rattle.std.specs.Prelude.{◌≡◌, ℕ, List, length, flat_map}
 use Rattle.zy_base.specs.declared.entry.Entry.{Entry}
 use Rattle.mc_parse.specs.declared.command.Command.{Command}
 use Rattle.mc_parse.specs.Calls.{due, dues_of}
-use Rattle.mc_reply.specs.Texts.{texts_from, texts_of}
+use Rattle.mc_reply.specs.Texts.{texts_of}
 use Rattle.zy_frame.specs.Cut.{commands_of}
 use Rattle.zy_calls.specs.Output.{Output}
 use Rattle.zy_rx.specs.Session.{Sessions, streams_of}
@@ -22,18 +22,3 @@ pub record ConnEnd (shards : ℕ) (calls : List Entry) (s : Sessions) (output : 
   pub texts : output.texts ≡ texts_of (commands_received s) calls
   pub finished : output.finished ≡ length (commands_received s)
   pub ends_are : ends ≡ ends_from 0 s.closed
-
--- ---- the outputs of sessions
-
--- the texts of each of these sessions, where the first command has this index, from the replies of
--- these entries
-abbrev pub outputs_from : ℕ → List (List ℕ) → List Entry → List (List (List ℕ))
-outputs_from index [] entries = []
-outputs_from index (stream ∷ streams) entries =
-    texts_from index (commands_of stream) entries
-    ∷ outputs_from (index + length (commands_of stream)) streams entries
-
--- texts cut at these places, which are counted as the first text has this one
-abbrev pub cut_at : ℕ → List ℕ → List (List ℕ) → List (List (List ℕ))
-cut_at first [] texts = texts ∷ []
-cut_at first (end ∷ ends) texts = take (end - first) texts ∷ cut_at end ends (drop (end - first) texts)

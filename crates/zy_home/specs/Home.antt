@@ -1,5 +1,6 @@
 -- What contracts see of a home, what each home keeps, and which items it may have received.
-use Rattle.std.specs.Prelude.{◌≡◌, ℕ, ◌+◌, ◌<◌, ◌≤◌, List, [], ◌∷◌, ◌++◌, length, map, Bool, true, false, ◌&&◌, not, Option, Some, None, slice_get, is_some}
+use Rattle.std.specs.Prelude.{◌≡◌, ℕ, ◌+◌, ◌<◌, ◌≤◌, List, [], ◌∷◌, ◌++◌, length, map, Bool, true, false, ◌&&◌, not}
+use Rattle.std.specs.Prelude.{Option, Some, None, slice_get, is_some}
 use Rattle.zy_table.specs.Member.{is_in}
 use Rattle.zy_rx.specs.declared.rx.Rx.{Rx}
 use Rattle.zy_rx.specs.Session.{received_by}
@@ -75,10 +76,6 @@ pub record IsSoundHome (h : Homed) : Type 0 where
   -- and where it was not, in the hand they are idle
   pub each : h.refused ≡ false → (p : ℕ) (x : Option Blocked) (l : Link)
       → slice_get h.blocks p ≡ Some x → slice_get h.links p ≡ Some l → IsAt h.pass p l x
-
--- the block of this connection is in the hand of the home
-abbrev pub IsInHand : Homed → ℕ → Blocked → Link → Type 0
-IsInHand h p block link = (slice_get h.blocks p ≡ Some (Some block)) × (slice_get h.links p ≡ Some link)
 
 -- these items may be what the home received: each of its connections may have received the sessions that they have
 -- for it

@@ -10,4 +10,3 @@ pub mod Place
 pub mod Items
 pub mod Turn
 pub mod Between
-pub mod Settled

@@ -4,7 +4,6 @@
 mod blocks;
 mod ends;
 mod home;
-mod laws;
 mod link;
 mod own;
 mod parts;
@@ -14,10 +13,5 @@ mod touched;
 pub use blocks::Blocks;
 pub use ends::Ends;
 pub use home::Home;
-pub use laws::{
-    a_connection_in_the_hand_is_finished, a_settled_home_is_finished,
-    an_idle_connection_is_finished, own_connections_come_in_turn,
-    texts_are_cut_at_the_ends_of_sessions,
-};
 pub use own::Own;
 pub use parts::{HomeParts, Inlets};

@@ -6,7 +6,6 @@ pub mod RepliesLemmas
 pub mod JournalLemmas
 pub mod WholeLemmas
 pub mod FaultLemmas
-pub mod DivisionLemmas
 pub mod FileLemmas
 pub mod PacketLemmas
 pub mod LawfulLemmas

@@ -12,6 +12,6 @@ mod parts;
 mod replies_part;
 mod stop;
 
-pub use laws::{an_input_has_one_set_of_parts, parts_have_no_fault, there_is_one_part_fault};
+pub use laws::{parts_have_no_fault, there_is_one_part_fault};
 pub use parts::{Parts, read_journal, read_packets, read_parts, read_streams};
 pub use stop::{Refusal, Stop};

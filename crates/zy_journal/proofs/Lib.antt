@@ -2,4 +2,3 @@ pub mod OrderLemmas
 pub mod MergedLemmas
 pub mod WalkLemmas
 pub mod WriteLemmas
-pub mod LengthLemmas

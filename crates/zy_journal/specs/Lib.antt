@@ -3,4 +3,3 @@ pub mod Kept
 pub mod Lists
 pub mod Merged
 pub mod Walk
-pub mod Worked

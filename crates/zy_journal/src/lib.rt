@@ -11,9 +11,7 @@ mod walk;
 mod writing;
 
 pub use journal::Journal;
-pub use laws::{
-    a_journal_has_few_bytes, rising_histories_are_in_order, the_worked_journal_has_its_bytes,
-};
+pub use laws::rising_histories_are_in_order;
 pub use merging::merge;
 pub use walk::Walk;
 pub use writing::write_journal;

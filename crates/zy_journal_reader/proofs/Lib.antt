@@ -10,11 +10,6 @@ pub mod NumberLemmas
 pub mod ContentLemmas
 pub mod WholeLemmas
 pub mod OpenLemmas
-pub mod LawfulLemmas
-pub mod FaultLemmas
-pub mod LeadsLemmas
-pub mod FaultReadLemmas
-pub mod BegunLemmas
 pub mod PlacedLemmas
 pub mod FoundLemmas
 pub mod RecordLemmas

@@ -15,7 +15,8 @@ use Rattle.zy_journal_reader.specs.declared.due.LongField.{LongField}
 use Rattle.zy_journal_reader.specs.declared.due.LongField.TheVariants as L
 use Rattle.zy_journal_reader.specs.declared.due.BytesField.{BytesField}
 use Rattle.zy_journal_reader.specs.declared.due.BytesField.TheVariants as S
-use Rattle.zy_journal_reader.specs.Steps.{ReadState, Done, lawful_byte, lawful_number, lawful_long, after_byte, after_four, after_eight, after_bytes, journal_judged}
+use Rattle.zy_journal_reader.specs.Steps.{ReadState, Done, lawful_byte, lawful_number, lawful_long, after_byte}
+use Rattle.zy_journal_reader.specs.Steps.{after_four, after_eight, after_bytes, journal_judged}
 use Rattle.zy_journal_reader.proofs.CallLemmas.{either}
 
 -- ---- fields that are no faults
@@ -25,53 +26,25 @@ abbrev pub IsThen : Done → Type 0
 IsThen (Then next) = ⊤
 IsThen done = ⊥
 
--- the field is not wrong
-abbrev pub IsRight : Done → Type 0
-IsRight (Wrong fault) = ⊥
-IsRight done = ⊤
-
-byte_then : (field : ByteField) (p : ReadState) (at byte : ℕ) → field ≢ B.Tag → IsThen (after_byte field p at byte)
+pub byte_then : (field : ByteField) (p : ReadState) (at byte : ℕ) → field ≢ B.Tag → IsThen (after_byte field p at byte)
 byte_then B.Magic p at byte no_tag = either IsThen (at == 7) _ _ tt tt
 byte_then B.Tag p at byte no_tag = absurd (no_tag refl)
 byte_then B.CallCode p at byte no_tag = tt
 byte_then B.KeyLength p at byte no_tag = tt
 byte_then B.ReplyCode p at byte no_tag = either IsThen (byte == hit_code) _ _ tt (either IsThen (byte == number_code) _ _ tt (either IsThen (byte == tally_code) _ _ tt tt))
 
-four_then : (field : NumberField) (p : ReadState) (n : ℕ) → IsThen (after_four field p n)
+pub four_then : (field : NumberField) (p : ReadState) (n : ℕ) → IsThen (after_four field p n)
 four_then N.ValueLength p n = either IsThen (n == 0) _ _ tt tt
 four_then N.FoundLength p n = either IsThen (n == 0) _ _ tt tt
 four_then field p n = tt
 
-eight_then : (field : LongField) (p : ReadState) (n : ℕ) → IsThen (after_eight field p n)
+pub eight_then : (field : LongField) (p : ReadState) (n : ℕ) → IsThen (after_eight field p n)
 eight_then L.Stamp p n = tt
 eight_then field p n = tt
 
-bytes_then : (field : BytesField) (p : ReadState) (content : List ℕ) → IsThen (after_bytes field p content)
+pub bytes_then : (field : BytesField) (p : ReadState) (content : List ℕ) → IsThen (after_bytes field p content)
 bytes_then S.Key p content = tt
 bytes_then field p content = tt
-
--- ---- they are right
-
-then_right : (done : Done) → IsThen done → IsRight done
-then_right (Then next) is = tt
-then_right (Gives next item) is = absurd is
-then_right (Wrong fault) is = absurd is
-
-pub byte_right : (field : ByteField) (p : ReadState) (at byte : ℕ) → IsRight (after_byte field p at byte)
-byte_right B.Tag p at byte = either IsRight (byte == 69) _ _ tt (either IsRight (byte == 72) _ _ tt tt)
-byte_right B.Magic p at byte = then_right (after_byte B.Magic p at byte) (byte_then B.Magic p at byte (λ is. cc))
-byte_right B.CallCode p at byte = tt
-byte_right B.KeyLength p at byte = tt
-byte_right B.ReplyCode p at byte = then_right (after_byte B.ReplyCode p at byte) (byte_then B.ReplyCode p at byte (λ is. cc))
-
-pub four_right : (field : NumberField) (p : ReadState) (n : ℕ) → IsRight (after_four field p n)
-four_right field p n = then_right (after_four field p n) (four_then field p n)
-
-pub eight_right : (field : LongField) (p : ReadState) (n : ℕ) → IsRight (after_eight field p n)
-eight_right field p n = then_right (after_eight field p n) (eight_then field p n)
-
-pub bytes_right : (field : BytesField) (p : ReadState) (content : List ℕ) → IsRight (after_bytes field p content)
-bytes_right field p content = then_right (after_bytes field p content) (bytes_then field p content)
 
 -- ---- they give nothing
 

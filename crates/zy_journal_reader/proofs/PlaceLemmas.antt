@@ -1,5 +1,5 @@
 -- Where the fields of a journal lead that are read whole.
-use Rattle.std.proofs.Common.{◌≡◌, ℕ, ◌+◌, ◌<◌, ◌^◌, Bool, true, false, List, [], ◌∷◌, ◌++◌, length, refl, ◌∙◌, ap, arith}
+use Rattle.std.proofs.Common.{◌≡◌, ℕ, ◌+◌, ◌<◌, ◌^◌, Bool, true, List, [], ◌∷◌, ◌++◌, length, refl, ◌∙◌, ap, arith}
 use Rattle.std.specs.Prelude.{if◌then◌else◌, ⊤}
 use Rattle.std.specs.Int.{to_be_bytes, w32, w64}
 use Rattle.std.proofs.lemmas.Nat.{from_be_bytes-to_be_bytes_4, from_be_bytes-to_be_bytes_8}
@@ -14,7 +14,9 @@ use Rattle.zy_journal_reader.specs.declared.due.ByteField.{ByteField}
 use Rattle.zy_journal_reader.specs.declared.due.NumberField.{NumberField}
 use Rattle.zy_journal_reader.specs.declared.due.LongField.{LongField}
 use Rattle.zy_journal_reader.specs.declared.due.BytesField.{BytesField}
-use Rattle.zy_journal_reader.specs.Steps.{ReadState, Done, lawful_byte, after_byte, lawful_number, after_four, lawful_long, after_eight, after_bytes, number_byte, long_byte, journal_judged, journal_fields}
+use Rattle.zy_journal_reader.specs.Steps.{ReadState, Done, lawful_byte, after_byte, lawful_number, after_four}
+use Rattle.zy_journal_reader.specs.Steps.{lawful_long, after_eight, after_bytes, number_byte, long_byte}
+use Rattle.zy_journal_reader.specs.Steps.{journal_judged, journal_fields}
 
 -- ---- places
 
@@ -47,7 +49,7 @@ stays p d due = record { over = λ at. over_none journal_fields (place p d due) 
 -- ---- one field
 
 -- a test decides on a field
-decided : (test right : Bool) (done : Done) (at : ℕ) → test ≡ right → (if test then done else Wrong (Form at)) ≡ (if right then done else Wrong (Form at))
+pub decided : (test right : Bool) (done : Done) (at : ℕ) → test ≡ right → (if test then done else Wrong (Form at)) ≡ (if right then done else Wrong (Form at))
 decided test right done at is = ap (λ (t : Bool). if t then done else Wrong (Form at)) is
 
 -- a lawful field of one byte
@@ -58,12 +60,8 @@ one_byte p q d e field next byte right after = record {
       (decided (lawful_byte field (place p d (Byte field)) at byte) true (after_byte field (place p d (Byte field)) at byte) at (right at) ∙ after at);
 }
 
--- a field of one byte that is wrong
-pub one_wrong : (p : ReadState) (d : Draft) (field : ByteField) (byte at : ℕ) → lawful_byte field (place p d (Byte field)) at byte ≡ false → journal_judged (Byte field) (place p d (Byte field)) at (byte ∷ []) ≡ Wrong (Form at)
-one_wrong p d field byte at wrong = decided (lawful_byte field (place p d (Byte field)) at byte) false (after_byte field (place p d (Byte field)) at byte) at wrong
-
 -- a number of four bytes
-four_judged : (s : ReadState) (field : NumberField) (n at : ℕ) (right : Bool) → n < 2 ^ 32 → lawful_number field s n ≡ right → journal_judged (Number field) s at (to_be_bytes w32 n) ≡ (if right then after_four field s n else Wrong (Form at))
+pub four_judged : (s : ReadState) (field : NumberField) (n at : ℕ) (right : Bool) → n < 2 ^ 32 → lawful_number field s n ≡ right → journal_judged (Number field) s at (to_be_bytes w32 n) ≡ (if right then after_four field s n else Wrong (Form at))
 four_judged s field n at right small is = ap (λ (m : ℕ). number_byte field s at m) (from_be_bytes-to_be_bytes_4 n small) ∙ decided (lawful_number field s n) right (after_four field s n) at is
 
 pub four_bytes : (p q : ReadState) (d e : Draft) (field : NumberField) (next : Due) (n : ℕ) → n < 2 ^ 32 → lawful_number field (place p d (Number field)) n ≡ true → after_four field (place p d (Number field)) n ≡ to q e next → Goes p d (Number field) (to_be_bytes w32 n) q e next
@@ -71,20 +69,14 @@ four_bytes p q d e field next n small right after = record {
   over = λ at. over_then journal_fields (place p d (Number field)) (place q e next) at (to_be_bytes w32 n) refl (four_judged (place p d (Number field)) field n at true small right ∙ after);
 }
 
-pub four_wrong : (p : ReadState) (d : Draft) (field : NumberField) (n at : ℕ) → n < 2 ^ 32 → lawful_number field (place p d (Number field)) n ≡ false → journal_judged (Number field) (place p d (Number field)) at (to_be_bytes w32 n) ≡ Wrong (Form at)
-four_wrong p d field n at small wrong = four_judged (place p d (Number field)) field n at false small wrong
-
 -- a number of eight bytes
-eight_judged : (s : ReadState) (field : LongField) (n at : ℕ) (right : Bool) → n < 2 ^ 64 → lawful_long field s n ≡ right → journal_judged (Long field) s at (to_be_bytes w64 n) ≡ (if right then after_eight field s n else Wrong (Form at))
+pub eight_judged : (s : ReadState) (field : LongField) (n at : ℕ) (right : Bool) → n < 2 ^ 64 → lawful_long field s n ≡ right → journal_judged (Long field) s at (to_be_bytes w64 n) ≡ (if right then after_eight field s n else Wrong (Form at))
 eight_judged s field n at right small is = ap (λ (m : ℕ). long_byte field s at m) (from_be_bytes-to_be_bytes_8 n small) ∙ decided (lawful_long field s n) right (after_eight field s n) at is
 
 pub eight_bytes : (p q : ReadState) (d e : Draft) (field : LongField) (next : Due) (n : ℕ) → n < 2 ^ 64 → lawful_long field (place p d (Long field)) n ≡ true → after_eight field (place p d (Long field)) n ≡ to q e next → Goes p d (Long field) (to_be_bytes w64 n) q e next
 eight_bytes p q d e field next n small right after = record {
   over = λ at. over_then journal_fields (place p d (Long field)) (place q e next) at (to_be_bytes w64 n) refl (eight_judged (place p d (Long field)) field n at true small right ∙ after);
 }
-
-pub eight_wrong : (p : ReadState) (d : Draft) (field : LongField) (n at : ℕ) → n < 2 ^ 64 → lawful_long field (place p d (Long field)) n ≡ false → journal_judged (Long field) (place p d (Long field)) at (to_be_bytes w64 n) ≡ Wrong (Form at)
-eight_wrong p d field n at small wrong = eight_judged (place p d (Long field)) field n at false small wrong
 
 -- a whole key or value that is not empty
 pub all_bytes : (p q : ReadState) (d e : Draft) (field : BytesField) (next : Due) (whole : List ℕ) → d.size ≡ length whole → 0 < length whole → after_bytes field (place p d (Bytes field)) whole ≡ to q e next → Goes p d (Bytes field) whole q e next

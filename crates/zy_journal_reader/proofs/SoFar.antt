@@ -20,7 +20,7 @@ use Rattle.zy_journal_reader.specs.declared.due.LongField.TheVariants.{Stamp, In
 use Rattle.zy_journal_reader.specs.declared.due.BytesField.TheVariants.{Key, Value, FoundValue}
 use Rattle.zy_journal_reader.specs.Steps.{ReadState, Done}
 use Rattle.zy_read.proofs.RunLemmas.{After}
-use Rattle.zy_journal_reader.specs.LawfulFields.{last_one}
+use Rattle.zy_journal_reader.specs.Last.{last_one}
 use Rattle.zy_journal_reader.proofs.CallLemmas.{fields_in, call_in, to_flags, to_number, to_value, KeyKnown, FlagsKnown, NumberKnown}
 
 -- the bytes before the record that is read

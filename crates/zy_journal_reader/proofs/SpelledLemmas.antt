@@ -29,7 +29,7 @@ use Rattle.zy_journal_reader.specs.Steps.{ReadState, journal_start, journal_fiel
 use Rattle.zy_journal_reader.specs.Verdict.{good_journal, journal_verdict, journal_in, IsReadable, SpellsJournal}
 use Rattle.zy_journal_reader.specs.Verdict.JournalVerdict.{Good, Bad}
 use Rattle.zy_journal_reader.specs.Laws.{journal_lawful}
-use Rattle.zy_journal_reader.specs.Faults.{journal_front}
+use Rattle.zy_journal_reader.specs.Verdict.{journal_front}
 use Rattle.zy_journal_reader.specs.Found.{and_entry, and_hold}
 use Rattle.zy_journal_reader.proofs.PlaceLemmas.{Over, place, Goes, both, stays, one_byte, four_bytes, eight_bytes}
 use Rattle.zy_journal_reader.proofs.GoesLemmas.{between, below_is, stamp_is, shard_is, conn_is, plain, known, call_goes, after, reply_goes}

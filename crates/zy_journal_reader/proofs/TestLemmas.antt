@@ -15,7 +15,7 @@ use Rattle.zy_journal_reader.specs.declared.past.Past.{Past}
 use Rattle.zy_base.specs.Bounds.{FitsEntry}
 use Rattle.zy_read.specs.Bytes.{AreBytes}
 use Rattle.zy_read.proofs.ByteLemmas.{byte_at}
-use Rattle.zy_journal_reader.specs.LawfulFields.{last_after}
+use Rattle.zy_journal_reader.specs.Last.{last_after}
 use Rattle.zy_journal_reader.proofs.SoFar.{front, ComesAfter, stamp_of, shard_of, conn_of, Kept}
 
 -- ---- tests

@@ -1,14 +1,14 @@
 -- The verdict on a whole text as a journal: the journal that it spells, or its first fault. A text
--- is read from its first byte to its last. That it is good exactly where it is a spelling, and bad
--- exactly where it has a fault of specs/Faults.antt, are laws in src/laws.rt.
-use Rattle.std.specs.Prelude.{◌≡◌, ℕ, ◌≤◌, Bool, true, false, List, length, Option, ⊤}
+-- is read from its first byte to its last. That it is good exactly where it is a spelling is a law
+-- in src/laws.rt.
+use Rattle.std.specs.Prelude.{◌≡◌, ℕ, ◌≤◌, Bool, true, false, List, length, ⊤, ◌+◌, ◌++◌, flat_map}
 use Rattle.std.specs.List.{AllByRecursion}
 use Rattle.zy_base.specs.declared.file_fault.FileFault.{FileFault}
 use Rattle.zy_base.specs.Bounds.{FitsEntry}
-use Rattle.zy_read.specs.Format.{Format, Reading, read_on, fault_met, verdict_on}
+use Rattle.zy_read.specs.Format.{Format, verdict_on}
 use Rattle.zy_journal.specs.declared.journal.Journal.{Journal}
-use Rattle.zy_journal.specs.Journal.{IsJournal, journal_bytes}
-use Rattle.zy_read.specs.Fields.{step, format_of}
+use Rattle.zy_journal.specs.Journal.{IsJournal, journal_bytes, magic, entry_text, hold_text}
+use Rattle.zy_read.specs.Fields.{format_of}
 use Rattle.zy_journal_reader.specs.Steps.{ReadState, JournalProgress, journal_fields, journal_limit}
 
 -- ---- a whole text
@@ -39,10 +39,6 @@ abbrev pub is_good_journal : JournalVerdict → Bool
 is_good_journal (Good journal) = true
 is_good_journal (Bad fault) = false
 
--- the fault that was met in a text
-abbrev pub journal_fault : List ℕ → Option FileFault
-journal_fault text = fault_met journals text
-
 -- ---- spellings
 
 -- a journal that can be read: one with a spelling, whose numbers fit their bytes
@@ -56,8 +52,6 @@ pub record SpellsJournal (text : List ℕ) (journal : Journal) : Type 0 where
   pub spelled : text ≡ journal_bytes journal
   pub short : length text ≤ journal_limit
 
--- ---- for proofs
-
--- what is read of the rest of a text
-abbrev pub journal_read_from : JournalProgress → List ℕ → Reading JournalProgress ⊤
-journal_read_from p text = read_on (step journal_fields) p text
+-- the bytes of a journal up to its end, or up to a further record
+abbrev pub journal_front : Journal → List ℕ
+journal_front journal = magic ++ (flat_map entry_text journal.entries ++ flat_map hold_text journal.holds)

@@ -1,5 +1,5 @@
 -- Each step on a token keeps its rule.
-use Rattle.std.proofs.Common.{◌≡◌, ℕ, zero, suc, ◌+◌, ◌<◌, ◌≤◌, Bool, true, false, List, [], ◌∷◌, ◌++◌, set, refl, sym, ap, arith}
+use Rattle.std.proofs.Common.{◌≡◌, ℕ, zero, suc, ◌+◌, true, false, List, [], ◌∷◌, ◌++◌, set, refl, sym, ap, arith}
 use mathlib.Core.Option.{some, some-injective, some-ne-none}
 use lib.ListN.{get_elem?}
 use Rattle.crossbeam_utils.specs.Register.{Admits, Turns, TurnsAt}
@@ -34,11 +34,3 @@ rings_kept id v x vs h at = let a = rung_set vs id v (rings v) at in let b = tak
 
 pub takes_kept : (number id : ℕ) (v : View) → TurnsAt TokenRule id v true false (takes_from number)
 takes_kept number id v vs h at = let w = takes number v in let a = rung_set vs id v w at in let b = taken_set vs id v w at in (w, omega arith, refl)
-
--- ---- what the rule says
-
-pub taken_at_most : (token : Bool) (vs : List View) → TokenRule token vs → taken_in vs ≤ rung_in vs
-taken_at_most token vs h = omega arith
-
-pub taken_below : (vs : List View) → TokenRule true vs → taken_in vs < rung_in vs
-taken_below vs h = omega arith

@@ -4,7 +4,6 @@
 
 mod bell;
 mod bells;
-pub mod laws;
 mod pass;
 mod view;
 

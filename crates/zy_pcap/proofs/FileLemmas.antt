@@ -1,5 +1,6 @@
 -- A file has its header and, for each packet, its headers and its payload; and it is not longer than a file may be.
-use Rattle.std.proofs.Common.{◌≡◌, ℕ, ◌+◌, ◌<◌, ◌≤◌, List, [], ◌∷◌, ◌++◌, length, length-append, sym, ap, subst, arith}
+use Rattle.std.proofs.Common.{◌≡◌, ℕ, ◌+◌, ◌<◌, ◌≤◌, List, [], ◌∷◌, ◌++◌, length, length-append, sym, ap, subst}
+use Rattle.std.proofs.Common.{arith}
 use Rattle.std.specs.Prelude.{Option, Some, None, true, false, nat_lt, nat_le, ◌==◌, ◌&&◌, ⊤}
 use Rattle.std.proofs.lemmas.Bool.Decides.{nat_tests}
 use Rattle.zy_read.proofs.RunLemmas.{After, any_parts}
@@ -8,10 +9,13 @@ use Rattle.zy_pcap.specs.declared.due.Due.{Due}
 use Rattle.zy_pcap.specs.declared.due.Due.TheVariants as Dues
 use Rattle.zy_pcap.specs.declared.judged.Judged.{Judged}
 use Rattle.zy_pcap.specs.declared.judged.Judged.TheVariants.{Passed, Refused, Taken}
-use Rattle.zy_pcap.specs.Steps.{DueJudged, then_due, due_width, magic_does, version_does, link_does, begin_does, captured_does, original_does, due_does, is_begin, major, minor, ordered_number, file_limit, frame_limit}
+use Rattle.zy_pcap.specs.Steps.{DueJudged, then_due, due_width, magic_does, version_does, link_does, begin_does}
+use Rattle.zy_pcap.specs.Steps.{captured_does, original_does, due_does, is_begin, major, minor, ordered_number}
+use Rattle.zy_pcap.specs.Steps.{file_limit, frame_limit}
 use Rattle.zy_pcap.specs.Frame.{judge}
 use Rattle.zy_pcap.specs.Packet.{Packet, packet_in}
-use Rattle.zy_pcap.specs.Packets.{FileState, FieldJudged, frame_fault, packets_with, record_settled, record_ended, file_does, packets}
+use Rattle.zy_pcap.specs.Packets.{FileState, FieldJudged, frame_fault, packets_with, record_settled, record_ended}
+use Rattle.zy_pcap.specs.Packets.{file_does, packets}
 use Rattle.zy_pcap.specs.Packets.FoundPackets.{Packets}
 use Rattle.zy_pcap.specs.Made.{pcap_capture}
 use Rattle.zy_pcap.specs.Sizes.{file_header, record_bytes}
@@ -148,9 +152,6 @@ file_holds port bytes given is =
 
 pub file_short : (port : ℕ) (bytes : List ℕ) (given : List Packet) → packets port bytes ≡ Packets given → length bytes ≤ file_limit
 file_short port bytes given found = (file_holds port bytes given found).short
-
-pub file_records : (port : ℕ) (bytes : List ℕ) (given : List Packet) → packets port bytes ≡ Packets given → file_header + record_bytes given ≤ length bytes
-file_records port bytes given found = (file_holds port bytes given found).records
 
 -- the capture is not longer than the file
 pub capture_within : (port : ℕ) (bytes : List ℕ) (given : List Packet) → packets port bytes ≡ Packets given → length (pcap_capture given) ≤ length bytes

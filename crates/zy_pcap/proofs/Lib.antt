@@ -1,11 +1,10 @@
-mod ByteLemmas
-mod ChunkLemmas
-mod CopyLemmas
+pub mod ByteLemmas
+pub mod ChunkLemmas
 mod CostLemmas
-mod CountLemmas
+pub mod CountLemmas
 mod CoverLemmas
 mod DueLemmas
-mod FileLemmas
+pub mod FileLemmas
 mod FitLemmas
 mod FlowLemmas
 mod FrameLemmas
@@ -20,6 +19,6 @@ mod ReadLemmas
 mod RunLemmas
 mod SessionLemmas
 mod SlotLemmas
-mod StreamLemmas
+pub mod StreamLemmas
 mod TextLemmas
-mod WholeLemmas
+pub mod WholeLemmas

@@ -15,15 +15,10 @@ same_by f g at count None one two rest = rw (one, longest_from) (rw (two, longes
 same_by f g at count (Some byte) one two rest = rw (one, longest_from) (rw (two, longest_from) (ap (λ (l : List ℕ). byte ∷ l) rest))
 
 -- the same bytes from an offset on, up to one that is none or to the limit
-longest_same : (f g : ℕ → Option ℕ) (at count : ℕ) → ((d : ℕ) → d < at + count → f d ≡ g d) → longest_from f at count ≡ longest_from g at count
+pub longest_same : (f g : ℕ → Option ℕ) (at count : ℕ) → ((d : ℕ) → d < at + count → f d ≡ g d) → longest_from f at count ≡ longest_from g at count
 longest_same f g at zero same = refl
 longest_same f g at (suc count) same =
     same_by f g at count (g at) (same at (omega arith)) refl (longest_same f g (at + 1) count (λ d low. same d (omega (arith, low))))
-
--- the same byte at each offset
-pub same_longest : (f g : ℕ → Option ℕ) → ((d : ℕ) → f d ≡ g d) → longest f ≡ longest g
-unfolding longest
-same_longest f g same = longest_same f g 0 (2 ^ 31) (λ d low. same d)
 
 stream_same : (kept : KeptSession) (session : Session) → KeepsSession kept session → kept_stream kept ≡ session_stream session
 unfolding longest

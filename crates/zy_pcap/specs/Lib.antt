@@ -1,5 +1,4 @@
 pub mod Chunk
-pub mod Copies
 pub mod Flow
 pub mod Frame
 pub mod Kept
@@ -15,4 +14,3 @@ pub mod Step
 pub mod Steps
 pub mod Streams
 pub mod Texts
-pub mod Worked

@@ -1,12 +1,12 @@
 -- What further bytes mean for each place that a reader may have reached.
 use Rattle.std.proofs.Common.{◌≡◌, ℕ, List, [], ◌∷◌, ◌++◌, refl, sym, ◌∙◌, ap, append_assoc}
 use Rattle.std.specs.Prelude.{Some, Option, None, option_to_list, Result, Ok, Err}
-use Rattle.std.specs.List.{concat}
 use Rattle.std.proofs.lemmas.List.{append-nil}
 use Rattle.zy_read.specs.declared.not_taken.NotTaken.{NotTaken}
 use Rattle.zy_read.specs.declared.not_taken.NotTaken.TheVariants.{Fault, NoMemory}
-use Rattle.zy_read.specs.Format.{Format, IsLasting, Step, Reading, with_front, read_on, reading_of, given_by, fault_met, verdict_on}
-use Rattle.zy_read.specs.Standing.{StandsAs, Feeds, MeetsFault, LastsAs, FeedsAs, TellsFault, TellsLasting, FeedsPieces, Follows}
+use Rattle.zy_read.specs.Format.{Format, IsLasting, Step, Reading, with_front, read_on, reading_of, given_by}
+use Rattle.zy_read.specs.Format.{fault_met, verdict_on}
+use Rattle.zy_read.specs.Standing.{StandsAs, Feeds, MeetsFault, LastsAs, FeedsAs, TellsFault, TellsLasting, Follows}
 
 -- one reading after another
 abbrev pub then_read : {P G : Type 0} → Reading P G → Reading P G → Reading P G
@@ -132,19 +132,3 @@ fault_lasts {P} {G} format lasting text more fault is =
     let r : Reading P G = reading_of format text in
     verdict_here format r.last (r.given ++ []) (text ++ more) (broken_stays format lasting r.last fault more is r.given text refl)
     ∙ lasting.counts r.last (r.given ++ []) fault is
-
--- the records and the place are those of the bytes
-pub same_given : {P G F V : Type 0} (format : Format P G F V) (p q : P) (given others : List G) (b : List ℕ) → StandsAs format p given b → StandsAs format q others b → given ≡ others
-same_given format p q given others b one two = sym (given_here format p given b one) ∙ given_here format q others b two
-
-pub same_state : {P G F V : Type 0} (format : Format P G F V) (p q : P) (given others : List G) (b : List ℕ) → StandsAs format p given b → StandsAs format q others b → p ≡ q
-unfolding StandsAs
-same_state {P} {G} format p q given others b one two = ap (λ (r : Reading P G). r.last) (sym one ∙ two)
-
--- pieces of a text do what the text does
-pub pieces_fed : {P G F V : Type 0} (format : Format P G F V) (old new : P) (pieces : List (List ℕ)) (gave : List G) → FeedsPieces format old new pieces gave → Feeds format old new (concat pieces) gave
-pieces_fed format old new [] gave fed = rw (fed.0, fed.1) (fed_none format old)
-pieces_fed {P} {G} format old new (piece ∷ pieces) gave fed =
-    let between : P = fed.0 in
-    let rest = fed.1.1.1 in
-    rw (rest.2) (fed_on format old between new piece (concat pieces) fed.1.0 fed.1.1.0 rest.0 (pieces_fed format between new pieces fed.1.1.0 rest.1))

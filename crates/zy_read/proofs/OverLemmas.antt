@@ -2,8 +2,8 @@
 use Rattle.std.proofs.Common.{◌≡◌, ℕ, ◌+◌, ◌≤◌, List, [], ◌∷◌, ◌++◌, length, refl, sym, ◌∙◌, ap, subst}
 use Rattle.std.specs.List.{concat}
 use Rattle.zy_read.specs.Fields.{Judged, Fields}
-use Rattle.zy_read.specs.Fields.Judged.{Then, Gives, Wrong}
-use Rattle.zy_read.specs.Runs.{RunsOver, GoesOn, Begins, HasRoom, IsMisjudged}
+use Rattle.zy_read.specs.Fields.Judged.{Then, Gives}
+use Rattle.zy_read.specs.Runs.{RunsOver, GoesOn, Begins}
 use Rattle.zy_read.proofs.RunLemmas.{concat_append, concat_one, runs_join}
 
 pub over_none : {S G F : Type 0} (fields : Fields S G F) (s : S) (at : ℕ) → RunsOver fields s at [] s []
@@ -40,17 +40,4 @@ over_begins fields text s x rest given over short whole = record {
   runs = over.runs;
   text_is = whole ∙ ap (λ (l : List ℕ). l ++ rest) (sym over.text_is);
   short = rw (over.text_is) short;
-}
-
--- a text in which a wrong field follows them
-pub over_misjudged : {S G F : Type 0} (fields : Fields S G F) (text : List ℕ) (s : S) (fault : F) (x field rest : List ℕ) (given : List G) → RunsOver fields fields.start 0 x s given → length x ≤ fields.limit → text ≡ x ++ (field ++ rest) → length field ≡ fields.width s
-    → HasRoom fields s (length x + length field) → fields.judge s (length x) field ≡ Wrong fault → IsMisjudged fields text s fault
-over_misjudged fields text s fault x field rest given over short whole size room wrong = record {
-  given = given;
-  field = field;
-  rest = rest;
-  begins = over_begins fields text s x (field ++ rest) given over short whole;
-  size = size;
-  room = subst (λ (n : ℕ). HasRoom fields s (n + length field)) (ap (λ (l : List ℕ). length l) (sym over.text_is)) room;
-  wrong = ap (λ (l : List ℕ). fields.judge s (length l) field) over.text_is ∙ wrong;
 }

@@ -1,6 +1,7 @@
 -- The magic with which a text begins, byte after byte: six letters, the digit of a version, which is 1 or 2, and a line
 -- feed.
-use Rattle.std.specs.Prelude.{◌≡◌, ◌⊎◌, ℕ, ◌+◌, ◌<◌, ◌≤◌, ◌==◌, if◌then◌else◌, List, [], ◌∷◌, ◌++◌, length, take, Option, None, Some, ⊤}
+use Rattle.std.specs.Prelude.{◌≡◌, ◌⊎◌, ℕ, ◌+◌, ◌<◌, ◌≤◌, ◌==◌, if◌then◌else◌, List, [], ◌∷◌, ◌++◌, length, take}
+use Rattle.std.specs.Prelude.{Option, None, Some, ⊤}
 use Rattle.std.specs.List.{slice_index}
 use Rattle.zy_read.specs.Fields.{Judged, Fields}
 use Rattle.zy_read.specs.Fields.Judged.{Then, Wrong as IsFault}
@@ -50,24 +51,6 @@ pub record HasMagic (letters text : List ℕ) (version : ℕ) : Type 0 where
   pub rest : List ℕ
   pub known : (version ≡ 1) ⊎ (version ≡ 2)
   pub whole : text ≡ magic_of letters version ++ rest
-
--- the bytes are the first ones of a magic
-pub record BeginsMagic (letters bytes : List ℕ) : Type 0 where
-  pub version : ℕ
-  pub rest : List ℕ
-  pub known : (version ≡ 1) ⊎ (version ≡ 2)
-  pub whole : bytes ++ rest ≡ magic_of letters version
-
--- a byte of the first eight follows the first ones of a magic, and is the next one of none
-pub record IsBadMagic (letters text : List ℕ) (at : ℕ) : Type 0 where
-  pub front : List ℕ
-  pub byte : ℕ
-  pub rest : List ℕ
-  pub whole : text ≡ front ++ byte ∷ rest
-  pub place : at ≡ length front
-  pub within : at < 8
-  pub begins : BeginsMagic letters front
-  pub differs : BeginsMagic letters (front ++ byte ∷ []) → ⊥
 
 -- the version of a magic that was read whole; the number is 0 before
 abbrev pub version_in : ℕ → Option ℕ

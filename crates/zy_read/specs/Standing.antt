@@ -1,6 +1,6 @@
 -- The bytes that brought a reader to where it is, the records that it gave for them, and the
 -- meaning of an answer to further bytes.
-use Rattle.std.specs.Prelude.{◌≡◌, ℕ, ◌+◌, List, [], ◌∷◌, ◌++◌, Option, None, Some, option_to_list, Result, Ok, Err, ⊤}
+use Rattle.std.specs.Prelude.{◌≡◌, ℕ, ◌+◌, List, [], ◌++◌, Option, None, Some, option_to_list, Result, Ok, Err, ⊤}
 use Rattle.zy_read.specs.declared.not_taken.NotTaken.{NotTaken}
 use Rattle.zy_read.specs.declared.not_taken.NotTaken.TheVariants.{Fault, NoMemory}
 use Rattle.zy_read.specs.Format.{Format, Step, reading_of, fault_met, verdict_on}
@@ -60,14 +60,6 @@ abbrev pub taken_with : {G F : Type 0} → ℕ → Result (Option G) (NotTaken F
 taken_with before (Ok gave) = before + 1
 taken_with before (Err (Fault fault)) = before + 1
 taken_with before (Err NoMemory) = before
-
--- pieces of a text were fed, one after another, and gave these records
-abbrev pub FeedsPieces : {P G F V : Type 0} → Format P G F V → P → P → List (List ℕ) → List G → Type 0
-FeedsPieces format old new [] gave = (new ≡ old) × (gave ≡ [])
-FeedsPieces {P} {G} format old new (piece ∷ pieces) gave =
-    (between : P) × ((first : List G) × ((others : List G)
-    × (Feeds format old between piece first × FeedsPieces format between new pieces others
-    × (gave ≡ first ++ others))))
 
 -- ---- for readers alone
 

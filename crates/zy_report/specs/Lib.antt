@@ -1,4 +1,3 @@
 pub mod Counting
 pub mod Report
 pub mod Tally
-pub mod Worked

@@ -2,8 +2,6 @@
 #![tactic(auto)]
 
 mod hashing;
-mod laws;
 mod windows;
 
 pub use hashing::toeplitz;
-pub use laws::the_published_values_hold;

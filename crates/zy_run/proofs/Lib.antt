@@ -1,10 +1,8 @@
 pub mod StreamLemmas
 pub mod OutputLemmas
-pub mod WorkedLemmas
 pub mod AloneLemmas
 pub mod SerialLemmas
 pub mod CountLemmas
 pub mod ApartOutputLemmas
 pub mod RunLemmas
 pub mod SummaryLemmas
-pub mod ApartWorkedLemmas

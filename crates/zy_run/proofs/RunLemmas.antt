@@ -1,10 +1,9 @@
 -- All runs of commands that are apart give a connection the same replies, whatever the number of
 -- shards.
-use Rattle.std.proofs.Common.{◌≡◌, ℕ, ◌<◌, ◌≤◌, List, [], ◌∷◌, length, refl, sym, ap, ◌∙◌, subst, arith}
+use Rattle.std.proofs.Common.{◌≡◌, ℕ, ◌<◌, List, [], ◌∷◌, length, refl, sym, ap, ◌∙◌, subst, arith}
 use Rattle.std.specs.Prelude.{All}
 use Rattle.std.specs.List.{AllByRecursion}
 use Rattle.std.proofs.lemmas.List.{length-map}
-use Rattle.std.proofs.lemmas.List.Elements.{recursion_from_All}
 use mathlib.Core.Logic.{dite}
 use native.Mathlib.Decide.{ℕ_discrete}
 use Rattle.zy_base.specs.declared.entry.Entry.{Entry}
@@ -12,29 +11,20 @@ use Rattle.zy_base.specs.Shard.{empty_state}
 use Rattle.zy_base.specs.Order.{of_connection}
 use Rattle.zy_base.proofs.EntryLemmas.{of_connection-here, of_connection-other}
 use Rattle.mc_parse.specs.declared.command.Command.{Command}
-use Rattle.mc_parse.specs.Calls.{Due, due, due_of, dues_of, IsDueOn}
-use Rattle.mc_parse.proofs.CallLemmas.{due_within}
-use Rattle.zy_run.specs.Commands.{commands_over}
+use Rattle.mc_parse.specs.Calls.{Due, due, due_of, dues_of}
 use Rattle.zy_run.specs.Run.{AreOfConnections, IsRun}
 use Rattle.zy_run.specs.Output.{connection_outputs, all_outputs}
 use Rattle.mc_parse.specs.Plain.{all_keys_of, IsPlain}
 use Rattle.zy_run.specs.Apart.{commands_of_all, AreApart}
 use Rattle.mc_parse.specs.Plain.{IsDueOwn, bare}
 use Rattle.zy_run.specs.Keyed.{told_by}
-use Rattle.zy_run.specs.Serial.{alone}
 use Rattle.zy_base.specs.Told.{all_told}
 use Rattle.zy_run.proofs.AloneLemmas.{told-alone, told_by-bare}
 use Rattle.zy_run.proofs.CountLemmas.{length-same}
 use Rattle.mc_parse.proofs.PlainLemmas.{due_own, due_bare}
 use Rattle.zy_run.proofs.ApartOutputLemmas.{map-range_same, outputs-same}
-use Rattle.zy_run.proofs.SerialLemmas.{dues_of-answered, legal-answered, own-alone}
 
 -- ---- each entry
-
--- what holds of the expected calls that entries were made for holds of each entry
-each_asked : (P : Due → Type 0) (es : List Entry) → AllByRecursion P (dues_of es) → AllByRecursion (λ e. P (due_of e)) es
-each_asked P [] each = tt
-each_asked P (e ∷ es) each = (each.0, each_asked P es each.1)
 
 -- what holds of the expected calls of each connection holds of each entry
 each_entry : (P : Due → Type 0) (count : ℕ) (es : List Entry) → AreOfConnections count es → ((conn : ℕ) → conn < count → AllByRecursion P (dues_of (of_connection conn es)))
@@ -51,7 +41,7 @@ each_entry P count (e ∷ es) of each = (
 
 module _ (count conn : ℕ) (commands : ℕ → List Command) (apart : AreApart count commands) (within : conn < count) where
   -- in a run, its entries are those of one shard of its own, apart from uniques
-  run_told : (shards : ℕ) (es : List Entry) → IsRun shards es count commands → all_told (of_connection conn es) ≡ told_by empty_state (due shards conn (commands conn))
+  pub run_told : (shards : ℕ) (es : List Entry) → IsRun shards es count commands → all_told (of_connection conn es) ≡ told_by empty_state (due shards conn (commands conn))
   run_told shards es run =
       told-alone shards count conn (λ c. all_keys_of (commands c)) (λ other key below mine its. apart.keys conn other key within below mine its) (λ number. empty_state) empty_state es
       (each_entry (IsDueOwn shards count (λ c. all_keys_of (commands c))) count es run.connections (λ c below.
@@ -59,33 +49,13 @@ module _ (count conn : ℕ) (commands : ℕ → List Command) (apart : AreApart 
       run.legal (λ key inside. refl)
       ∙ ap (told_by empty_state) (run.calls conn within)
 
-  -- the same is true where it is alone
-  alone_told : (shards : ℕ) → 1 ≤ shards → all_told (of_connection conn (alone shards conn (commands conn))) ≡ told_by empty_state (due shards conn (commands conn))
-  alone_told shards some =
-      let asked : dues_of (alone shards conn (commands conn)) ≡ due shards conn (commands conn) = dues_of-answered shards (λ number. empty_state) 1 (due shards conn (commands conn)) in
-      told-alone shards count conn (λ c. all_keys_of (commands c)) (λ other key below mine its. apart.keys conn other key within below mine its) (λ number. empty_state) empty_state
-      (alone shards conn (commands conn))
-      (each_asked (IsDueOwn shards count (λ c. all_keys_of (commands c))) (alone shards conn (commands conn))
-      (subst (AllByRecursion (IsDueOwn shards count (λ c. all_keys_of (commands c)))) (sym asked) (due_own shards count conn commands within (apart.plain conn within))))
-      (legal-answered shards (λ number. empty_state) 1 (due shards conn (commands conn)) (recursion_from_All (IsDueOn shards) (due shards conn (commands conn)) (due_within shards conn (commands conn) some)))
-      (λ key inside. refl)
-      ∙ ap (λ l. told_by empty_state (dues_of l)) (own-alone shards conn (commands conn)) ∙ ap (told_by empty_state) asked
-
   -- so the number of shards does not matter
-  told_anywhere : (shards others : ℕ) → told_by empty_state (due shards conn (commands conn)) ≡ told_by empty_state (due others conn (commands conn))
+  pub told_anywhere : (shards others : ℕ) → told_by empty_state (due shards conn (commands conn)) ≡ told_by empty_state (due others conn (commands conn))
   told_anywhere shards others =
       sym (told_by-bare empty_state (due shards conn (commands conn))) ∙ ap (told_by empty_state) (due_bare shards others conn (commands conn) (apart.plain conn within))
       ∙ told_by-bare empty_state (due others conn (commands conn))
 
 -- ---- outputs
-
--- the outputs of a connection are those that it has alone
-pub outputs-alone : (shards others count conn : ℕ) (streams : ℕ → List (List ℕ)) (es : List Entry) → 1 ≤ others → conn < count → AreApart count (commands_of_all streams)
-    → IsRun shards es count (commands_of_all streams) → connection_outputs conn (streams conn) es ≡ connection_outputs conn (streams conn) (alone others conn (commands_over (streams conn)))
-outputs-alone shards others count conn streams es some within apart run =
-    outputs-same conn (streams conn) es (alone others conn (commands_over (streams conn))) (apart.plain conn within)
-    (run_told count conn (commands_of_all streams) apart within shards es run ∙ told_anywhere count conn (commands_of_all streams) apart within shards others
-    ∙ sym (alone_told count conn (commands_of_all streams) apart within others some))
 
 -- two runs have the same outputs
 pub all_outputs-same : (shards others count : ℕ) (streams : ℕ → List (List ℕ)) (es fs : List Entry) → AreApart count (commands_of_all streams)

@@ -1,38 +1,27 @@
 -- The entries of expected calls that are made one after another.
-use Rattle.std.proofs.Common.{◌≡◌, inl, ℕ, zero, suc, ◌+◌, ◌<◌, ◌≤◌, Bool, true, false, cond, List, [], ◌∷◌, ◌++◌, refl, sym, ap, ◌∙◌, append-nil, eq-eqb, ne_eqb, arith}
-use Rattle.std.specs.Prelude.{◌==◌, filter, flat_map, Some}
+use Rattle.std.proofs.Common.{◌≡◌, ℕ, zero, suc, ◌+◌, ◌<◌, ◌≤◌, Bool, true, false, cond, List, [], ◌∷◌, ◌++◌, refl}
+use Rattle.std.proofs.Common.{sym, ap, ◌∙◌, append-nil, eq-eqb, ne_eqb, arith}
+use Rattle.std.specs.Prelude.{◌==◌, filter, flat_map}
 use Rattle.std.specs.List.{AllByRecursion, range_with_len}
 use Rattle.std.proofs.lemmas.List.Elements.{filter-append}
 use mathlib.Core.Logic.{dite}
 use native.Mathlib.Decide.{ℕ_discrete}
 use Rattle.zy_base.specs.declared.entry.Entry.{Entry}
-use Rattle.zy_base.specs.Shard.{State, empty_state}
+use Rattle.zy_base.specs.Shard.{State}
 use Rattle.zy_base.specs.History.{IsLegalFrom, states_after}
-use Rattle.zy_base.specs.Order.{of_connection, IsOrdered}
-use Rattle.zy_base.proofs.EntryLemmas.{of_connection-here}
+use Rattle.zy_base.specs.Order.{of_connection}
 use Rattle.mc_parse.specs.declared.command.Command.{Command}
 use Rattle.mc_parse.specs.declared.shard_call.ShardCall.{ShardCall}
 use Rattle.mc_parse.specs.Calls.{Due, calls_of, tagged, due, due_from, due_at, due_of, dues_of, IsDueOn}
-use Rattle.zy_run.specs.Serial.{answered, made_entry, all_due, alone}
+use Rattle.zy_run.specs.Serial.{answered, made_entry, all_due}
 use Rattle.mc_parse.proofs.PlainLemmas.{each-append}
 
 -- ---- the entries
-
--- they are the entries of the expected calls
-pub dues_of-answered : (shards : ℕ) (states : ℕ → State) (stamp : ℕ) (dues : List Due) → dues_of (answered shards states stamp dues) ≡ dues
-dues_of-answered shards states stamp [] = refl
-dues_of-answered shards states stamp (due ∷ dues) = ap (λ (l : List Due). due ∷ l) (dues_of-answered shards (states_after shards states (made_entry states stamp due)) (stamp + 1) dues)
 
 -- they are legal
 pub legal-answered : (shards : ℕ) (states : ℕ → State) (stamp : ℕ) (dues : List Due) → AllByRecursion (IsDueOn shards) dues → IsLegalFrom shards states (answered shards states stamp dues)
 legal-answered shards states stamp [] within = tt
 legal-answered shards states stamp (due ∷ dues) within = (within.0, refl, legal-answered shards (states_after shards states (made_entry states stamp due)) (stamp + 1) dues within.1)
-
--- they are in the order of their stamps
-pub ordered-answered : (shards : ℕ) (states : ℕ → State) (stamp : ℕ) (before : Entry) (dues : List Due) → before.stamp < stamp → IsOrdered (Some before) (answered shards states stamp dues)
-ordered-answered shards states stamp before [] above = tt
-ordered-answered shards states stamp before (due ∷ dues) above =
-    (inl above, ordered-answered shards (states_after shards states (made_entry states stamp due)) (stamp + 1) (made_entry states stamp due) dues (omega arith))
 
 -- ---- the expected calls of one connection
 
@@ -109,15 +98,3 @@ module _ (shards conn : ℕ) (commands : ℕ → List Command) where
 pub own-all_due : (shards count conn : ℕ) (commands : ℕ → List Command) → conn < count → filter (λ due. due.tag.conn == conn) (all_due shards count commands) ≡ due shards conn (commands conn)
 unfolding dues_from
 own-all_due shards count conn commands within = own_due shards conn commands 0 count (omega arith) (omega arith)
-
--- ---- one connection alone
-
-answered-own : (conn shards : ℕ) (states : ℕ → State) (stamp : ℕ) (dues : List Due) → AllByRecursion (λ due. due.tag.conn ≡ conn) dues → of_connection conn (answered shards states stamp dues) ≡ answered shards states stamp dues
-answered-own conn shards states stamp [] of = refl
-answered-own conn shards states stamp (due ∷ dues) of =
-    of_connection-here conn (made_entry states stamp due) (answered shards (states_after shards states (made_entry states stamp due)) (stamp + 1) dues) of.0
-    ∙ ap (λ (l : List Entry). made_entry states stamp due ∷ l) (answered-own conn shards (states_after shards states (made_entry states stamp due)) (stamp + 1) dues of.1)
-
--- all entries of a connection that is alone are its own
-pub own-alone : (shards conn : ℕ) (commands : List Command) → of_connection conn (alone shards conn commands) ≡ alone shards conn commands
-own-alone shards conn commands = answered-own conn shards (λ number. empty_state) 1 (due shards conn commands) (due_from_of shards conn 0 commands)

@@ -1,23 +1,22 @@
 -- The serial run is a run, and each run has its summary.
 use Rattle.std.proofs.Common.{◌≡◌, ℕ, zero, suc, ◌+◌, ◌<◌, ◌≤◌, List, [], ◌∷◌, length, ap, ◌∙◌, arith}
-use Rattle.std.specs.Prelude.{flat_map, None}
+use Rattle.std.specs.Prelude.{flat_map}
 use Rattle.std.specs.List.{AllByRecursion, range_with_len}
 use Rattle.std.proofs.lemmas.List.Elements.{recursion_from_All}
 use Rattle.zy_base.specs.declared.entry.Entry.{Entry}
 use Rattle.zy_base.specs.Shard.{State, empty_state}
 use Rattle.zy_base.specs.History.{states_after}
-use Rattle.zy_base.specs.Order.{IsOrdered}
 use Rattle.mc_parse.specs.declared.command.Command.{Command}
 use Rattle.mc_parse.specs.Calls.{Due, due, IsDueOn}
 use Rattle.mc_parse.proofs.CallLemmas.{due_within}
 use Rattle.zy_run.specs.Run.{AreOfConnections, IsRun}
 use Rattle.zy_run.specs.Output.{all_outputs}
 use Rattle.zy_run.specs.Apart.{commands_of_all, AreApart}
-use Rattle.zy_run.specs.Serial.{answered, made_entry, made, all_due, serial}
+use Rattle.zy_run.specs.Serial.{answered, made_entry, all_due, serial}
 use Rattle.zy_run.specs.Summary.{count_of_bytes, count_of_commands, summary, summary_of_run}
 use Rattle.mc_parse.proofs.PlainLemmas.{each-append}
 use Rattle.zy_run.proofs.RunLemmas.{all_outputs-same, length-run}
-use Rattle.zy_run.proofs.SerialLemmas.{legal-answered, ordered-answered, own-answered, own-all_due, due_from_of}
+use Rattle.zy_run.proofs.SerialLemmas.{legal-answered, own-answered, own-all_due, due_from_of}
 
 -- ---- the serial run
 
@@ -46,15 +45,6 @@ serial_is_run shards count commands some = record {
       (each_due (λ due. due.tag.conn < count) shards commands 0 count (λ conn within. below_of count conn (due shards conn (commands conn)) (omega arith) (due_from_of shards conn 0 (commands conn))));
   calls = λ conn within. own-answered conn shards (λ number. empty_state) 1 (all_due shards count commands) ∙ own-all_due shards count conn commands within;
 }
-
-made_ordered : (shards : ℕ) (dues : List Due) → IsOrdered None (made shards dues)
-made_ordered shards [] = tt
-made_ordered shards (due ∷ dues) =
-    (tt, ordered-answered shards (states_after shards (λ number. empty_state) (made_entry (λ number. empty_state) 1 due)) 2 (made_entry (λ number. empty_state) 1 due) dues (omega arith))
-
--- its entries are in the order of their stamps
-pub serial_ordered : (shards count : ℕ) (commands : ℕ → List Command) → IsOrdered None (serial shards count commands)
-serial_ordered shards count commands = made_ordered shards (all_due shards count commands)
 
 -- ---- summaries
 

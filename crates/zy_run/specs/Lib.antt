@@ -2,9 +2,7 @@ pub mod Commands
 pub mod Run
 pub mod Output
 pub mod Spans
-pub mod Worked
 pub mod Apart
 pub mod Serial
 pub mod Summary
-pub mod ApartWorked
 pub mod Keyed

@@ -40,7 +40,3 @@ all_due shards count commands = flat_map (λ conn. due shards conn (commands con
 -- the entries of the run that makes the calls of connection 0, then those of connection 1, and so on
 abbrev pub serial : ℕ → ℕ → (ℕ → List Command) → List Entry
 serial shards count commands = made shards (all_due shards count commands)
-
--- the entries of a connection that has the shards to itself
-abbrev pub alone : ℕ → ℕ → List Command → List Entry
-alone shards conn commands = made shards (due shards conn commands)

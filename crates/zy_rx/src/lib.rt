@@ -6,13 +6,11 @@
 mod feeder;
 mod flow_table;
 mod inlet;
-mod laws;
 mod outlet;
 mod rx;
 
 pub use feeder::{Fed, Feeder};
 pub use flow_table::FlowTable;
 pub use inlet::{Inlet, RingInlet};
-pub use laws::{all_that_was_offered_is_taken, items_are_offered_one_by_one};
 pub use outlet::{Outlet, RingOutlet, both_ends, ring};
 pub use rx::Rx;

@@ -4,7 +4,6 @@
 
 mod connections;
 mod core_parts;
-pub mod laws;
 mod making;
 mod own_connections;
 mod ringing;

@@ -1,16 +1,18 @@
 -- Each step follows the ownership machine: it is one event, or no event, or the events of a publication.
-use Rattle.std.proofs.Common.{◌≡◌, ◌≢◌, ℕ, zero, suc, ◌+◌, ◌-◌, ◌<◌, ◌≤◌, List, [], ◌∷◌, ◌++◌, refl, sym, ap, ◌∙◌, subst, inl, ⊎_elim, arith}
+use Rattle.std.proofs.Common.{◌≡◌, ◌≢◌, ℕ, zero, suc, ◌+◌, ◌-◌, ◌<◌, ◌≤◌, List, [], ◌∷◌, ◌++◌, refl, sym, ap, ◌∙◌}
+use Rattle.std.proofs.Common.{subst, inl, ⊎_elim, arith}
 use Rattle.std.specs.Prelude as std
 use Rattle.std.specs.Prelude.{◌↔◌}
 use Rattle.zy_table.specs.Put.{put}
 use Rattle.zy_table.proofs.PutLemmas.{at_both, at_put, put_here, put_else}
 use mathlib.Core.Logic.{dite}
 use native.Mathlib.Decide.{ℕ_discrete}
-use Rattle.zy_shuffle.specs.Ownership.{Place, idle, ready, held, returned, Owners, no_requests, moved, queued, with_requests, with_finished, Runs}
+use Rattle.zy_shuffle.specs.Ownership.{Place, idle, ready, held, returned, Owners, no_requests, moved, queued}
+use Rattle.zy_shuffle.specs.Ownership.{with_requests, with_finished, Runs}
 use Rattle.zy_shuffle.specs.declared.ring.view.Event.{Event}
 use Rattle.zy_shuffle.specs.declared.ring.view.Event.TheVariants.{Arrive, Claim, Handle, GiveBack, Collect, Settle}
 use Rattle.zy_shuffle.specs.declared.ring.view.View.{View}
-use Rattle.zy_shuffle.specs.Run.{Before, was_idle, was_held, AreOfSeat, IsKnown, publication, went_idle}
+use Rattle.zy_shuffle.specs.Run.{Before, was_idle, was_held, AreOfSeat, IsKnown, publication}
 use Rattle.zy_shuffle.specs.Word.{cell}
 use Rattle.zy_shuffle.specs.Holder.{Holder, in_queue, in_hand, at_bell}
 use Rattle.zy_shuffle.specs.Follow.{Agrees, queue_of, Follows}
@@ -183,20 +185,6 @@ publication_leads was_idle p std.None s es run none some = arrives p s es run (n
 publication_leads was_idle p (std.Some x) s es run none some = let a = some x refl in idles_arrives p s es run a.0 a.1
 publication_leads was_held p std.None s es run none some = arrives p s es run (none refl)
 publication_leads was_held p (std.Some x) s es run none some = let a = some x refl in settles p s es run a.0 a.1
-
--- after the events with which a connection became idle, it is idle
-pub idle_before : {M : Type 0} (p : ℕ) (kept : std.Option M) (s u : Owners) → Runs 0 s (went_idle p kept) u → (kept ≡ std.None → s.places p ≡ idle) → ((x : M) → kept ≡ std.Some x → s.finished p + 1 ≡ s.arrived p) → u.places p ≡ idle
-idle_before p std.None s u run none some = ap (λ (z : Owners). z.places p) run ∙ none refl
-idle_before p (std.Some x) s u run none some =
-    let w : Owners = run.0 in
-    let y : Owners = run.1.0 in
-    let from : y ≡ s = run.1.1 in
-    let ended : w ≡ with_finished p y = run.1.2.2 in
-    let left = some x refl in
-    let one : w.finished p ≡ y.finished p + 1 = ap (λ (z : Owners). z.finished p) ended ∙ put_here y.finished p (y.finished p + 1) in
-    let finished : y.finished p ≡ s.finished p = ap (λ (z : Owners). z.finished p) from in
-    let arrived : w.arrived p ≡ s.arrived p = ap (λ (z : Owners). z.arrived p) ended ∙ ap (λ (z : Owners). z.arrived p) from in
-    ap (λ (z : Owners). z.places p) (run.2.2 (omega arith)) ∙ put_here w.places p idle
 
 module _ {T M : Type 0} (m : ℕ) (marks : ℕ → std.Option M) (views : List (View T)) where
   -- the home raises the tail, by events with which the place becomes ready

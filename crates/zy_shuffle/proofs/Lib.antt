@@ -16,7 +16,3 @@ pub mod GiveLemmas
 pub mod BellLemmas
 pub mod PassLemmas
 pub mod LeftLemmas
-pub mod RuleLemmas
-pub mod RunLemmas
-pub mod ArrivalLemmas
-pub mod HolderLemmas

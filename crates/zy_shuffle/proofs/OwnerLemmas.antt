@@ -1,5 +1,6 @@
 -- Each event of the ownership machine leads from a sound state to a sound state.
-use Rattle.std.proofs.Common.{◌≡◌, ◌≢◌, ◌⊎◌, ℕ, ◌+◌, ◌<◌, ◌≤◌, List, [], ◌∷◌, ◌++◌, true, false, true≢false, refl, sym, ap, ◌∙◌, subst, inl, inr, ⊎_elim, arith}
+use Rattle.std.proofs.Common.{◌≡◌, ◌≢◌, ◌⊎◌, ℕ, ◌+◌, ◌<◌, ◌≤◌, List, [], ◌∷◌, ◌++◌, true, false, true≢false, refl}
+use Rattle.std.proofs.Common.{sym, ap, ◌∙◌, subst, inl, inr, ⊎_elim, arith}
 use mathlib.Core.Logic.{dite}
 use native.Mathlib.Decide.{ℕ_discrete}
 use Rattle.zy_table.specs.Member.{is_in, IsDistinct}
@@ -8,7 +9,8 @@ use Rattle.zy_table.proofs.PutLemmas.{at_put, put_here, put_else}
 use Rattle.zy_table.proofs.MemberLemmas.{in_or, in_front, in_cons, in_more, not_in}
 use Rattle.zy_shuffle.specs.declared.ring.view.Event.{Event}
 use Rattle.zy_shuffle.specs.declared.ring.view.Event.TheVariants.{Arrive, Claim, Handle, GiveBack, Collect, Settle}
-use Rattle.zy_shuffle.specs.Ownership.{Place, idle, ready, held, returned, Owners, no_requests, moved, with_requests, with_finished, happens, IsSound, Runs}
+use Rattle.zy_shuffle.specs.Ownership.{Place, idle, ready, held, returned, Owners, no_requests, moved, with_requests}
+use Rattle.zy_shuffle.specs.Ownership.{with_finished, happens, IsSound, Runs}
 
 -- ---- a queue with one further member
 
@@ -159,43 +161,3 @@ runs_from home s t (e ∷ es) sound run = keeps_sound home run.0 t e (runs_from 
 
 pub runs_sound : (home : ℕ) (t : Owners) (events : List Event) → Runs home no_requests events t → IsSound t
 runs_sound home t events run = runs_from home no_requests t events begins_sound run
-
--- an idle connection has no unfinished request
-pub not_idle : (s : Owners) (c : ℕ) → IsSound s → s.finished c < s.arrived c → s.places c ≢ idle
-not_idle s c sound due e = let a = sound.idle_done c e in omega arith
-
--- ---- one run leads to one state
-
-happens_one : (home : ℕ) (s t t' : Owners) (e : Event) → IsSound s → happens home s e t → happens home s e t' → t ≡ t'
-happens_one home s t t' (Arrive c count) sound h k = ⊎_elim (λ (e : s.places c ≡ idle). h.1 e ∙ sym (k.1 e)) (λ (ne : s.places c ≢ idle). h.2 ne ∙ sym (k.2 ne)) (idle_or (s.places c))
-happens_one home s t t' (Claim core) sound h k =
-    let both : h.0 ∷ h.1 ≡ k.0 ∷ k.1 = sym h.2 ∙ k.2 in
-    let first : h.0 ≡ k.0 = cc in
-    let rest : h.1 ≡ k.1 = cc in
-    h.3 ∙ (λ i. record (moved (first i) (held core) s) { queue = rest i }) ∙ sym k.3
-happens_one home s t t' (Handle core c) sound h k = h.2 ∙ sym k.2
-happens_one home s t t' (GiveBack core c) sound h k = h.2 ∙ sym k.2
-happens_one home s t t' (Collect c) sound h k = h.1 ∙ sym k.1
-happens_one home s t t' (Settle c) sound h k = dite (ℕ_discrete (s.finished c) (s.arrived c))
-    (λ done. h.2 done ∙ sym (k.2 done))
-    (λ left. let due : s.finished c < s.arrived c = (let a = sound.counts c in omega arith) in h.1 due ∙ sym (k.1 due))
-
-pub runs_one : (home : ℕ) (t t' : Owners) (events : List Event) → Runs home no_requests events t → Runs home no_requests events t' → t ≡ t'
-runs_one home t t' [] h k = h ∙ sym k
-runs_one home t t' (e ∷ es) h k =
-    happens_one home h.0 t t' e (runs_sound home h.0 es h.1) h.2 (subst (λ u. happens home u e t') (sym (runs_one home h.0 k.0 es h.1 k.1)) k.2)
-
--- a run of two lists of events passes through a state between them
-runs_between : (home : ℕ) (s t : Owners) (acts es : List Event) → Runs home s (acts ++ es) t → (u : Owners) × Runs home s es u × Runs home u acts t
-runs_between home s t [] es h = (t, h, refl)
-runs_between home s t (e ∷ acts) es h = let r = runs_between home s h.0 acts es h.1 in (r.0, r.1, (h.0, r.2, h.2))
-
--- a run that goes on by these events: they lead from the state that the run reached
-pub runs_steps : (home : ℕ) (s t : Owners) (es es' acts : List Event) → es' ≡ acts ++ es → Runs home no_requests es s → Runs home no_requests es' t → Runs home s acts t
-runs_steps home s t es es' acts is h k =
-    let l = runs_between home no_requests t acts es (subst (λ x. Runs home no_requests x t) is k) in
-    subst (λ u. Runs home u acts t) (sym (runs_one home s l.0 es h l.1)) l.2
-
--- the same of one event
-pub runs_step : (home : ℕ) (s t : Owners) (es es' : List Event) (e : Event) → es' ≡ e ∷ es → Runs home no_requests es s → Runs home no_requests es' t → happens home s e t
-runs_step home s t es es' e is h k = let l = runs_steps home s t es es' (e ∷ []) is h k in subst (λ u. happens home u e t) l.1 l.2

@@ -6,9 +6,7 @@ pub mod Holder
 pub mod Run
 pub mod Follow
 pub mod ShuffleRule
-pub mod OnePlace
 pub mod HomeRole
 pub mod Step
-pub mod OneStep
 pub mod Pass
 pub mod PassSeat

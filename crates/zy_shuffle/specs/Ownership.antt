@@ -83,11 +83,3 @@ pub record IsSound (s : Owners) : Type 0 where
 abbrev pub Runs : ℕ → Owners → List Event → Owners → Type 0
 Runs home s [] t = t ≡ s
 Runs home s (e ∷ es) t = (u : Owners) × Runs home s es u × happens home u e t
-
--- ---- who holds a connection
-
--- the connection is with this core as before, as many requests of it are finished, and no fewer arrived
-pub record StaysHeld (core c : ℕ) (s t : Owners) : Type 0 where
-  pub place : t.places c ≡ held core
-  pub finished : t.finished c ≡ s.finished c
-  pub arrived : s.arrived c ≤ t.arrived c

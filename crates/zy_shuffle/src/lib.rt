@@ -3,7 +3,6 @@
 #![tactic(auto)]
 
 mod claim;
-pub mod laws;
 mod left;
 mod marked;
 mod ring;

@@ -1,7 +1,6 @@
 //! Stealing: the rings of all cores, one core's passes on the others, and the order in which it looks at them.
 #![tactic(auto)]
 
-pub mod laws;
 mod looks;
 mod order;
 mod passes;

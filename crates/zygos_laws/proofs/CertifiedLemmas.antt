@@ -8,25 +8,26 @@ use Rattle.zy_capture.specs.Replies.{replies_bytes, replies_limit, items_of}
 use Rattle.zy_capture.specs.Streams.{no_bytes, with_records}
 use Rattle.zy_capture.proofs.WholeLemmas.{good_spells as capture_spells}
 use Rattle.zy_capture.proofs.RepliesWholeLemmas.{good_spells as replies_spell}
-use Rattle.zy_capture.proofs.RepliesSpelledLemmas.{spells_good as replies_good}
-use Rattle.zy_capture.proofs.AgainLemmas.{written_spells}
+use Rattle.format_laws.proofs.RepliesSpelledLemmas.{spells_good as replies_good}
+use Rattle.format_laws.proofs.RepliesAgainLemmas.{written_spells}
 use Rattle.zy_journal.specs.declared.journal.Journal.{Journal}
 use Rattle.zy_journal.specs.Journal.{journal_bytes}
 use Rattle.zy_journal_reader.specs.Steps.{journal_limit}
 use Rattle.zy_journal_reader.proofs.WholeLemmas.{good_spells as journal_spells}
 use Rattle.zy_journal_reader.proofs.SpelledLemmas.{spells_good as journal_good}
 use Rattle.zy_input.specs.Parts.{IsMadeOfParts}
-use Rattle.zy_input.proofs.DivisionLemmas.{one_streams, one_journal, one_outputs}
+use Rattle.format_laws.proofs.InputDivisionLemmas.{one_streams, one_journal, one_outputs}
 use Rattle.zy_check.specs.declared.verdict.Verdict.{Verdict}
 use Rattle.zy_check.specs.declared.verdict.Verdict.TheVariants.{Yes}
 use Rattle.zy_check.specs.Given.{all_given}
 use Rattle.zy_check.specs.Cause.{HasVerdict}
 use Rattle.zy_check.specs.OfRun.{AreOfRun, given_by_records}
-use Rattle.zy_check.proofs.FileVerdictLemmas.{of_records, of_streams}
+use Rattle.zy_check.proofs.FileVerdictLemmas.{of_records}
+use Rattle.run_laws.proofs.FileVerdictLemmas.{of_streams}
 use Rattle.zy_check.proofs.OneVerdictLemmas.{one_verdict}
 use Rattle.zy_check.proofs.RunVerdictLemmas.{run_is_right}
-use Rattle.zy_check.proofs.SizeLemmas.{journal_short, replies_short}
-use Rattle.zy_check.proofs.SomeVerdictLemmas.{some_verdict}
+use Rattle.run_laws.proofs.SizeLemmas.{journal_short, replies_short}
+use Rattle.run_laws.proofs.SomeVerdictLemmas.{some_verdict}
 use Rattle.zy_command_line.specs.Range.{AreShards, IsRunnable}
 use Rattle.zy_command_line.specs.declared.request.Run.{Run}
 use Rattle.zy_command_line.specs.declared.request.Out.{Out}
@@ -36,6 +37,7 @@ use Rattle.zy_command_line.specs.declared.request.Request.TheVariants as Request
 use Rattle.zy_serving.specs.Seen.{Seen, WasWritten, OfReported, OfTold}
 use Rattle.zy_serving.specs.Headline.{IsServed, IsWritten, written}
 use Rattle.zygos_run.specs.Checked.{IsChecked}
+use Rattle.zygos_run.specs.declared.answer.Answer.TheVariants.{Served}
 use Rattle.zygos_run.specs.Served.{HeadlineHolds}
 use Rattle.zygos_laws.specs.Certified.{IsInputOfRun, IsCertified}
 
@@ -74,7 +76,7 @@ module _ (asked : Run) (bytes : List ℕ) (journal : Journal) (outputs : AllOutp
   }
 
 -- the headline is of a run
-pub headline_run : (request : Option Request) (call : Seen) (journal : Journal) → HeadlineHolds request call journal
+pub headline_run : (request : Option Request) (call : Seen) (journal : Journal) → HeadlineHolds request call (Served journal)
     → (asked : Run) × (out : Out) × (request ≡ Some (Requests.Run asked out)) × OfTold call.source (λ bytes. IsWritten asked out bytes journal (WasWritten call.sink))
 headline_run None call journal holds = absurd holds
 headline_run (Some (Requests.Run asked out)) call journal holds = (asked, out, refl, holds)
@@ -82,18 +84,18 @@ headline_run (Some request) call journal holds = absurd holds
 
 pub run_headline : (request : Option Request) (call : Seen) (journal : Journal)
     → ((asked : Run) × (out : Out) × (request ≡ Some (Requests.Run asked out)) × OfTold call.source (λ bytes. IsWritten asked out bytes journal (WasWritten call.sink)))
-    → HeadlineHolds request call journal
-run_headline request call journal run = subst (λ r. HeadlineHolds r call journal) (sym run.2) run.3
+    → HeadlineHolds request call (Served journal)
+run_headline request call journal run = subst (λ r. HeadlineHolds r call (Served journal)) (sym run.2) run.3
 
 -- what the headline says of bytes that are reported
 written_of : (asked : Run) (out : Out) (call : Seen) (bytes : List ℕ) (journal : Journal) (request : Option Request) → request ≡ Some (Requests.Run asked out) → call.source.before ≡ Some bytes
-    → HeadlineHolds request call journal → IsWritten asked out bytes journal (WasWritten call.sink)
+    → HeadlineHolds request call (Served journal) → IsWritten asked out bytes journal (WasWritten call.sink)
 written_of asked out call bytes journal request is told holds =
-    let run : HeadlineHolds (Some (Requests.Run asked out)) call journal = subst (λ r. HeadlineHolds r call journal) is holds in
+    let run : HeadlineHolds (Some (Requests.Run asked out)) call (Served journal) = subst (λ r. HeadlineHolds r call (Served journal)) is holds in
     (subst (λ (before : Option (List ℕ)). OfReported before call.source.after (λ b. IsWritten asked out b journal (WasWritten call.sink))) told run).1
 
 pub certified_of : (asked : Run) (out : Out) (call : Seen) (bytes : List ℕ) (journal : Journal) (request : Option Request) → (request ≡ Some (Requests.Run asked out) → IsRunnable asked)
-    → request ≡ Some (Requests.Run asked out) → call.source.before ≡ Some bytes → HeadlineHolds request call journal → IsCertified asked out bytes journal call.sink
+    → request ≡ Some (Requests.Run asked out) → call.source.before ≡ Some bytes → HeadlineHolds request call (Served journal) → IsCertified asked out bytes journal call.sink
 certified_of asked out call bytes journal request runnable is told holds =
     let written = written_of asked out call bytes journal request is told holds in
     let range = runnable is in record {

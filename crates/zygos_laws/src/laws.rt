@@ -20,6 +20,7 @@ ghost use Rattle.zy_command_line.specs.declared.request.Request.TheVariants as R
 ghost use Rattle.zy_serving.specs.Seen.{Seen, WasWritten, OfTold};
 ghost use Rattle.zy_serving.specs.Headline.{IsServed, IsWritten, written};
 ghost use Rattle.zygos_run.specs.Checked.{IsChecked};
+ghost use Rattle.zygos_run.specs.declared.answer.Answer.TheVariants as Answers;
 ghost use Rattle.zygos_run.specs.Served.{HeadlineHolds};
 ghost use Rattle.zygos_laws.specs.Certified.{IsInputOfRun, IsCertified};
 
@@ -27,7 +28,7 @@ ghost use Rattle.zygos_laws.specs.Certified.{IsInputOfRun, IsCertified};
 /// that the source reported, and that all of it was written.
 pub fn the_headline_is_of_a_run()
     ensures run { (request : Option Request) (call : Seen) (journal : Journal)
-        → HeadlineHolds request call journal
+        → HeadlineHolds request call (Answers.Served journal)
         ↔ ((asked : Run) × (out : Out) × (request ≡ Some (Requests.Run asked out))
         × OfTold call.source (λ bytes. IsWritten asked out bytes journal (WasWritten call.sink))) }
 {}
@@ -51,7 +52,7 @@ pub fn what_is_served_checks()
     ensures told { (words : List Word) (asked : Run) (out : Out) (call : Seen) (bytes : List ℕ)
         (journal : Journal) → request_of words ≡ Some (Requests.Run asked out)
         → call.source.before ≡ Some bytes
-        → HeadlineHolds (request_of words) call journal
+        → HeadlineHolds (request_of words) call (Answers.Served journal)
         → IsCertified asked out bytes journal call.sink }
 {}
 

@@ -22,7 +22,7 @@ use Rattle.zygos_run.specs.declared.answer.Answer.TheVariants.{Served, Checked, 
 use Rattle.zygos_run.specs.Input.{Input, HasInputFault, IsFaultless, IsRefusedFor}
 use Rattle.zygos_run.specs.Input.Input.{CaptureInput, CheckInput, PacketsInput, JournalInput}
 use Rattle.zygos_run.specs.Task.{Task, task_of, input_of}
-use Rattle.zygos_run.specs.Ends.{OfInput, CarriesOut, IsFaultOf, Ends}
+use Rattle.zygos_run.specs.Ends.{OfInput, CarriesOut, IsFaultOf, IsSuccess, DoneHolds, Ends}
 use Rattle.zygos_run.specs.Served.{IsToldGood, IsToldBad, IsDone, IsDoneOr, IsRefusedOr, IsUsageOr}
 
 -- ---- inputs
@@ -97,6 +97,18 @@ told_found call task (Some f) has = told call.source task.reads (λ bytes. task.
 pub told_of : (request : Option Request) (call : Seen) (answer : Answer) → CarriesOut request answer (OfGiven call.source) (WasWritten call.sink) → CarriesOut request answer (OfTold call.source) (WasWritten call.sink)
 told_of None call answer has = has
 told_of (Some asked) call answer has = told_found call (task_of asked) ((task_of asked).found_in answer) has
+
+-- after a success the command was carried out
+pub success_of : (request : Option Request) (call : Seen) (answer : Answer) → IsSuccess answer → Ends request call answer → DoneHolds request call answer
+success_of request call (Served journal) is ends = ends
+success_of request call (Checked verdict) is ends = ends
+success_of request call Made is ends = ends
+success_of request call (Tested journal numbers) is ends = ends
+success_of request call Usage is ends = absurd is
+success_of request call (Refused refusal) is ends = absurd is
+success_of request call ReadFault is ends = absurd is
+success_of request call WriteFault is ends = absurd is
+success_of request call OutOfMemory is ends = absurd is
 
 -- ---- words that are not lawful
 

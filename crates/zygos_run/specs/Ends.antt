@@ -1,9 +1,6 @@
 -- How the top call ends: what each answer says of the request and of what the call saw.
 use Rattle.std.specs.Prelude.{◌≡◌, ℕ, List, [], Option, None, Some, ⊤, IsSome, IsNone, IsSomeAnd}
-use Rattle.zy_journal.specs.declared.journal.Journal.{Journal}
-use Rattle.zy_run.specs.declared.summary.Summary.{Summary}
 use Rattle.zy_input.specs.declared.stop.Refusal.{Refusal}
-use Rattle.zy_check.specs.declared.verdict.Verdict.{Verdict as Certified}
 use Rattle.zy_command_line.specs.declared.request.Request.{Request}
 use Rattle.zy_serving.specs.Seen.{Seen, HasRisen, WasWritten, TakesPart, OfGiven}
 use Rattle.zygos_run.specs.declared.answer.Answer.{Answer}
@@ -22,7 +19,7 @@ abbrev pub OfInput : Option Input → ((List ℕ → Type 0) → Type 0) → (Li
 OfInput None Of Holds = Holds []
 OfInput (Some input) Of Holds = Of Holds
 
--- the answer is that of the command when it is done; of its input it found what the answer has, and this is so of the
+-- the answer is that of the command when it is done; what the answer has was found in its input, and this is so of the
 -- text that it writes
 abbrev pub CarriesOut : Option Request → Answer → ((List ℕ → Type 0) → Type 0) → (List ℕ → Type 0) → Type 0
 CarriesOut request answer Of Writes =
@@ -31,23 +28,18 @@ CarriesOut request answer Of Writes =
 
 -- ---- the answers, one by one
 
--- a run was asked for, it was served of the bytes that the source gave, and all of it was written
-abbrev pub HasServed : Option Request → Seen → Journal → Type 0
-HasServed request call journal = CarriesOut request (Served journal) (OfGiven call.source) (WasWritten call.sink)
+-- the answers of a command that was carried out
+abbrev pub IsSuccess : Answer → Type 0
+IsSuccess (Served journal) = ⊤
+IsSuccess (Checked verdict) = ⊤
+IsSuccess Made = ⊤
+IsSuccess (Tested journal numbers) = ⊤
+IsSuccess answer = ⊥
 
--- a check was asked for, this is the verdict on the bytes that the source gave, and its line was written
-abbrev pub HasChecked : Option Request → Seen → Certified → Type 0
-HasChecked request call verdict = CarriesOut request (Checked verdict) (OfGiven call.source) (WasWritten call.sink)
-
--- traffic was asked for, and its capture was written; or that of the recorded packets that the source gave; or the
--- report on the journal that it gave
-abbrev pub HasMadeOutput : Option Request → Seen → Type 0
-HasMadeOutput request call = CarriesOut request Made (OfGiven call.source) (WasWritten call.sink)
-
--- a test run was asked for, this is its journal, these are its numbers, and their line was written
-abbrev pub HasTested : Option Request → Seen → Journal → Summary → Type 0
-HasTested request call journal numbers =
-    CarriesOut request (Tested journal numbers) (OfGiven call.source) (WasWritten call.sink)
+-- the command that has this answer was asked for and carried out on the bytes that the source gave, if it reads any,
+-- and all of its text was written
+abbrev pub DoneHolds : Option Request → Seen → Answer → Type 0
+DoneHolds request call answer = CarriesOut request answer (OfGiven call.source) (WasWritten call.sink)
 
 -- what was asked for was done of bytes that the source gave, if it reads any, and a prefix of what is expected was
 -- written
@@ -73,10 +65,10 @@ ReadsNothing request = IsNone (input_of request)
 
 -- each answer has its cause
 abbrev pub Ends : Option Request → Seen → Answer → Type 0
-Ends request call (Served journal) = HasServed request call journal
-Ends request call (Checked verdict) = HasChecked request call verdict
-Ends request call Made = HasMadeOutput request call
-Ends request call (Tested journal numbers) = HasTested request call journal numbers
+Ends request call (Served journal) = DoneHolds request call (Served journal)
+Ends request call (Checked verdict) = DoneHolds request call (Checked verdict)
+Ends request call Made = DoneHolds request call Made
+Ends request call (Tested journal numbers) = DoneHolds request call (Tested journal numbers)
 Ends request call Usage = request ≡ None
 Ends request call (Refused refusal) = IsFaultOf request call.source.before refusal
 Ends request call ReadFault = ReadsInput request × HasRisen call.source

@@ -1,31 +1,20 @@
 -- What the clauses of the top call say besides: of the bytes that a source reports, and of answers that must come.
 use Rattle.std.specs.Prelude.{◌≡◌, ◌⊎◌, ℕ, List, Option, IfSome, IsSome, IsSomeAnd}
-use Rattle.zy_journal.specs.declared.journal.Journal.{Journal}
 use Rattle.zy_input.specs.declared.stop.Refusal.{Refusal}
-use Rattle.zy_check.specs.declared.verdict.Verdict.{Verdict as Certified}
 use Rattle.zy_command_line.specs.declared.request.Request.{Request}
 use Rattle.zy_serving.specs.Seen.{Seen, OfTold, WasWritten}
 use Rattle.zygos_run.specs.declared.answer.Answer.{Answer}
-use Rattle.zygos_run.specs.declared.answer.Answer.TheVariants.{Served, Checked, Made, Usage, Refused, OutOfMemory}
+use Rattle.zygos_run.specs.declared.answer.Answer.TheVariants.{Usage, Refused, OutOfMemory}
 use Rattle.zygos_run.specs.Input.{HasInputFault, IsFaultless}
 use Rattle.zygos_run.specs.Task.{input_of}
 use Rattle.zygos_run.specs.Ends.{OfTask, CarriesOut}
 
 -- ---- bytes that are reported
 
--- a run was asked for, it was served of all bytes that the source reported, and all of it was written: by the first row
--- of `task_of`, `IsWritten` of these bytes
-abbrev pub HeadlineHolds : Option Request → Seen → Journal → Type 0
-HeadlineHolds request call journal = CarriesOut request (Served journal) (OfTold call.source) (WasWritten call.sink)
-
--- a check was asked for, this is the verdict on all bytes that the source reported, and its line was written
-abbrev pub CheckHolds : Option Request → Seen → Certified → Type 0
-CheckHolds request call verdict = CarriesOut request (Checked verdict) (OfTold call.source) (WasWritten call.sink)
-
--- what was asked for was made of all bytes that the source reported, and written: the report on a journal, or the
--- capture of recorded packets; or that of traffic
-abbrev pub MadeHolds : Option Request → Seen → Type 0
-MadeHolds request call = CarriesOut request Made (OfTold call.source) (WasWritten call.sink)
+-- the command that has this answer was asked for and carried out on all bytes that the source reported, if it reads any,
+-- and all of its text was written: of `run`, by the first row of `task_of`, `IsWritten` of these bytes
+abbrev pub HeadlineHolds : Option Request → Seen → Answer → Type 0
+HeadlineHolds request call answer = CarriesOut request answer (OfTold call.source) (WasWritten call.sink)
 
 -- ---- answers that must come
 

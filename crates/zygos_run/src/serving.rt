@@ -4,9 +4,9 @@ ghost use Rattle.zy_base.specs.Outside.{Rose};
 ghost use Rattle.zy_command_line.specs.Request.{request_of};
 ghost use Rattle.zygos_run.specs.Lines.{answer_line};
 ghost use Rattle.zy_serving.specs.Seen.{side, both_sides, NoneRose};
-ghost use Rattle.zygos_run.specs.Ends.{HasServed, HasChecked, HasMadeOutput, HasTested, HasPart};
+ghost use Rattle.zygos_run.specs.Ends.{IsSuccess, DoneHolds, HasPart};
 ghost use Rattle.zygos_run.specs.Ends.{IsFaultOf, ReadsInput, ReadsNothing, LeavesSink};
-ghost use Rattle.zygos_run.specs.Served.{HeadlineHolds, CheckHolds, MadeHolds, IsToldGood, IsToldBad};
+ghost use Rattle.zygos_run.specs.Served.{HeadlineHolds, IsToldGood, IsToldBad};
 ghost use Rattle.zygos_run.specs.Served.{IsDoneOr, IsRefusedOr, IsUsageOr};
 ghost use Rattle.zygos_run.specs.Finish.{FinishesOnce};
 ghost use Rattle.zygos_run.specs.Said.{Said};
@@ -43,23 +43,11 @@ pub fn serve<R: Threads + Wait + Sync, S: Source, K: Sink, E: Sink, G: Gate + Sy
     says: &mut E,
     gate: &G,
 ) -> Answer
-    // The headline.
-    ensures headline { (j : _) → result ≡ Answer.Served j → HeadlineHolds (request_of words.now)
-        (both_sides (side S.rest S.faults source.old source.new) (side K.holds K.faults sink.old sink.new)) j }
-    ensures served { (j : _) → result ≡ Answer.Served j → HasServed (request_of words.now)
-        (both_sides (side S.rest S.faults source.old source.new) (side K.holds K.faults sink.old sink.new)) j }
-
-    // The other commands.
-    ensures verdict { (v : _) → result ≡ Answer.Checked v → CheckHolds (request_of words.now)
-        (both_sides (side S.rest S.faults source.old source.new) (side K.holds K.faults sink.old sink.new)) v }
-    ensures checked { (v : _) → result ≡ Answer.Checked v → HasChecked (request_of words.now)
-        (both_sides (side S.rest S.faults source.old source.new) (side K.holds K.faults sink.old sink.new)) v }
-    ensures made { result ≡ Answer.Made → HasMadeOutput (request_of words.now)
-        (both_sides (side S.rest S.faults source.old source.new) (side K.holds K.faults sink.old sink.new)) }
-    ensures reported { result ≡ Answer.Made → MadeHolds (request_of words.now)
-        (both_sides (side S.rest S.faults source.old source.new) (side K.holds K.faults sink.old sink.new)) }
-    ensures tested { (j m : _) → result ≡ Answer.Tested j m → HasTested (request_of words.now)
-        (both_sides (side S.rest S.faults source.old source.new) (side K.holds K.faults sink.old sink.new)) j m }
+    // The headline: what was done, for the bytes that the source reported, and for those that it gave.
+    ensures headline { IsSuccess result → HeadlineHolds (request_of words.now)
+        (both_sides (side S.rest S.faults source.old source.new) (side K.holds K.faults sink.old sink.new)) result }
+    ensures done { IsSuccess result → DoneHolds (request_of words.now)
+        (both_sides (side S.rest S.faults source.old source.new) (side K.holds K.faults sink.old sink.new)) result }
 
     // The other answers, each with its cause.
     ensures usage { result ≡ Answer.Usage → request_of words.now ≡ None }

@@ -1,25 +1,19 @@
 use Rattle.std.proofs.Common.{refl, subst}
 use Rattle.zy_command_line.specs.Request.{request_of}
 use Rattle.zy_serving.specs.Seen.{Seen, side, both_sides}
-use Rattle.zygos_run.specs.declared.answer.Answer.TheVariants.{Served, Checked, Made}
 use Rattle.zygos_run.specs.Ends.{Ends}
-use Rattle.zygos_run.proofs.EndLemmas.{told_of, unlawful_of, done_of, refused_of}
+use Rattle.zygos_run.proofs.EndLemmas.{told_of, success_of, unlawful_of, done_of, refused_of}
 use Rattle.zygos_run.proofs.serving.serve.Goals as goal
 
 pub returns-clause-headline : goal.returns-clause-headline
-returns-clause-headline g c = λ j is.
+returns-clause-headline g c = λ good.
     let call : Seen = both_sides (side g.S.Source.rest g.S.Source.faults c.args.source.now c.carry_out-answer.new.source) (side g.K.Sink.holds g.K.Sink.faults c.args.sink.now c.carry_out-answer.new.sink) in
-    told_of (request_of c.args.words.now) call (Served j) (subst (λ a. Ends (request_of c.args.words.now) call a) is c.carry_out-answer.ensures.ends)
+    told_of (request_of c.args.words.now) call c.carry_out-answer.result (success_of (request_of c.args.words.now) call c.carry_out-answer.result good c.carry_out-answer.ensures.ends)
 
-pub returns-clause-verdict : goal.returns-clause-verdict
-returns-clause-verdict g c = λ v is.
+pub returns-clause-done : goal.returns-clause-done
+returns-clause-done g c = λ good.
     let call : Seen = both_sides (side g.S.Source.rest g.S.Source.faults c.args.source.now c.carry_out-answer.new.source) (side g.K.Sink.holds g.K.Sink.faults c.args.sink.now c.carry_out-answer.new.sink) in
-    told_of (request_of c.args.words.now) call (Checked v) (subst (λ a. Ends (request_of c.args.words.now) call a) is c.carry_out-answer.ensures.ends)
-
-pub returns-clause-reported : goal.returns-clause-reported
-returns-clause-reported g c = λ is.
-    let call : Seen = both_sides (side g.S.Source.rest g.S.Source.faults c.args.source.now c.carry_out-answer.new.source) (side g.K.Sink.holds g.K.Sink.faults c.args.sink.now c.carry_out-answer.new.sink) in
-    told_of (request_of c.args.words.now) call Made (subst (λ a. Ends (request_of c.args.words.now) call a) is c.carry_out-answer.ensures.ends)
+    success_of (request_of c.args.words.now) call c.carry_out-answer.result good c.carry_out-answer.ensures.ends
 
 pub returns-clause-unlawful : goal.returns-clause-unlawful
 returns-clause-unlawful g c = λ none.

@@ -1,0 +1,10 @@
+pub mod OwnerArrivalLemmas
+pub mod OwnerHolderLemmas
+pub mod OwnerRunLemmas
+pub mod OwnerRuleLemmas
+pub mod ControlLemmas
+pub mod RestTokenLemmas
+pub mod BlockLemmas
+pub mod HomeLemmas
+pub mod RoundLemmas
+pub mod ServedReceivedLemmas

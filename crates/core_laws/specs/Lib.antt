@@ -1,0 +1,7 @@
+pub mod Sent
+pub mod WorkedOutput
+pub mod OnePlace
+pub mod OneStep
+pub mod Done
+pub mod Homes
+pub mod Round

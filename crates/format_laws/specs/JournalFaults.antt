@@ -1,0 +1,126 @@
+-- The faults of a journal, docs/FORMATS.md, "Journal": what a text is that has one of them. Each comes after bytes that
+-- spell the beginning of a journal, where the first field follows that is not lawful there. That the verdict on a text
+-- is bad with a fault exactly where the text has it is a law in src/journals.rt.
+use Rattle.zy_journal_reader.specs.Verdict.{journal_front, IsReadable, SpellsJournal}
+use Rattle.std.specs.Prelude.{◌≡◌, ◌⊎◌, ℕ, ◌+◌, ◌^◌, ◌<◌, ◌≤◌, List, [], ◌∷◌, ◌++◌, length}
+use Rattle.std.specs.Int.{to_be_bytes, w32}
+use Rattle.zy_base.specs.declared.entry.Entry.{Entry}
+use Rattle.zy_base.specs.declared.hold.Hold.{Hold}
+use Rattle.zy_base.specs.declared.file_fault.FileFault.{FileFault}
+use Rattle.zy_base.specs.declared.file_fault.FileFault.TheVariants.{Form, Truncated, TooLong}
+use Rattle.zy_journal.specs.declared.journal.Journal.{Journal}
+use Rattle.zy_journal.specs.Journal.{magic, journal_bytes}
+use Rattle.zy_journal_reader.specs.Steps.{journal_limit}
+use Rattle.zy_journal_reader.specs.Last.{last_one}
+use Rattle.format_laws.specs.JournalFields.{number_text, range, EntryField, shape_of, before, IsLawfulNumber}
+use Rattle.format_laws.specs.JournalFields.{IsLawfulUpTo, HoldField, before_in_hold, IsLawfulInHold, IsHoldUpTo}
+
+-- ---- beginnings
+
+-- a text goes on with `tail` after the records of a journal, which have `at` bytes with the magic
+-- before them
+pub record JournalGoesOn (text : List ℕ) (journal : Journal) (at : ℕ) (tail : List ℕ) : Type 0 where
+  pub readable : IsReadable journal
+  pub whole : text ≡ journal_front journal ++ tail
+  pub place : at ≡ length (journal_front journal)
+
+-- ---- a field that is wrong
+
+-- the text has the first bytes of the magic, and then another byte than the magic
+pub record IsBadJournalMagic (text : List ℕ) (at : ℕ) : Type 0 where
+  pub front : List ℕ
+  pub right : ℕ
+  pub others : List ℕ
+  pub byte : ℕ
+  pub rest : List ℕ
+  pub begins : magic ≡ front ++ right ∷ others
+  pub whole : text ≡ front ++ byte ∷ rest
+  pub place : at ≡ length front
+  pub differs : byte ≡ right → ⊥
+
+-- where a record or the end is expected, there is another byte, or an entry after a hold
+pub record IsBadJournalTag (text : List ℕ) (at : ℕ) : Type 0 where
+  pub journal : Journal
+  pub byte : ℕ
+  pub rest : List ℕ
+  pub front : JournalGoesOn text journal at (byte ∷ rest)
+  pub no_entry : journal.holds ≡ [] → byte ≡ 74 → ⊥
+  pub no_hold : byte ≡ 72 → ⊥
+  pub no_end : byte ≡ 69 → ⊥
+  pub within : at < journal_limit
+
+-- the number in a field of an entry is not lawful; what comes before it is
+pub record IsBadEntry (text : List ℕ) (at : ℕ) : Type 0 where
+  pub journal : Journal
+  pub no_hold : journal.holds ≡ []
+  pub field : EntryField
+  pub entry : Entry
+  pub number : ℕ
+  pub tag_at : ℕ
+  pub rest : List ℕ
+  pub front : JournalGoesOn text journal tag_at (before field entry ++ (number_text (shape_of field) number ++ rest))
+  pub lawful : IsLawfulUpTo field (last_one journal.entries) entry
+  pub wrong : IsLawfulNumber field (last_one journal.entries) entry number → ⊥
+  pub fits : number < range (shape_of field)
+  pub place : at ≡ tag_at + length (before field entry)
+  pub within : at + length (number_text (shape_of field) number) ≤ journal_limit
+
+-- the number in a field of a hold is not lawful; what comes before it is
+pub record IsBadHold (text : List ℕ) (at : ℕ) : Type 0 where
+  pub journal : Journal
+  pub field : HoldField
+  pub hold : Hold
+  pub number : ℕ
+  pub tag_at : ℕ
+  pub rest : List ℕ
+  pub front : JournalGoesOn text journal tag_at (before_in_hold field hold ++ (to_be_bytes w32 number ++ rest))
+  pub lawful : IsHoldUpTo field (last_one journal.holds) hold
+  pub wrong : IsLawfulInHold field (last_one journal.holds) number → ⊥
+  pub fits : number < 2 ^ 32
+  pub place : at ≡ tag_at + length (before_in_hold field hold)
+  pub within : at + 4 ≤ journal_limit
+
+-- a byte follows a journal
+pub record FollowsJournal (text : List ℕ) (at : ℕ) : Type 0 where
+  pub journal : Journal
+  pub byte : ℕ
+  pub rest : List ℕ
+  pub readable : IsReadable journal
+  pub whole : text ≡ journal_bytes journal ++ byte ∷ rest
+  pub place : at ≡ length (journal_bytes journal)
+  pub within : at ≤ journal_limit
+
+-- ---- faults
+
+-- a field of the text is wrong, or a byte comes after the end
+abbrev pub IsWrongJournal : List ℕ → ℕ → Type 0
+IsWrongJournal text at =
+    IsBadJournalMagic text at ⊎ (IsBadJournalTag text at
+    ⊎ (IsBadEntry text at ⊎ (IsBadHold text at ⊎ FollowsJournal text at)))
+
+-- the text is no journal, but nothing in it is wrong, and it is not longer than one may be
+pub record IsBegunJournal (text : List ℕ) : Type 0 where
+  pub short : length text ≤ journal_limit
+  pub no_journal : (journal : Journal) → SpellsJournal text journal → ⊥
+  pub none_wrong : (at : ℕ) → IsWrongJournal text at → ⊥
+
+-- the text ends before the end byte
+pub record IsTruncatedJournal (text : List ℕ) (at : ℕ) : Type 0 where
+  pub place : at ≡ length text
+  pub begun : IsBegunJournal text
+
+-- the text has a further byte after the largest number that a journal may have, and these do not
+-- reach the end byte
+pub record IsTooLongJournal (text : List ℕ) : Type 0 where
+  pub front : List ℕ
+  pub byte : ℕ
+  pub rest : List ℕ
+  pub whole : text ≡ front ++ byte ∷ rest
+  pub most : length front ≡ journal_limit
+  pub begun : IsBegunJournal front
+
+-- the text has this fault
+abbrev pub HasFaultAsJournal : List ℕ → FileFault → Type 0
+HasFaultAsJournal text (Form at) = IsWrongJournal text at
+HasFaultAsJournal text (Truncated at) = IsTruncatedJournal text at
+HasFaultAsJournal text TooLong = IsTooLongJournal text

@@ -1,0 +1,12 @@
+pub mod BadMagic
+pub mod Pieces
+pub mod CaptureFaults
+pub mod RepliesFaults
+pub mod WorkedCaptures
+pub mod WorkedJournal
+pub mod JournalFaults
+pub mod JournalFields
+pub mod JournalMet
+pub mod WorkedJournals
+pub mod Copies
+pub mod WorkedPackets

@@ -1,0 +1,14 @@
+pub mod CutLemmas
+pub mod TextKindLemmas
+pub mod FrameWidthLemmas
+pub mod WorkedApartLemmas
+pub mod AloneLemmas
+pub mod SummaryLemmas
+pub mod WorkedRunLemmas
+pub mod FileVerdictLemmas
+pub mod SizeLemmas
+pub mod SomeVerdictLemmas
+pub mod TotalLemmas
+pub mod YesLemmas
+pub mod TrafficLemmas
+pub mod WorkedTrafficLemmas

@@ -1,0 +1,6 @@
+-- proofs/runs/a_connection_is_answered_as_if_alone/Answers.antt
+use Rattle.run_laws.proofs.AloneLemmas.{outputs-alone}
+use Rattle.run_laws.proofs.runs.a_connection_is_answered_as_if_alone.Goals as goal
+
+pub returns : goal.returns
+returns c = record { value = outputs-alone }

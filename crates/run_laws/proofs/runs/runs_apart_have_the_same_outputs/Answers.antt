@@ -1,0 +1,6 @@
+-- proofs/runs/runs_apart_have_the_same_outputs/Answers.antt
+use Rattle.zy_run.proofs.RunLemmas.{all_outputs-same}
+use Rattle.run_laws.proofs.runs.runs_apart_have_the_same_outputs.Goals as goal
+
+pub returns : goal.returns
+returns c = record { same = all_outputs-same }

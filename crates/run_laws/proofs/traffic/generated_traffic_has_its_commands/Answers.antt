@@ -1,0 +1,6 @@
+-- proofs/traffic/generated_traffic_has_its_commands/Answers.antt
+use Rattle.run_laws.proofs.TrafficLemmas.{length-commands, traffic_count}
+use Rattle.run_laws.proofs.traffic.generated_traffic_has_its_commands.Goals as goal
+
+pub returns : goal.returns
+returns c = record { each = length-commands; all = traffic_count }

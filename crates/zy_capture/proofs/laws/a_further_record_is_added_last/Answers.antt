@@ -1,5 +1,0 @@
-use Rattle.zy_capture.proofs.AddLemmas.{records_on}
-use Rattle.zy_capture.proofs.laws.a_further_record_is_added_last.Goals as goal
-
-pub returns : goal.returns
-returns c = record { value = records_on }

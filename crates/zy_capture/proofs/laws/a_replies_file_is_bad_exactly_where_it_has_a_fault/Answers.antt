@@ -1,5 +1,0 @@
-use Rattle.zy_capture.proofs.RepliesBegunLemmas.{fault_had, fault_told}
-use Rattle.zy_capture.proofs.laws.a_replies_file_is_bad_exactly_where_it_has_a_fault.Goals as goal
-
-pub returns : goal.returns
-returns c = record { exactly = λ text fault all. (fault_had text fault all, fault_told text fault all) }

@@ -1,6 +1,0 @@
-use Rattle.zy_capture.proofs.AddLemmas.{streams_size}
-use Rattle.zy_capture.proofs.StreamLemmas.{count_held, stream_held}
-use Rattle.zy_capture.proofs.laws.each_session_holds_its_stream.Goals as goal
-
-pub returns : goal.returns
-returns c = record { connections = streams_size; count = count_held; bytes = stream_held }

@@ -1,6 +1,0 @@
-use Rattle.zy_read.proofs.Feeding.{pieces_fed}
-use Rattle.zy_capture.specs.RepliesVerdict.{replies}
-use Rattle.zy_capture.proofs.laws.how_a_replies_file_is_cut_does_not_matter.Goals as goal
-
-pub returns : goal.returns
-returns c = record { whole = pieces_fed replies }

@@ -1,9 +1,0 @@
-use Rattle.zy_capture.proofs.TellLemmas.{magic_told, told_magic, count_told, told_count}
-use Rattle.zy_capture.proofs.laws.the_version_and_the_count_are_told.Goals as goal
-
-pub returns : goal.returns
-returns c = record {
-  version = λ text version. (told_magic text version, magic_told text version);
-  count = count_told;
-  exactly = λ text count all. (told_count text count all, count_told text count);
-}

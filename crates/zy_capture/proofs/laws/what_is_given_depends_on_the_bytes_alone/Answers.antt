@@ -1,6 +1,0 @@
-use Rattle.zy_read.proofs.Feeding.{same_given, same_state}
-use Rattle.zy_capture.specs.Verdict.{captures}
-use Rattle.zy_capture.proofs.laws.what_is_given_depends_on_the_bytes_alone.Goals as goal
-
-pub returns : goal.returns
-returns c = record { given = same_given captures; state = same_state captures }

@@ -1,8 +1,0 @@
-use Rattle.zy_conn.proofs.LawLemmas.{one_text, taken_texts}
-use Rattle.zy_conn.proofs.laws.each_finished_command_has_one_text.Goals as goal
-
-pub returns-clause-count : goal.returns-clause-count
-returns-clause-count c = one_text
-
-pub returns-clause-taken : goal.returns-clause-taken
-returns-clause-taken c = taken_texts

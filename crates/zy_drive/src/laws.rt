@@ -1,9 +1,0 @@
-//! Laws of rounds, as contracts of functions without a body.
-ghost use Rattle.std.specs.Prelude.{◌≡◌, ◌<◌, ℕ};
-ghost use Rattle.zy_drive.specs.Round.{turn_of, HasOneTurn};
-
-/// In a round each core has exactly one turn, whichever core it begins with.
-#[tactic(auto, using(crate::proofs::RoundLemmas::one_turn_each))]
-pub fn each_core_has_one_turn_in_a_round()
-    ensures value { (cores first core : ℕ) → first < cores → core < cores → HasOneTurn cores first core }
-{}

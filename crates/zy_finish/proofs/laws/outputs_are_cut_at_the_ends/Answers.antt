@@ -1,5 +1,0 @@
-use Rattle.zy_finish.proofs.CuttingLemmas.{cut_is_outputs, bytes_up_to, bytes_behind}
-use Rattle.zy_finish.proofs.laws.outputs_are_cut_at_the_ends.Goals as goal
-
-pub returns : goal.returns
-returns c = record { value = cut_is_outputs; between = bytes_up_to; last = bytes_behind }

@@ -1,5 +1,0 @@
-use Rattle.zy_frame.proofs.CutLaws.{after_quit}
-use Rattle.zy_frame.proofs.laws.no_frame_comes_after_quit.Goals as goal
-
-pub returns : goal.returns
-returns c = record { frames = λ stream more is. (after_quit stream more is).0; quit = λ stream more is. (after_quit stream more is).1 }

@@ -1,6 +1,0 @@
--- proofs/laws/generated_traffic_is_apart/Answers.antt
-use Rattle.zy_gen.proofs.ApartLemmas.{traffic_apart}
-use Rattle.zy_gen.proofs.laws.generated_traffic_is_apart.Goals as goal
-
-pub returns : goal.returns
-returns c = record { value = traffic_apart }

@@ -1,5 +1,0 @@
-use Rattle.zy_home.proofs.FinishLemmas.{cuts}
-use Rattle.zy_home.proofs.laws.texts_are_cut_at_the_ends_of_sessions.Goals as goal
-
-pub returns : goal.returns
-returns c = record { value = λ s entries. cuts 0 s.closed s.current entries }

@@ -1,5 +1,0 @@
-use Rattle.zy_journal.proofs.LengthLemmas.{entry_few, hold_is, journal_few}
-use Rattle.zy_journal.proofs.laws.a_journal_has_few_bytes.Goals as goal
-
-pub returns : goal.returns
-returns c = record { entry = entry_few; hold = hold_is; whole = journal_few }

@@ -1,6 +1,0 @@
-use Rattle.zy_read.proofs.Feeding.{same_given, same_state}
-use Rattle.zy_journal_reader.specs.Verdict.{journals}
-use Rattle.zy_journal_reader.proofs.laws.what_is_read_depends_on_the_bytes_alone.Goals as goal
-
-pub returns : goal.returns
-returns c = record { given = same_given journals; state = same_state journals }

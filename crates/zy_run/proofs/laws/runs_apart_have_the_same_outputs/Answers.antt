@@ -1,6 +1,0 @@
--- proofs/laws/runs_apart_have_the_same_outputs/Answers.antt
-use Rattle.zy_run.proofs.RunLemmas.{all_outputs-same}
-use Rattle.zy_run.proofs.laws.runs_apart_have_the_same_outputs.Goals as goal
-
-pub returns : goal.returns
-returns c = record { same = all_outputs-same }

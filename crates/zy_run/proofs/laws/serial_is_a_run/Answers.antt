@@ -1,6 +1,0 @@
--- proofs/laws/serial_is_a_run/Answers.antt
-use Rattle.zy_run.proofs.SummaryLemmas.{serial_is_run, serial_ordered}
-use Rattle.zy_run.proofs.laws.serial_is_a_run.Goals as goal
-
-pub returns : goal.returns
-returns c = record { run = serial_is_run; order = serial_ordered }

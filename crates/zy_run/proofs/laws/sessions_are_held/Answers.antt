@@ -1,5 +1,0 @@
-use Rattle.zy_run.proofs.StreamLemmas.{streams_held, held_commands}
-use Rattle.zy_run.proofs.laws.sessions_are_held.Goals as goal
-
-pub returns : goal.returns
-returns c = record { streams = streams_held; commands = held_commands }

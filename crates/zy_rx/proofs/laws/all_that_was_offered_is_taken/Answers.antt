@@ -1,5 +1,0 @@
-use Rattle.zy_rx.proofs.TakenLemmas.{none_left, all_taken}
-use Rattle.zy_rx.proofs.laws.all_that_was_offered_is_taken.Goals as goal
-
-pub returns : goal.returns
-returns c = record { none = none_left; all = all_taken }

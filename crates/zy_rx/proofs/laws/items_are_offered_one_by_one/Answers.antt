@@ -1,6 +1,0 @@
-use Rattle.std.proofs.Common.{refl}
-use Rattle.zy_rx.proofs.TakenLemmas.{items_for-push, items_for-push_other}
-use Rattle.zy_rx.proofs.laws.items_are_offered_one_by_one.Goals as goal
-
-pub returns : goal.returns
-returns c = record { none = λ cores core. refl; here = items_for-push; other = items_for-push_other }

@@ -1,5 +1,0 @@
-use Rattle.zy_shuffle.proofs.RuleLemmas.{bounded}
-use Rattle.zy_shuffle.proofs.laws.the_queue_is_bounded.Goals as goal
-
-pub returns : goal.returns
-returns g c = record { value = λ s r. bounded g.T.Marked.mark g.T.Marked.label s r }

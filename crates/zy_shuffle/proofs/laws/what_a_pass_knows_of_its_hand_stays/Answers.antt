@@ -1,5 +1,0 @@
-use Rattle.zy_shuffle.proofs.HolderLemmas.{knows_held}
-use Rattle.zy_shuffle.proofs.laws.what_a_pass_knows_of_its_hand_stays.Goals as goal
-
-pub returns : goal.returns
-returns g c = record { value = λ s id c' v at active. knows_held s.0.views s.1.follows.events s.1.follows.owners s.1.follows.known s.1.follows.run id c' v at active }
