@@ -1,15 +1,13 @@
 -- Words that end in noreply, and what follows a name once noreply is added.
-use Rattle.std.proofs.Common.{◌≡◌, ℕ, zero, suc, ◌+◌, ◌<◌, ◌≤◌, Bool, true, false, not, ◌&&◌, if◌then◌else◌, List, [], ◌∷◌, ◌++◌, length, take, get_or, refl, ap, arith, length-append}
-use Rattle.std.specs.Prelude.{None, Some, codes}
-use Rattle.std.specs.Borrow.{Bor}
+use Rattle.std.proofs.Common.{◌≡◌, ℕ, ◌<◌, ◌≤◌, Bool, true, false, not, ◌&&◌, List, [], ◌∷◌, ◌++◌, length, refl, ap, arith, length-append}
+use Rattle.std.specs.Prelude.{Some, codes}
 use Rattle.std.specs.Prelude.{◌==◌, nat_le, nat_lt}
 use Rattle.std.proofs.Common.{◌≢◌, ◌⊎◌, inl, inr}
 use Rattle.std.proofs.lemmas.Bool.{leb-true, le-leb, lt-ltb}
 use Rattle.std.proofs.lemmas.Bool.Decides.{eqb_tells}
 use Rattle.std.proofs.lemmas.Slice.Eq.{bytes_eq-Decides}
 use Rattle.mc_parse.specs.Words.{is_noreply}
-use Rattle.mc_parse.specs.Line.{texts}
-use Rattle.mc_parse.specs.Arity.{from_to, is_most, has_count, ends_in_noreply, but_last, lacks_noreply, asks_silence, following, following_of}
+use Rattle.mc_parse.specs.Arity.{from_to, is_most, has_count, ends_in_noreply, but_last, lacks_noreply, asks_silence, following_of}
 use Rattle.mc_parse.proofs.ArityLemmas.{both, follows_by}
 
 -- ---- noreply as the last word

@@ -1,19 +1,11 @@
 -- Lines that ask for no answer, or may, are no meta commands.
-use Rattle.std.proofs.Common.{◌≡◌, ℕ, Bool, true, false, if◌then◌else◌, List, [], ◌∷◌, refl, sym, ap, ◌∙◌}
-use Rattle.std.specs.Prelude.{◌||◌, codes, Option, None, Some}
-use Rattle.std.specs.Str.{bytes_eq}
-use Rattle.std.proofs.lemmas.Slice.Eq.{bytes_eq-Decides}
+use Rattle.std.proofs.Common.{◌≡◌, ℕ, Bool, true, false, if◌then◌else◌, List, [], ◌∷◌, refl, sym, ◌∙◌}
 use Rattle.mc_meta.specs.declared.meta_line.MetaLine.{MetaLine}
 use Rattle.mc_meta.specs.declared.meta_line.MetaLine.TheVariants.{Other, WrongCount, Bad, Noop, Get, Set, Delete}
 use Rattle.mc_meta.specs.Meta.{is_meta_name, meta_line}
-use Rattle.mc_meta.proofs.SaidLemmas.{block_of, other_line, wordless_line, alone_line}
 use Rattle.mc_parse.specs.declared.error_line.ErrorLine.TheVariants.{Unknown}
-use Rattle.mc_parse.specs.declared.name.Name.{Name}
-use Rattle.mc_parse.specs.declared.need.Need.TheVariants.{Nothing}
 use Rattle.mc_parse.specs.Words.{words}
-use Rattle.mc_parse.specs.Name.{name_of}
-use Rattle.mc_parse.specs.Form.{Ask, Form, faulty, asks, find, form_after, form_of, form_in, meta_form, line_form}
-use Rattle.mc_parse.specs.Need.{need_for}
+use Rattle.mc_parse.specs.Form.{Form, faulty, form_of, form_in, meta_form, line_form}
 use Rattle.mc_laws.specs.Noreply.{is_loud, is_quiet}
 
 -- a meta command does not take the word noreply, and is never quiet

@@ -1,19 +1,17 @@
 -- What lines with a key and few flags say.
-use Rattle.std.proofs.Common.{◌≡◌, ℕ, ◌+◌, ◌-◌, length, take, drop, arith, Bool, true, false, if◌then◌else◌, map, List, [], ◌∷◌, refl, ap, ◌∙◌}
-use Rattle.std.specs.Prelude.{◌||◌, codes, Option, None, Some, option_map}
+use Rattle.std.proofs.Common.{◌≡◌, ℕ, ◌+◌, ◌-◌, length, take, drop, arith, if◌then◌else◌, map, List, [], ◌∷◌, refl, ap, ◌∙◌}
+use Rattle.std.specs.Prelude.{codes, Option, None, Some, option_map}
 use Rattle.std.specs.List.{AllByRecursion}
 use Rattle.std.specs.Option.{option_and_then}
-use Rattle.std.specs.Str.{bytes_eq}
 use Rattle.mc_meta.specs.declared.meta_line.Span.{Span}
 use Rattle.mc_meta.specs.declared.meta_line.MetaLine.{MetaLine}
-use Rattle.mc_meta.specs.declared.meta_line.MetaLine.TheVariants.{Other, Bad, Get, Set, Delete}
-use Rattle.mc_meta.specs.Words.{Placed, words, words_at, text_of, IsWordIn}
+use Rattle.mc_meta.specs.declared.meta_line.MetaLine.TheVariants.{Bad, Get, Set, Delete}
+use Rattle.mc_meta.specs.Words.{Placed, words, text_of, IsWordIn}
 use Rattle.mc_meta.specs.Number.{number_of, small_number_of}
-use Rattle.mc_meta.specs.Flags.{no_flags, get_letters, set_letters, delete_letters, with_letter, with_flags, with_unique, with_flag, flags_after, flags_of}
+use Rattle.mc_meta.specs.Flags.{no_flags, set_letters, with_letter, with_flags, with_unique, with_flag, flags_after, flags_of}
 use Rattle.mc_meta.specs.Key.{bytes_in}
-use Rattle.mc_meta.specs.Meta.{span_of, is_key, get_with, delete_with, set_with, noop_line, get_line, set_line, delete_line, is_meta_name, line_of, meta_of, meta_line}
+use Rattle.mc_meta.specs.Meta.{span_of, is_key, set_with, line_of, meta_line}
 use Rattle.mc_meta.proofs.LineLemmas.{reads_as}
-use Rattle.mc_meta.proofs.PlaceLemmas.{words_at-texts}
 
 -- what flags say, by its first value, since its name is not for other crates
 abbrev Of : {A : Type 0} → A → Type 0

@@ -1,10 +1,7 @@
 -- The words of a text are words.
-use Rattle.std.proofs.Common.{◌≡◌, ℕ, Bool, true, false, if◌then◌else◌, filter, List, [], ◌∷◌, ◌++◌, length, drop, refl, sym, ap, ◌∙◌, arith}
+use Rattle.std.proofs.Common.{◌≡◌, ℕ, Bool, true, false, if◌then◌else◌, filter, List, [], ◌∷◌, refl, ap}
 use Rattle.std.specs.Prelude.{◌==◌, not, ◌&&◌}
 use Rattle.std.specs.List.{list_all}
-use Rattle.std.proofs.lemmas.List.Elements.{filter-append}
-use Rattle.std.proofs.lemmas.List.{drop_all}
-use Rattle.mc_meta.proofs.WordLemmas.{put_all, put_all-none}
 use Rattle.mc_parse.specs.Words.{words, pieces_of, put_before, has_byte, is_word}
 
 has_no_space : List ℕ → Bool

@@ -1,43 +1,24 @@
 //! Laws of lines: the functions do nothing, and their contracts are the laws.
-ghost use Rattle.std.specs.Prelude.{◌≡◌, ℕ, ◌≤◌, Bool, true, false, List, [], ◌∷◌, ◌++◌, map, None, Some, All, codes};
-ghost use Rattle.std.specs.List.{list_all, filter_map, AllByRecursion};
-ghost use Rattle.zy_base.specs.declared.call.Call.{Call};
-ghost use Rattle.zy_base.specs.declared.call.Call.TheVariants as Calls;
-ghost use Rattle.zy_base.specs.declared.entry.Entry.{Entry};
-ghost use Rattle.zy_base.specs.Bounds.{IsValue};
-ghost use Rattle.zy_base.specs.Call.{key_of};
+ghost use Rattle.std.specs.Prelude.{◌≡◌, ℕ, Bool, true, false, List, [], ◌∷◌, ◌++◌, None, Some, codes};
+ghost use Rattle.std.specs.List.{list_all};
 ghost use Rattle.mc_parse.specs.declared.command.Command.{Command};
 ghost use Rattle.mc_parse.specs.declared.error_line.ErrorLine.{ErrorLine};
 ghost use Rattle.mc_parse.specs.declared.error_line.ErrorLine.TheVariants as Errors;
 ghost use Rattle.mc_parse.specs.declared.name.Name.{Name};
-ghost use Rattle.mc_parse.specs.declared.meta.Meta.TheVariants as Metas;
 ghost use Rattle.mc_parse.specs.declared.need.Need.{Need};
-ghost use Rattle.mc_parse.specs.declared.verb.Verb.TheVariants as Verbs;
 ghost use Rattle.mc_meta.specs.Meta.{is_meta_name, meta_line};
 ghost use Rattle.mc_parse.specs.Number.{is_exptime};
 ghost use Rattle.mc_laws.specs.SameCalls.{spaced, AreWords, AskTheSame};
 ghost use Rattle.mc_parse.specs.Words.{words, is_word, space};
 ghost use Rattle.mc_parse.specs.Name.{name_of};
-ghost use Rattle.mc_parse.specs.Form.{Ask, stores, exchanges, gets, deletes, counts, tells_version, sets_verbosity};
-ghost use Rattle.mc_parse.specs.Form.{flushes, quits, metas, asks, faulty, number_fault, form_after, form_of};
+ghost use Rattle.mc_parse.specs.Form.{Ask, stores};
+ghost use Rattle.mc_parse.specs.Form.{asks, faulty, number_fault, form_after, form_of};
 ghost use Rattle.mc_parse.specs.Form.{meta_form, line_form};
-ghost use Rattle.mc_parse.specs.MetaAsk.{noops, meta_gets, meta_stores, meta_exchanges, meta_deletes};
 ghost use Rattle.mc_laws.specs.Checks.{HasBadCount, LacksNoreply, HasLongKey, HasBadNumber, Asks, is_silenced};
 ghost use Rattle.mc_parse.specs.Need.{need};
-ghost use Rattle.mc_parse.specs.Meaning.{line_end, is_ended, value_of, value_command, line_command};
+ghost use Rattle.mc_parse.specs.Meaning.{line_end, is_ended, value_command, line_command};
 ghost use Rattle.mc_parse.specs.Meaning.{block_command, large_command, fault, IsBlockFor, IsTooLarge};
-ghost use Rattle.mc_parse.specs.Calls.{calls_of, on_shard, due, due_of, dues_of};
-ghost use Rattle.mc_laws.specs.Calls.{asked_by};
-ghost use Rattle.mc_parse.specs.Calls.{IsOnShard, IsDueOn};
-ghost use Rattle.mc_laws.specs.Calls.{IsAtKey, FollowsAll, FollowAll};
-ghost use Rattle.mc_parse.specs.Plain.{keys_of};
-ghost use Rattle.mc_parse.specs.Bounds.{IsCommand, IsShardCall};
 ghost use Rattle.mc_laws.specs.Noreply.{takes_noreply, is_quiet, OnlyFallsSilent, EndsInNoreply};
-ghost use Rattle.mc_laws.specs.Worked.{AllSay, Means, sets, long_key, lines_with_key, forms_with_key};
-ghost use Rattle.mc_laws.specs.Worked.{nameless_lines, other_commands, short_lines, wordy_lines};
-ghost use Rattle.mc_laws.specs.Worked.{lines_without_noreply, bad_deletions, bad_amounts, bad_levels, bad_flags};
-ghost use Rattle.mc_laws.specs.Worked.{bad_exptimes, bad_lengths, bad_uniques, deletions_of_a, sets_of_a};
-ghost use Rattle.mc_laws.specs.Worked.{unended_blocks, store_of, get_of_two, shards_of};
 
 /// Words are the maximal runs of bytes other than a space: a space separates what comes before it
 /// from what comes after it, and a text without a space is one word, unless it is empty.

@@ -1,4 +1,4 @@
-//! Laws of the lines of meta commands.
+//! Laws of the lines of meta commands: the functions do nothing, and their contracts are the laws.
 ghost use Rattle.std.specs.Prelude.{◌≡◌, ℕ, List, [], ◌∷◌, ◌++◌, map, None, Some, IfSome, codes};
 ghost use Rattle.std.specs.List.{AllByRecursion};
 ghost use Rattle.mc_meta.specs.declared.meta_line.MetaLine.TheVariants as Lines;

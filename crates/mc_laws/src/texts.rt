@@ -1,4 +1,4 @@
-//! Laws of texts.
+//! Laws of texts: the functions do nothing, and their contracts are the laws.
 ghost use Rattle.std.specs.Prelude.{◌≡◌, ◌≤◌, ◌+◌, ℕ, true, false, List, [], ◌∷◌, ◌++◌, length, take, map, codes};
 ghost use Rattle.zy_base.specs.declared.call_reply.CallReply.{CallReply};
 ghost use Rattle.zy_base.specs.declared.call_reply.CallReply.TheVariants as Replies;
