@@ -6,6 +6,7 @@ mod arity;
 mod asking;
 mod command;
 mod error_line;
+mod got_keys;
 mod laws;
 mod line;
 mod listing;
@@ -26,6 +27,7 @@ mod word;
 
 pub use command::{Command, Keys};
 pub use error_line::ErrorLine;
+pub use got_keys::got_keys;
 pub use laws::{
     a_block_is_its_value_and_two_bytes, a_command_calls_its_keys, a_fault_has_no_calls,
     a_faulty_line_is_answered, a_get_calls_for_each_key, a_name_decides_how_a_line_is_read,
