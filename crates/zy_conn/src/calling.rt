@@ -52,7 +52,7 @@ pub(crate) fn next_call(
 }
 
 // Makes the next get of a retrieval of these keys.
-#[tactic(auto, using(std::proofs::lemmas::Option::slice_get-map))]
+#[tactic(auto, using(crate::proofs::StepLemmas::key_there))]
 fn next_get(
     pass: &mut Pass,
     store: &StoreTable,
