@@ -19,7 +19,7 @@ use Rattle.zy_base.proofs.EntryLemmas.{last_stamp-push}
 use Rattle.zy_base.proofs.ReplayLemmas.{replayed-push, calls-state_with, IsHistory-push}
 use Rattle.zy_base.proofs.CountedLemmas.{tallied-replayed}
 use Rattle.mc_shard.specs.declared.made.Made.{Made}
-use Rattle.mc_shard.specs.Shard.{Kept, TallyCounts, state_of, entry_of, reply_of, with_entry, state_past}
+use Rattle.mc_shard.specs.Shard.{Kept, TallyCounts, state_of, entry_of, with_entry, state_past}
 use Rattle.mc_shard.specs.Contents.{IsSound}
 
 -- the counts of calls are those before the change
@@ -84,11 +84,10 @@ IsSound-got number shards last stamp contents contents' es es' tag key reply sou
     longer refl refl above answered fits
 
 -- the state of the shard after a get
-pub state_got : {E : Type 0} (old new : Kept) (tag : Tag) (key : List ℕ) (result : Result ℕ E)
-    → IfOk result (λ stamp. new ≡ with_entry old (entry_of tag old.number (Get key) (reply_of old (Get key)) stamp)) → OnOk result (state_of new ≡ state_past old (Get key))
-state_got old new tag key (Ok stamp) longer =
-    ap state_of longer ∙ replayed-push old.shards old.number empty_state old.history (entry_of tag old.number (Get key) (reply_of old (Get key)) stamp)
-state_got old new tag key (Err refused) longer = tt
+pub state_got : (old new : Kept) (tag : Tag) (key : List ℕ) (reply : CallReply) (stamp : ℕ)
+    → new ≡ with_entry old (entry_of tag old.number (Get key) reply stamp) → state_of new ≡ state_past old (Get key)
+state_got old new tag key reply stamp longer =
+    ap state_of longer ∙ replayed-push old.shards old.number empty_state old.history (entry_of tag old.number (Get key) reply stamp)
 
 -- the shard after a call that was made, from the entry that was appended
 pub state_by : {E : Type 0} (old new : Kept) (tag : Tag) (call given : Call) (result : Result Made E)

@@ -41,6 +41,7 @@ impl Shard {
         ensures kept { OnErr result (replies.new.items ≡ replies.old.items) }
         ensures sound { IsHistory self.new.shards self.new.number self.new.history }
     {
+        let stamp = self.last.max(seen) + 1;
         let key = Hashed::with_hash(key, hash)?;
         let (reply, copy) = match reply_twice(self.contents.found_at(&key)) {
             Ok(both) => both,
@@ -58,7 +59,6 @@ impl Shard {
         let call = Call::Get {
             key: key.into_key(),
         };
-        let stamp = self.last.max(seen) + 1;
         numbers_fit(tag, &call, &reply);
         self.contents.note(&call, &reply);
         replies.push_reserved(copy);
