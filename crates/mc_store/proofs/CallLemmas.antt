@@ -15,8 +15,7 @@ use Rattle.mc_store.specs.declared.store.view.View.TheVariants.{Pass}
 use Rattle.mc_store.specs.StoreRule.{StoreRule}
 use Rattle.mc_shard.specs.Shard.{with_entry}
 use Rattle.mc_store.specs.View.{mine_of, trace_of, passing, IsPass, calls_in, trace_in}
-use Rattle.mc_store.specs.Call.{WasFree}
-use Rattle.mc_store.specs.Steps.{Seated, has_tried, HasTaken, has_put_back, stores, mine_at, trace_at}
+use Rattle.mc_store.specs.Steps.{Seated, has_tried, HasTaken, has_put_back, mine_at, trace_at}
 use Rattle.mc_store.proofs.TryLemmas.{takes_shard}
 use Rattle.mc_store.proofs.GiveLemmas.{Fits, puts_call, puts_none}
 
@@ -77,15 +76,3 @@ held_after conn count last views views' named v w e h was now same idle grown = 
   count_is = let a = length-append (mine_of v) (e ∷ []) in let b = ap length grown in let f = ap (λ (l : List View). length (calls_in l)) was in let g = ap (λ (l : List View). length (calls_in l)) now in let n = h.count_is in omega arith;
   last_is = sym (ap (λ (l : List View). last_stamp 0 (calls_in l)) now ∙ ap (last_stamp 0) grown ∙ last_stamp-push 0 (mine_of v) e);
 }
-
--- what a pass found when it took a shard stays when it gives the shard back
-pub was_free-stores : (shard : ℕ) (before found after : Trace) → WasFree shard before found → after ≡ stores found → WasFree shard before after
-was_free-stores shard before found after free is =
-    let loaded = free.2.1 in
-    let exchanged = free.2.2 in
-    subst (WasFree shard before) (sym is) (
-      free.0,
-      free.1,
-      record { word = loaded.word; value = loaded.value; later = loaded.later; made = (let made = loaded.made in omega (arith, made)) },
-      record { word = exchanged.word; value = exchanged.value; later = exchanged.later; made = (let made = exchanged.made in omega (arith, made)) },
-    )
