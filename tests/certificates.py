@@ -3,7 +3,7 @@ import random
 
 import edits
 import plain
-from drawn import OTHERS, drawn_capture
+from drawn import OTHERS, crowded_capture, drawn_capture
 from formats import (Call, Entry, Hold, Part, Reply, capture, close, journal, read_capture, read_journal, read_replies,
                      replies, segment, sessions)
 from program import BOTH, ONE, answer, check, run, same
@@ -158,12 +158,17 @@ def edges():
     says("lines at the edges of the profile", whole + run([*ONE, *BOTH], whole).stdout, "yes")
 
 
-def drawn(numbers=range(100)):
+def crowded():
+    """The same of captures whose keys are in one bucket, which has more of them than fit in its row."""
+    drawn(range(1000, 1020), crowded_capture, (1, 3))
+
+
+def drawn(numbers=range(100), captured=drawn_capture, counts=(1, 3, 16, 256)):
     """Runs of drawn captures, by the program and by the plain model, with a bit changed, and edited."""
     for number in numbers:
         draw = random.Random(number)
-        shards = draw.choice((1, 3, 16, 256))
-        whole = drawn_capture(draw, shards)
+        shards = draw.choice(counts)
+        whole = captured(draw, shards)
         read = read_capture(Part("capture", whole))
         threads = draw.choice((1, 4))
         words = ["--cores", str(draw.randrange(threads, 9)), "--threads", str(threads)]
@@ -181,5 +186,5 @@ def drawn(numbers=range(100)):
 
 
 def certificates():
-    for part in (worked, orders, later_sessions, changes, known_edits, all_edits, other_shards, edges, drawn):
+    for part in (worked, orders, later_sessions, changes, known_edits, all_edits, other_shards, edges, drawn, crowded):
         part()

@@ -1,7 +1,10 @@
-"""Drawn captures: a few connections that send commands of all kinds, classic and meta, on the same few keys, and some
-faulty lines."""
+"""Drawn captures: a few connections that send commands of all kinds, classic and meta, on the same few keys or on many keys
+of one bucket, and some faulty lines."""
+import functools
+import itertools
+
 from formats import capture, close, segment
-from model import shard_of
+from model import bucket_of, shard_of
 
 KEYS = [b"a", b"b", b"c", b"k" * 250]
 # lines without a call, faulty ones, and lines at the edges of the profile
@@ -26,20 +29,20 @@ OTHERS = [line.strip().encode() + b"\r\n" for line in LINES.strip().replace("\n"
 ]
 
 
-def storage(draw, shards):
+def storage(draw, shards, keys):
     """A storage line with its block, which now and then ends otherwise."""
     verb = draw.choice((b"set", b"set", b"add", b"replace", b"append", b"prepend", b"cas"))
-    key, value = draw.choice(KEYS), draw.choice((b"", b"7", b"18446744073709551615", b"x" * draw.randrange(9)))
+    key, value = draw.choice(keys), draw.choice((b"", b"7", b"18446744073709551615", b"x" * draw.randrange(9)))
     # the unique of one of the first items of the key's shard
     unique = b" %d" % (shards * draw.randrange(1, 4) + shard_of(key, shards)) if verb == b"cas" else b""
     quiet, end = draw.choice((b"", b"", b" noreply")), b"\n\n" if draw.randrange(9) == 0 else b"\r\n"
     return b"%s %s %d 0 %d%s%s\r\n%s%s" % (verb, key, draw.randrange(9), len(value), unique, quiet, value, end)
 
 
-def meta(draw, shards):
+def meta(draw, shards, keys):
     """A line of a meta command, with its block if it stores."""
     name = draw.choice((b"mg", b"mg", b"ms", b"ms", b"md", b"mn"))
-    key, value = draw.choice(KEYS), b"7" * draw.randrange(3)
+    key, value = draw.choice(keys), b"7" * draw.randrange(3)
     letters = {b"mg": "vkfcsq", b"ms": "FCMTkq", b"md": "kq", b"mn": ""}[name]
     tokens = {"F": draw.randrange(9), "M": draw.choice("EAPRSsa"), "T": -1,
               "C": shards * draw.randrange(1, 4) + shard_of(key, shards)}
@@ -50,27 +53,27 @@ def meta(draw, shards):
     return b" ".join(words) + b"\r\n" + (value + end if name == b"ms" else b"")
 
 
-def request(draw, shards):
-    key, quiet, kind = draw.choice(KEYS), draw.choice((b"", b"", b" noreply")), draw.randrange(14)
+def request(draw, shards, keys):
+    key, quiet, kind = draw.choice(keys), draw.choice((b"", b"", b" noreply")), draw.randrange(14)
     if kind < 4:
-        return storage(draw, shards)
+        return storage(draw, shards, keys)
     if kind > 9:
-        return meta(draw, shards)
+        return meta(draw, shards, keys)
     if kind < 7:
-        keys = [draw.choice(KEYS) for _ in range(draw.randrange(1, 4))]
-        return b" ".join([draw.choice((b"get", b"gets")), *keys]) + b"\r\n"
+        asked = [draw.choice(keys) for _ in range(draw.randrange(1, 4))]
+        return b" ".join([draw.choice((b"get", b"gets")), *asked]) + b"\r\n"
     if kind == 7:
         return b"%s %s %d%s\r\n" % (draw.choice((b"incr", b"decr")), key, draw.randrange(20), quiet)
     return b"delete %s%s\r\n" % (key, quiet) if kind == 8 else draw.choice(OTHERS)
 
 
-def drawn_capture(draw, shards):
+def drawn_capture(draw, shards, keys=KEYS, first=()):
     """A capture whose segments cut requests; a close drops what was not sent of one."""
-    version, count, records = draw.choice((1, 2)), draw.randrange(1, 5), []
+    version, count, records = draw.choice((1, 2)), draw.randrange(1, 5), [*first]
     left = [b""] * count
     for _ in range(draw.randrange(30)):
         connection = draw.randrange(count)
-        text = left[connection] + request(draw, shards)
+        text = left[connection] + request(draw, shards, keys)
         cut = draw.randrange(len(text) + 1)
         records.append(segment(connection, text[:cut]))
         left[connection] = text[cut:]
@@ -78,3 +81,17 @@ def drawn_capture(draw, shards):
             records.append(close(connection))
             left[connection] = b""
     return capture(count, [*records, *(segment(connection, text) for connection, text in enumerate(left))], version)
+
+
+@functools.lru_cache
+def one_bucket(count, front=b"", shards=1):
+    """Keys that begin alike, on one shard and in one bucket of it."""
+    alike = (key for number in itertools.count() if bucket_of(key := front + b"%d" % number) == 7)
+    return list(itertools.islice((key for key in alike if shard_of(key, shards) == 0), count))
+
+
+def crowded_capture(draw, shards):
+    """A drawn capture on keys of one bucket, most of which are stored first."""
+    keys = one_bucket(40, shards=shards)
+    stored = (b"set %s 0 0 1\r\n%d\r\n" % (key, draw.randrange(9)) for key in draw.sample(keys, draw.randrange(10, 41)))
+    return drawn_capture(draw, shards, keys, [segment(0, b"".join(stored))])

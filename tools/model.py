@@ -28,12 +28,22 @@ Item = namedtuple("Item", "flags value unique")
 # ---- calls
 
 
-def shard_of(key, shards):
-    """The 32-bit FNV-1a hash of a key, modulo the number of shards."""
+def hash_of(text):
+    """The 32-bit FNV-1a hash of bytes."""
     hashed = 2166136261
-    for byte in key:
+    for byte in text:
         hashed = (hashed ^ byte) * 16777619 % (1 << 32)
-    return hashed % shards
+    return hashed
+
+
+def shard_of(key, shards):
+    """The shard of a key: its hash, modulo the number of shards."""
+    return hash_of(key) % shards
+
+
+def bucket_of(key):
+    """The bucket of a key in its shard: the first eight bits of its hash."""
+    return hash_of(key) >> 24
 
 
 def call_of(command, key):

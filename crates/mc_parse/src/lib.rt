@@ -6,6 +6,7 @@ mod arity;
 mod asking;
 mod command;
 mod error_line;
+mod got_keys;
 mod line;
 mod listing;
 mod meta;
@@ -25,6 +26,7 @@ mod word;
 
 pub use command::{Command, Keys};
 pub use error_line::ErrorLine;
+pub use got_keys::got_keys;
 pub use listing::calls;
 pub use meta::Meta;
 pub use name::Name;

@@ -1,14 +1,17 @@
 -- A shard is still sound after a call.
-use Rattle.std.proofs.Common.{◌≡◌, ℕ, ◌<◌, List, [], ◌∷◌, ◌++◌, sym, ap, subst, ◌∙◌}
-use Rattle.std.specs.Prelude.{Option, Result, Ok, Err, IfOk, OnOk}
+use Rattle.std.proofs.Common.{◌≡◌, ℕ, ◌<◌, List, [], ◌∷◌, ◌++◌, refl, sym, ap, subst, ◌∙◌}
+use Rattle.std.specs.Prelude.{Option, None, Some, Result, Ok, Err, IfOk, OnOk}
 use Rattle.zy_base.specs.declared.call.Call.{Call}
+use Rattle.zy_base.specs.declared.call.Call.TheVariants.{Get}
 use Rattle.zy_base.specs.declared.call_reply.CallReply.{CallReply}
 use Rattle.zy_base.specs.declared.entry.Entry.{Entry}
 use Rattle.zy_base.specs.declared.entry.Tag.{Tag}
+use Rattle.zy_base.specs.declared.item.Item.{Item}
+use Rattle.zy_base.specs.declared.tallied.Tallied.{Tallied}
 use Rattle.zy_base.specs.Call.{key_of}
 use Rattle.zy_base.specs.Code.{tally}
 use Rattle.zy_base.specs.Counted.{CallCounts, calls_with}
-use Rattle.zy_base.specs.Shard.{State, empty_state, tallied, with_calls, Effect, Outcome, outcome_of, item_at, outcome_on, reply_to, state_with, state_after}
+use Rattle.zy_base.specs.Shard.{State, empty_state, tallied, with_calls, Effect, keeps, Outcome, outcome_of, item_at, outcome_on, reply_to, state_with, state_after}
 use Rattle.zy_base.specs.Bounds.{FitsEntry}
 use Rattle.zy_base.specs.History.{IsHistory, replayed}
 use Rattle.zy_base.specs.Order.{last_stamp}
@@ -56,6 +59,35 @@ IsSound-applied number shards last last' contents contents' es es' e key outcome
       contents_are = past ∙ ap (λ (s : State). state_after shards number s e.call) sound.contents_are ∙ sym (replayed-push shards number empty_state es e) ∙ ap (replayed shards number empty_state) (sym longer);
       last_is = sym stamp ∙ sym (last_stamp-push 0 es e) ∙ ap (last_stamp 0) (sym longer);
     }
+
+-- a get changes no item
+get_keeps : (counts : Tallied) (key : List ℕ) (found : Option Item) → (outcome_of counts (Get key) found).effect ≡ keeps
+get_keeps counts key None = refl
+get_keeps counts key (Some item) = refl
+
+-- the shard after a get
+pub IsSound-got : (number shards last stamp : ℕ) (contents contents' : State) (es es' : List Entry) (tag : Tag) (key : List ℕ) (reply : CallReply)
+    → IsSound number shards last contents es
+    → reply ≡ reply_to contents (Get key)
+    → contents' ≡ with_calls contents (calls_with contents.calls (Get key) reply)
+    → es' ≡ es ++ entry_of tag number (Get key) reply stamp ∷ []
+    → last < stamp
+    → FitsEntry (entry_of tag number (Get key) reply stamp)
+    → IsSound number shards stamp contents' es'
+IsSound-got number shards last stamp contents contents' es es' tag key reply sound answered counted longer above fits =
+    let counts : Tallied = tallied contents in
+    let found : Option Item = item_at contents.items (Some key) in
+    let outcome : Outcome = outcome_of counts (Get key) found in
+    IsSound-applied number shards last stamp contents contents' es es' (entry_of tag number (Get key) reply stamp) (Some key) outcome sound refl refl
+    (counted ∙ ap (λ (r : CallReply). with_calls contents (calls_with contents.calls (Get key) r)) answered
+    ∙ ap (λ (effect : Effect). with_calls (state_with shards number contents effect) (calls_with contents.calls (Get key) outcome.reply)) (sym (get_keeps counts key found)))
+    longer refl refl above answered fits
+
+-- the state of the shard after a get
+pub state_got : (old new : Kept) (tag : Tag) (key : List ℕ) (reply : CallReply) (stamp : ℕ)
+    → new ≡ with_entry old (entry_of tag old.number (Get key) reply stamp) → state_of new ≡ state_past old (Get key)
+state_got old new tag key reply stamp longer =
+    ap state_of longer ∙ replayed-push old.shards old.number empty_state old.history (entry_of tag old.number (Get key) reply stamp)
 
 -- the shard after a call that was made, from the entry that was appended
 pub state_by : {E : Type 0} (old new : Kept) (tag : Tag) (call given : Call) (result : Result Made E)

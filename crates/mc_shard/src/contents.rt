@@ -1,6 +1,6 @@
 //! The items of a shard with their counter and its counts, and the changes that calls make.
 ghost use Rattle.std.specs.Prelude.{◌≡◌, ◌+◌, ◌^◌, ◌<◌, ◌≤◌, OnOk, OnErr, option_copied};
-ghost use Rattle.std.specs.FinMap.{insert, remove, empty};
+ghost use Rattle.std.specs.FinMap.{get, insert, remove, empty};
 ghost use Rattle.zy_base.specs.Kind.{MayAnswer};
 ghost use Rattle.zy_base.specs.declared.tallied.Tallied.{Tallied};
 ghost use Rattle.zy_base.specs.Counted.{calls_with};
@@ -86,14 +86,23 @@ impl Contents {
         }
     }
 
-    /// The item of a key.
+    /// The item of a key, where a call has one.
+    #[inline(always)]
     pub fn found(&self, key: &Option<Hashed>) -> Option<&Item>
         ensures value { option_copied result ≡ item_at self.now.items key.now }
     {
         match key {
-            Some(key) => self.items.get(key),
+            Some(key) => self.found_at(key),
             None => None,
         }
+    }
+
+    /// The item of this key.
+    #[inline(always)]
+    pub fn found_at(&self, key: &Hashed) -> Option<&Item>
+        ensures value { option_copied result ≡ get self.now.items key.now }
+    {
+        self.items.get(key)
     }
 
     /// The item that decides what a call answers and does: that of its key, which a `set` has no need of.
@@ -108,6 +117,7 @@ impl Contents {
     }
 
     /// Makes the change of a call on this key, on shard `number` of `shards`.
+    #[inline(always)]
     pub fn carry_out(
         &mut self,
         number: u32,

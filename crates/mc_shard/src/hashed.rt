@@ -3,6 +3,7 @@ ghost use Rattle.std.specs.Prelude.{◌≡◌, ◌<◌, IfOk, Some, refl};
 ghost use Rattle.std.specs.Ordering.{eq_by_cmp};
 ghost use Rattle.std.specs.Cmp.{partial_equiv_from_equiv, partial_order_from_total, eq_by_cmp_equiv};
 ghost use Rattle.zy_base.specs.Call.{key_of};
+ghost use Rattle.zy_base.specs.Key.{hash_of};
 ghost use Rattle.mc_shard.specs.Contents.{hashed_cmp, hashed_total};
 ghost use Rattle.mc_shard.specs.Buckets.{bucket_of};
 
@@ -30,6 +31,7 @@ impl Model for Hashed {
 
 impl Hashed {
     /// A copy of the key of a call, with its hash; a flush and a tally have none.
+    #[inline(always)]
     pub fn of_call(call: &Call) -> Result<Option<Hashed>, NoMemory>
         ensures value { IfOk result (λ key. key ≡ key_of call.now) }
     {
@@ -47,13 +49,31 @@ impl Hashed {
         (self.hash / 16_777_216) as usize
     }
 
-    // A copy of a key, with its hash.
-    fn copy_of(key: &Blob) -> Result<Hashed, NoMemory>
+    /// A copy of a key that has this hash.
+    #[inline(always)]
+    pub fn with_hash(key: &Blob, hash: u32) -> Result<Hashed, NoMemory>
+        requires hash { hash ≡ hash_of key.now }
         ensures value { IfOk result (λ hashed. hashed ≡ key.now) }
     {
         let key = key.copy()?;
-        let hash = hash_of(key.bytes());
         Ok(Hashed { hash, key })
+    }
+
+    /// The key.
+    #[inline(always)]
+    pub fn into_key(self) -> Blob
+        ensures value { result ≡ self }
+    {
+        let Hashed { hash: _, key } = self;
+        key
+    }
+
+    // A copy of a key, with its hash.
+    #[inline(always)]
+    fn copy_of(key: &Blob) -> Result<Hashed, NoMemory>
+        ensures value { IfOk result (λ hashed. hashed ≡ key.now) }
+    {
+        Hashed::with_hash(key, hash_of(key.bytes()))
     }
 }
 

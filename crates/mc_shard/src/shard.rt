@@ -4,6 +4,8 @@ ghost use Rattle.zy_base.specs.Call.{key_of};
 ghost use Rattle.zy_base.specs.History.{IsHistory};
 ghost use Rattle.mc_shard.specs.Shard.{kept, state_of, last_of, TallyCounts, entry_of, reply_of, with_entry, state_past};
 
+mod fetching;
+
 use crate::change::Step;
 use crate::contents::Contents;
 use crate::hashed::Hashed;

@@ -15,6 +15,7 @@ use zy_base::{
 
 /// The reply and the change of a call, on a shard that counts this, where the call's key has this item
 /// or none.
+#[inline(always)]
 pub fn step_of(
     alloc: Global,
     call: &Call,
@@ -31,6 +32,7 @@ pub fn step_of(
 }
 
 // The reply and the change of a call whose key has no item.
+#[inline(always)]
 fn step_without(call: &Call, counts: Tallied) -> Result<Step, NoMemory>
     ensures value { Gives (key_of call.now) result (table.outcome_of counts call.now None) }
 {
@@ -51,6 +53,7 @@ fn step_without(call: &Call, counts: Tallied) -> Result<Step, NoMemory>
 }
 
 // The reply and the change of a call whose key has this item.
+#[inline(always)]
 fn step_with(alloc: Global, call: &Call, counts: Tallied, item: &Item) -> Result<Step, NoMemory>
     ensures value { Gives (key_of call.now) result (table.outcome_of counts call.now (Some item.now)) }
 {

@@ -1,10 +1,15 @@
 -- The answers of a try of a call, and their causes. Each cause is a fact about the steps of this
 -- very try.
-use Rattle.std.specs.Prelude.{◌≡◌, ◌≢◌, ◌⊎◌, ℕ, ◌%◌, ◌<◌, ◌≤◌, ⊤, Result, Ok, Err}
+use Rattle.std.specs.Prelude.{◌≡◌, ◌≢◌, ◌⊎◌, ℕ, ◌%◌, ◌<◌, ◌≤◌, ⊤, List, [], ◌∷◌, ◌++◌, Result, Ok, Err}
 use Rattle.zy_base.specs.declared.entry.Entry.{Entry}
 use Rattle.zy_base.specs.declared.entry.Tag.{Tag}
 use Rattle.zy_base.specs.declared.call.Call.{Call}
+use Rattle.zy_base.specs.declared.call.Call.TheVariants.{Get}
 use Rattle.zy_base.specs.declared.call_reply.CallReply.{CallReply}
+use Rattle.zy_base.specs.Kind.{MayAnswer}
+use Rattle.mc_shard.specs.Shard.{entry_of}
+use Rattle.mc_store.specs.declared.fetched.Fetched.{Fetched}
+use Rattle.mc_store.specs.declared.fetched.Fetched.TheVariants as Fetches
 use Rattle.mc_store.specs.declared.got.Got.{Got}
 use Rattle.mc_store.specs.declared.got.Got.TheVariants.{Reply, Busy}
 use Rattle.mc_store.specs.declared.tried.Tried.{Tried}
@@ -36,6 +41,27 @@ abbrev pub IfTaken : {E : Type 0} → Result Tried E → (Call → ℕ → ℕ �
 IfTaken (Ok (Made reply stamp)) holds = ⊤
 IfTaken (Ok (Taken call shard loaded found)) holds = holds call shard loaded found
 IfTaken (Err e) holds = ⊤
+
+-- of the stamp, where a get was made
+abbrev pub IfFetched : {E : Type 0} → Result Fetched E → (ℕ → Type 0) → Type 0
+IfFetched (Ok (Fetches.Made stamp)) holds = holds stamp
+IfFetched (Ok (Fetches.Busy shard loaded found)) holds = ⊤
+IfFetched (Err e) holds = ⊤
+
+-- of the shard, the word loaded and the word found, where a get was not made since another pass had the shard
+abbrev pub IfUnfetched : {E : Type 0} → Result Fetched E → (ℕ → ℕ → ℕ → Type 0) → Type 0
+IfUnfetched (Ok (Fetches.Made stamp)) holds = ⊤
+IfUnfetched (Ok (Fetches.Busy shard loaded found)) holds = holds shard loaded found
+IfUnfetched (Err e) holds = ⊤
+
+-- a get of the key was made on the shard: one reply is appended to the replies, of a kind that a get may have, and the
+-- entry with it and the stamp to the calls
+pub record HasFetched (tag : Tag) (shard : ℕ) (key : List ℕ) (replies replies' : List CallReply) (calls calls' : List Entry)
+    (stamp : ℕ) : Type 0 where
+  pub reply : CallReply
+  pub kind : MayAnswer (Get key) reply
+  pub replied : replies' ≡ replies ++ reply ∷ []
+  pub entered : calls' ≡ calls ++ entry_of tag shard (Get key) reply stamp ∷ []
 
 -- the entry is that of this call on this shard
 pub record IsOfCall (tag : Tag) (shard : ℕ) (call : Call) (entry : Entry) : Type 0 where

@@ -1,10 +1,16 @@
 -- What a seat learns from each step on the table.
 -- No public clause cites this module.
-use Rattle.std.specs.Prelude.{◌≡◌, ◌≢◌, ℕ, ◌+◌, ◌*◌, ◌^◌, ◌<◌, List, [], ◌∷◌, ◌++◌, length, drop, Some, None}
+use Rattle.std.specs.Prelude.{◌≡◌, ◌≢◌, ℕ, ◌+◌, ◌*◌, ◌^◌, ◌<◌, ⊤, List, [], ◌∷◌, ◌++◌, length, drop, Some, None}
 use Rattle.atomic_table.specs.Table.{Me, Step, rest}
 use Rattle.zy_base.specs.declared.entry.Entry.{Entry}
+use Rattle.zy_base.specs.declared.entry.Tag.{Tag}
+use Rattle.zy_base.specs.declared.call.Call.TheVariants.{Get}
+use Rattle.zy_base.specs.declared.call_reply.CallReply.{CallReply}
+use Rattle.zy_base.specs.Kind.{MayAnswer}
 use Rattle.zy_base.specs.Order.{last_stamp}
-use Rattle.mc_shard.specs.Shard.{Kept, kept, state_of}
+use Rattle.mc_shard.specs.Shard.{Kept, kept, state_of, entry_of}
+use Rattle.mc_store.specs.declared.store.taking.Taking.{Taking}
+use Rattle.mc_store.specs.declared.store.taking.Taking.TheVariants.{Free, Held}
 use Rattle.mc_store.specs.declared.store.view.Trace.{Trace}
 use Rattle.mc_store.specs.declared.store.view.View.{View}
 use Rattle.mc_store.specs.declared.store.view.View.TheVariants.{Spent, Root, Pass}
@@ -91,6 +97,16 @@ HasTaken conn shard shards even me =
     × (me ≡ (Pass conn (mine_at me) (Some (shard, history)) (trace_at me), (shard, kept shard shards history) ∷ []))
     × IsReady (kept shard shards history) (mine_at me)
 
+-- of the even word, where a shard was taken
+abbrev pub IfFree : Taking → (ℕ → Type 0) → Type 0
+IfFree (Free even) holds = holds even
+IfFree (Held loaded found) holds = ⊤
+
+-- of the word loaded and the word found, where another pass had it
+abbrev pub IfHeld : Taking → (ℕ → ℕ → Type 0) → Type 0
+IfHeld (Free even) holds = ⊤
+IfHeld (Held loaded found) holds = holds loaded found
+
 -- ---- the store that gives a shard back
 
 -- the calls that the shard has had since it was taken are appended to those of the pass
@@ -112,6 +128,14 @@ HasMade conn before after entry = after ≡ (passing conn (mine_at before ++ ent
 -- the pass has given the shard back, and has made no call
 abbrev pub HasGivenUp : ℕ → Seated → Seated → Type 0
 HasGivenUp conn before after = after ≡ (passing conn (mine_at before) (stores (trace_at before)), [])
+
+-- the pass has made a get, whose entry is now its last and whose reply is appended to the replies
+pub record HasMadeGet (tag : Tag) (shard : ℕ) (key : List ℕ) (before after : Seated) (replies replies' : List CallReply)
+    (stamp : ℕ) : Type 0 where
+  pub reply : CallReply
+  pub kind : MayAnswer (Get key) reply
+  pub replied : replies' ≡ replies ++ reply ∷ []
+  pub made : HasMade tag.conn before after (entry_of tag shard (Get key) reply stamp)
 
 -- ---- passes
 

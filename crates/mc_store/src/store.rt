@@ -4,6 +4,7 @@
 //! `s` has shard `s` while it is free. A call loads the word, exchanges the even word with the odd one
 //! above it, calls the shard in its slot, and stores an even word again.
 ghost use Rattle.std.specs.Prelude.{◌≡◌, ◌<◌, ◌≤◌, ◌^◌, ℕ, [], ◌∷◌, ◌++◌, length, true, false, IfOk, OnOk, OnErr, IfErr};
+ghost use Rattle.zy_base.specs.Key.{hash_of};
 ghost use Rattle.zy_base.specs.Kind.{MayAnswer};
 ghost use Rattle.zy_base.specs.Order.{last_stamp};
 ghost use Rattle.zy_table.specs.Member.{is_in};
@@ -12,13 +13,17 @@ ghost use Rattle.mc_store.specs.View.{untraced};
 ghost use Rattle.mc_store.specs.Pass.{passed, rooted};
 ghost use Rattle.mc_shard.specs.Shard.{entry_of};
 ghost use Rattle.mc_store.specs.Call.{IfReply, IfBusy, IfMade, IfTaken, IsOfCall, WasFree, WasBusy};
+ghost use Rattle.mc_store.specs.Call.{IfFetched, IfUnfetched, HasFetched};
 ghost use Rattle.mc_store.specs.Closing.{AreClosed, empties};
 
 pub(crate) mod calling;
 pub(crate) mod draining;
+pub(crate) mod fetching;
 pub(crate) mod plays;
+pub(crate) mod taking;
 pub(crate) mod view;
 
+use crate::fetched::Fetched;
 use crate::got::Got;
 use crate::pass::Pass;
 use crate::root::Root;
@@ -31,7 +36,7 @@ use std::alloc::Global;
 use std::marker::{Brand, Model};
 use std::mem;
 use view::{Rule, View};
-use zy_base::{Call, Entry, Histories, NoMemory, Tag};
+use zy_base::{Blob, Call, CallReply, Entry, Histories, NoMemory, Tag};
 
 /// The shards of a store. Contracts see which table it is, and the number of its shards.
 #[derive(Drop)]
@@ -249,6 +254,54 @@ impl StoreTable {
                 pass.count += 1;
                 pass.last = stamp;
                 Ok(Tried::Made { reply, stamp })
+            }
+            other => other,
+        }
+    }
+
+    /// Tries once to get the item of a key from a shard, as `make_call` does by `Call::Get`. The key is
+    /// lent, with its hash. The reply is appended to `replies`, and answered is the stamp alone. Where the
+    /// get was not made, the replies are as they were.
+    pub fn fetch(
+        &self,
+        pass: &mut Pass,
+        tag: Tag,
+        shard: u32,
+        key: &Blob,
+        hash: u32,
+        replies: &mut Vec<CallReply>,
+    ) -> Result<Fetched, NoMemory>
+        requires table { pass.old.table ≡ self.now.id }
+        requires conn { tag.conn ≡ pass.old.conn }
+        requires within { shard < self.now.shards }
+        requires few { length pass.old.calls < 2 ^ 40 }
+        requires hash { hash ≡ hash_of key.now }
+
+        // The answer.
+        ensures ok { IfFetched result (HasFetched tag shard key.now replies.old.items replies.new.items
+            pass.old.calls pass.new.calls) }
+        ensures stamp { IfFetched result (λ stamp. last_stamp 0 pass.old.calls < stamp) }
+        ensures free { IfFetched result (λ stamp. WasFree shard pass.old.trace pass.new.trace) }
+        ensures busy { IfUnfetched result (WasBusy shard pass.old.trace pass.new.trace) }
+
+        // What stays.
+        ensures kept { IfUnfetched result (λ asked loaded found. pass.new.calls ≡ pass.old.calls) }
+        ensures err { OnErr result (pass.new.calls ≡ pass.old.calls) }
+        ensures same { IfUnfetched result (λ asked loaded found. replies.new.items ≡ replies.old.items) }
+        ensures refused { OnErr result (replies.new.items ≡ replies.old.items) }
+        ensures table { pass.new.table ≡ pass.old.table }
+        ensures conn { pass.new.conn ≡ pass.old.conn }
+        ensures steps { pass.old.trace.steps ≤ pass.new.trace.steps }
+    {
+        let seen = pass.last;
+        let mut seat = mem::replace(&mut pass.badge, Badge::blank()).into_seat();
+        let fetched = self.try_fetch(&mut seat, tag, shard, key, hash, seen, replies);
+        pass.badge = seat.into_badge();
+        match fetched {
+            Ok(Fetched::Made { stamp }) => {
+                pass.count += 1;
+                pass.last = stamp;
+                Ok(Fetched::Made { stamp })
             }
             other => other,
         }

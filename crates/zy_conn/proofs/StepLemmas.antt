@@ -1,12 +1,16 @@
 -- What each step keeps, for values that are given by equations.
 use Rattle.std.proofs.Common.{◌≡◌, ◌≢◌, inl, ℕ, ◌+◌, ◌≤◌, ◌^◌, List, [], ◌∷◌, ◌++◌, length, Some, Result, Ok, Err, MatchResult, IfOk, slice_get, refl, sym, ap, ◌∙◌, subst, arith, length-append}
-use Rattle.std.specs.Prelude.{IsSome, OnOk, OnErr}
-use Rattle.std.proofs.lemmas.Option.{slice_get_within}
+use Rattle.std.specs.Prelude.{IsSome, OnOk, OnErr, option_map}
+use Rattle.std.proofs.lemmas.Option.{slice_get_within, slice_get-map}
+use Rattle.zy_base.specs.declared.call.Call.TheVariants.{Get}
 use Rattle.zy_base.specs.declared.call_reply.CallReply.{CallReply}
+use Rattle.zy_base.specs.declared.entry.Tag.{Tag}
+use Rattle.zy_base.specs.Key.{shard_of}
 use Rattle.mc_parse.specs.declared.command.Command.{Command}
 use Rattle.mc_parse.specs.declared.shard_call.ShardCall.{ShardCall}
-use Rattle.mc_parse.specs.Calls.{Due, calls_of}
-use Rattle.mc_store.specs.Call.{WasBusy}
+use Rattle.mc_parse.specs.Calls.{Due, calls_of, get_calls, get_at, on_shard, tag_of}
+use Rattle.mc_shard.specs.Shard.{entry_of}
+use Rattle.mc_store.specs.Call.{WasBusy, HasFetched}
 use Rattle.mc_store.specs.Pass.{Passed}
 use Rattle.zy_calls.specs.Batch.{Batch, with_text, with_finished}
 use Rattle.zy_frame.specs.Frame.{command_of}
@@ -21,7 +25,7 @@ use Rattle.zy_conn.specs.declared.calling.Made.TheVariants.{Call, Done, Stopped}
 use Rattle.zy_conn.specs.Work.{Start, idle, raw, going, start_of, Worked, work_of_pass, texts_taken, mark_of}
 use Rattle.zy_conn.specs.Kept.{KeepsCommands}
 use Rattle.zy_conn.specs.Hold.{call_due}
-use Rattle.zy_conn.specs.Step.{IsAllMade, text_begun, calls_left, SamePass, CallStopsBy, Makes, StepsOn, StopsBy, MadeFrom}
+use Rattle.zy_conn.specs.Step.{IsAllMade, text_begun, calls_left, SamePass, CallStopsBy, Makes, MakesThis, StepsOn, StopsBy, MadeFrom}
 use Rattle.zy_conn.proofs.KeptLemmas.{kept_looks, texts_begin, kept_begins, kept_reads, texts_call, kept_calls, kept_finishes}
 
 -- ---- a frame is taken
@@ -145,3 +149,20 @@ module _ (p : Passed) (r : RingName) (taken known : List FrameKind) (s s' : Star
       subst (λ y. KeepsCommands (work_of_pass p r taken known y batch'.finished sh batch'.texts)) (sym none)
       (subst (λ m. KeepsCommands (work_of_pass p r taken known idle m sh batch'.texts)) (sym finished)
       (subst (λ l. KeepsCommands (work_of_pass p r taken known idle (batch.finished + 1) sh l)) (sym texts) (kept_ends (work_of_pass p r taken known s batch.finished sh batch.texts) k s refl whole)))
+
+-- ---- a get
+
+-- the gets of keys are those of each key
+pub key_there : (shards : ℕ) (keys : List (List ℕ)) (part : ℕ) → slice_get (get_calls shards keys) part ≡ option_map (get_at shards) (slice_get keys part)
+key_there shards keys part = slice_get-map (get_at shards) keys part
+
+-- a get that was made is the next call
+pub got_this : (index shards shard stamp : ℕ) (tag : Tag) (key : List ℕ) (replies replies' : List CallReply) (before after : Passed)
+    → HasFetched tag shard key replies replies' before.calls after.calls stamp → tag ≡ tag_of before.conn index (length replies) → shard ≡ shard_of key shards
+    → MakesThis index (get_at shards key) replies before replies' after Call
+got_this index shards shard stamp tag key replies replies' before after got tag_is shard_is = (
+  entry_of tag shard (Get key) got.reply stamp,
+  record { due = λ i. record { tag = tag_is i; call = on_shard (Get key) (shard_is i) }; kind = got.kind },
+  got.entered,
+  got.replied,
+)

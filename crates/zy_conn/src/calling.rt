@@ -1,12 +1,12 @@
 //! The next call of a command.
-ghost use Rattle.std.specs.Prelude.{◌≡◌, ◌<◌, ◌^◌, length, vec_len, vec_capacity, MatchResult};
-ghost use Rattle.mc_parse.specs.Calls.{calls_of, IsOnShard};
+ghost use Rattle.std.specs.Prelude.{◌≡◌, ◌<◌, ◌^◌, length, vec_len, vec_capacity, IfOk, MatchResult};
+ghost use Rattle.mc_parse.specs.Calls.{calls_of, get_calls, get_at, tag_of, IsOnShard};
 ghost use Rattle.zy_conn.specs.Step.{SamePass, Makes, MakesThis};
 
 use crate::hold_end::HoldEnd;
-use mc_parse::{Command, ShardCall, call_at};
-use mc_store::{Pass, StoreTable, Tried};
-use zy_base::{COMMAND_LIMIT, CallReply, NoMemory, Tag};
+use mc_parse::{Command, ShardCall, call_at, got_keys};
+use mc_store::{Fetched, Pass, StoreTable, Tried};
+use zy_base::{Blob, COMMAND_LIMIT, CallReply, NoMemory, Tag, hash_of};
 
 /// The result of the next call of a command.
 #[derive(Drop)]
@@ -34,6 +34,9 @@ pub(crate) fn next_call(
         replies.old.items pass.old replies.new.items pass.new)
         (λ _. (pass.new.calls ≡ pass.old.calls) × (replies.new.items ≡ replies.old.items)) }
 {
+    if let Some(keys) = got_keys(command) {
+        return next_get(pass, store, index, keys, replies);
+    }
     let Some(next) = call_at(command, replies.len(), store.shards())? else {
         return Ok(Made::Done);
     };
@@ -46,6 +49,80 @@ pub(crate) fn next_call(
         return Err(NoMemory);
     }
     make_call(pass, store, index, next, replies)
+}
+
+// Makes the next get of a retrieval of these keys.
+#[tactic(auto, using(crate::proofs::StepLemmas::key_there))]
+fn next_get(
+    pass: &mut Pass,
+    store: &StoreTable,
+    index: u64,
+    keys: &[Blob],
+    replies: &mut Vec<CallReply>,
+) -> Result<Made, NoMemory>
+    requires table { pass.old.table ≡ store.now.id }
+    ensures pass { SamePass pass.old pass.new }
+    ensures call { MatchResult result (Makes index (get_calls store.now.shards keys.now)
+        replies.old.items pass.old replies.new.items pass.new)
+        (λ _. (pass.new.calls ≡ pass.old.calls) × (replies.new.items ≡ replies.old.items)) }
+{
+    let Some(key) = keys.get(replies.len()) else {
+        return Ok(Made::Done);
+    };
+    if pass.count() >= COMMAND_LIMIT {
+        return Ok(Made::Stopped(HoldEnd::Spent));
+    }
+    make_get(pass, store, index, key, replies)
+}
+
+// Makes the get of this key, which is the next call.
+fn make_get(
+    pass: &mut Pass,
+    store: &StoreTable,
+    index: u64,
+    key: &Blob,
+    replies: &mut Vec<CallReply>,
+) -> Result<Made, NoMemory>
+    requires table { pass.old.table ≡ store.now.id }
+    requires few { length pass.old.calls < 2 ^ 40 }
+    ensures pass { SamePass pass.old pass.new }
+    ensures call { MatchResult result (MakesThis index (get_at store.now.shards key.now)
+        replies.old.items pass.old replies.new.items pass.new)
+        (λ _. (pass.new.calls ≡ pass.old.calls) × (replies.new.items ≡ replies.old.items)) }
+{
+    let tag = next_tag(pass, index, replies)?;
+    let hash = hash_of(key.bytes());
+    let shard = hash % store.shards();
+    match store.fetch(pass, tag, shard, key, hash, replies) {
+        Ok(Fetched::Made { stamp: _ }) => Ok(Made::Call),
+        Ok(
+            Fetched::Busy {
+                shard,
+                loaded,
+                found,
+            },
+        ) => Ok(Made::Stopped(HoldEnd::Busy {
+            shard,
+            loaded,
+            found,
+        })),
+        Err(e) => Err(e),
+    }
+}
+
+// The tag of the next call of a command, whose calls before it got these replies.
+#[inline(always)]
+fn next_tag(pass: &Pass, index: u64, replies: &Vec<CallReply>) -> Result<Tag, NoMemory>
+    ensures value { IfOk result (λ tag. tag ≡ tag_of pass.now.conn index (length replies.now.items)) }
+{
+    match u32::try_from(replies.len()) {
+        Ok(part) => Ok(Tag {
+            conn: pass.conn(),
+            index,
+            part,
+        }),
+        Err(_) => Err(NoMemory),
+    }
 }
 
 // Makes this call, which is the next one. There is room for its reply.
@@ -64,14 +141,12 @@ fn make_call(
     ensures call { MatchResult result (MakesThis index next replies.old.items pass.old replies.new.items pass.new)
         (λ _. (pass.new.calls ≡ pass.old.calls) × (replies.new.items ≡ replies.old.items)) }
 {
-    let Ok(part) = u32::try_from(replies.len()) else {
-        drop(next);
-        return Err(NoMemory);
-    };
-    let tag = Tag {
-        conn: pass.conn(),
-        index,
-        part,
+    let tag = match next_tag(pass, index, replies) {
+        Ok(tag) => tag,
+        Err(e) => {
+            drop(next);
+            return Err(e);
+        }
     };
     let ShardCall { shard, call } = next;
     match store.make_call(pass, tag, shard, call) {

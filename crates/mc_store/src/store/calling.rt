@@ -7,7 +7,8 @@ ghost use Rattle.mc_store.specs.Steps.{mine_at, trace_at, IsIdle, HasTaken, HasM
 ghost use Rattle.mc_store.specs.Call.{IfMade, IfTaken, WasFree, WasBusy};
 
 use crate::store::StoreTable;
-use crate::store::plays::{Looks, PutsBack, Tries};
+use crate::store::plays::PutsBack;
+use crate::store::taking::Taking;
 use crate::store::view::View;
 use crate::tried::Tried;
 use atomic_table::Seat;
@@ -15,8 +16,7 @@ use mc_shard::{Made, Shard};
 use zy_base::{Call, NoMemory, Tag};
 
 impl StoreTable {
-    // A load of the shard's word and, if it was even, an exchange. If that took the shard, the call
-    // is made.
+    // Takes the shard, if it is free, and makes the call.
     pub(crate) fn try_on(
         &self,
         seat: &mut Seat<Shard, View>,
@@ -49,29 +49,17 @@ impl StoreTable {
         ensures seat { seat.new.id ≡ seat.old.id }
         ensures steps { (trace_at seat.old.me).steps ≤ (trace_at seat.new.me).steps }
     {
-        let words = &self.table.shared;
-        let word = shard as usize;
-        let loaded = words.load::<Looks>(seat, word);
-        if loaded % 2 == 1 {
-            return Ok(Tried::Busy {
-                call,
-                shard,
-                loaded,
-                found: loaded,
-            });
-        }
-        let found = words.compare_exchange::<Tries>(seat, word, loaded, loaded + 1);
-        if found != loaded {
-            return Ok(Tried::Busy {
+        match self.take(seat, tag.conn, shard) {
+            Taking::Free { even } => match self.call_on(seat, tag, shard, even, call, seen) {
+                Ok(Made { reply, stamp }) => Ok(Tried::Made { reply, stamp }),
+                Err(back) => Err(back),
+            },
+            Taking::Held { loaded, found } => Ok(Tried::Busy {
                 call,
                 shard,
                 loaded,
                 found,
-            });
-        }
-        match self.call_on(seat, tag, shard, loaded, call, seen) {
-            Ok(Made { reply, stamp }) => Ok(Tried::Made { reply, stamp }),
-            Err(back) => Err(back),
+            }),
         }
     }
 
