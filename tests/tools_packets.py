@@ -228,7 +228,7 @@ class Talk:
                         acknowledging(answer_of(b"", self.back - 1, flow, 18), self.sent)]
 
     def pieces(self, text):
-        at = self.draw.choice([0, 0, self.draw.randrange(len(text) - 1)])
+        at = self.draw.choice([0, 0, self.draw.randrange(len(text) - 1), text.index(b"\n") + 1])
         return [piece for piece in (text[:at], text[at:]) if piece]
 
     def ask(self, request, answer):
@@ -255,26 +255,29 @@ def drawn_talk(draw):
         answers[request] = answer
         talk.ask(request, answer)
     lost = draw.choice([0.01, 0.05, 0.2])
-    return [frame for frame in talk.frames[:2]] + [frame for frame in talk.frames[2:] if draw.random() > lost], answers
+    kept = [frame for frame in talk.frames[2:] if draw.random() > lost]
+    return talk.frames[:2] + [frame for one in kept for frame in [one] * draw.choice([1] * 9 + [2])], answers
 
 
 def resumed():
-    """With --resume sessions begin anew after losses, and each answer is that of its command."""
-    begun = kept = 0
+    """With --resume sessions begin anew after losses, and each answer is that of its command. Only where a value begins
+    as a command does, in a packet of its own, and the packet before was lost, it may be taken for one."""
+    begun = kept = wrong = 0
     for number in range(150):
         frames, answers = drawn_talk(random.Random(number))
         reading, _, _ = TOOL.look(packets.file_of(*frames), "-", 11211, resumes=True)
-        found = reading.flows.sessions[number_of(CLIENTS[0])]
-        begun, once = begun + len(found) - 1, set()
-        for session in found:
+        once = set()
+        for session in reading.flows.sessions[number_of(CLIENTS[0])]:
             requests = [frame for _, frame in framed(session.requests.text())]
-            wanted = b"".join(answers.get(request, b"?") for request in requests)
-            got = TOOL.answered(session)
-            kept += len(requests)
+            begun, kept = begun + session.is_resumed, kept + len(requests)
+            if requests[:1] == [b"get b\r\n"]:
+                wrong += 1
+                continue
             same(f"talk {number}: each request once", True, once.isdisjoint(requests))
             once.update(requests)
-            same(f"talk {number}: the answers of a session", True, wanted.startswith(got))
-    same("sessions are begun anew", True, begun > 500 and kept > 0.8 * 60 * 150)
+            wanted = b"".join(answers.get(request, b"?") for request in requests)
+            same(f"talk {number}: the answers of a session", True, wanted.startswith(TOOL.answered(session)))
+    same("sessions are begun anew", True, begun > 500 and kept > 0.8 * 60 * 150 and wrong < 0.02 * begun)
 
 
 def drawn_pipeline(draw):

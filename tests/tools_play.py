@@ -147,6 +147,8 @@ def uniques():
                      "tools/play: 2 uniques translated, 2 sent as they are\n"),
                      played(f"uniques, {name}", server, given, "--recorded", "recorded", *words))
     given = capture(1, [segment(0, text) for text, _ in swaps(77)])
+    says("replies of another recording", "recorded: replies of 1 connections, and the capture has 2: give those of"
+         " its recording", "-", "--server", "127.0.0.1:1", "--recorded", "recorded", given=capture(2, []))
     with Server(unique=1000) as server:
         stored = answered.replace(b"EXISTS\r\n", b"STORED\r\n", 1)
         same("uniques without a recording", (replies([stored]), "tools/play: 1 connections, 10 commands answered\n"
@@ -231,6 +233,8 @@ def words():
     says("no server", usage, "-", status=2)
     says("no capture", usage, "--server", place, status=2)
     says("an unknown word", "no such option: --what; --help lists them", "--what", status=2)
+    says("uniques in two ways", "--recorded is a replies file, for uniques that are not sent --as-is; --help says more",
+         "-", "--server", place, "--recorded", "x", "--as-is", status=2)
     says("no time", "--wait takes a number of seconds, not x", "--wait", "x", status=2)
     says("no file", "none: No such file or directory", "none", "--server", place)
     one = capture(1, [segment(0, b"mn\r\n")])

@@ -429,16 +429,16 @@ def full():
     """The most that a capture has, and no more space for files: all is passed on, and what there is is written."""
     more = ": all is passed on, and nothing more recorded; Ctrl-C ends it, and completes the files"
     with Server() as server:
-        most = 12 + 9 + len(ASKED) + 9 + 10 + 1
-        recorder = Recorder(server.place, "--ends", tool=patched(f"recording.MOST_CAPTURE = {most} + 2 * 9"))
+        most = 12 + 9 + len(ASKED) + 2 * 9 + 9 + 10 + 9 + 4 + 1  # also for a short segment that comes later
+        recorder = Recorder(server.place, "--ends", tool=patched(f"recording.MOST_CAPTURE = {most}"))
         with connected(recorder.place) as one:
             for sent, back in ((ASKED, ANSWERED), (b"wait 0.3\r\n", b""), (b"mn\r\nmn\r\n", b"OK\r\nMN\r\nMN\r\n"),
-                               (ASKED, ANSWERED)):
+                               (b"mn\r\n", b"MN\r\n"), (ASKED, ANSWERED)):
                 one.sendall(sent)
                 same("what is passed on of a connection that was recorded", back, take(one, len(back)))
                 time.sleep(0.1)
             same("a connection that is not recorded", ANSWERED, talk(recorder.place, ASKED))
-        same("a full capture", (1, f"tools/record: my.cap: a capture has at most {most + 18} bytes{more}\n"
+        same("a full capture", (1, f"tools/record: my.cap: a capture has at most {most} bytes{more}\n"
                                    "tools/record: 1 connections were passed on and not recorded\n"
                                 + recorded(1, 3, len(ASKED) + 10, len(ANSWERED) + 4)), recorder.end())
         same("its files", ({(0, 0): ASKED + b"wait 0.3\r\n"}, {(0, 0): ANSWERED + b"OK\r\n"}), files_of())

@@ -40,7 +40,7 @@ class Growing:
         self.size += length
 
     def cut(self, size):
-        """Takes back what was written after so many bytes."""
+        """Cuts it after `size` bytes."""
         os.ftruncate(self.file, size)
         os.lseek(self.file, size, os.SEEK_SET)
         self.size = size

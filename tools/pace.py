@@ -191,12 +191,14 @@ class Pace:
         if self.is_new and text:
             self.is_new, self.is_text = False, text[0] not in ODD
         count = 0
-        for command in self.commands.feed(text) if self.is_text else ():
-            count += command.verb != b"quit"
-            is_meta = command.verb in HIDDEN
-            self.classic += command.answered == ALWAYS and not is_meta
-            self.meta += command.answered == ALWAYS and is_meta
-            self.has_quiet |= command.answered == PERHAPS
+        for verb, answered, _, _ in self.commands.feed(text) if self.is_text else ():
+            count += verb != b"quit"
+            if answered == PERHAPS:
+                self.has_quiet = True
+            elif answered == ALWAYS and verb in HIDDEN:
+                self.meta += 1
+            elif answered == ALWAYS:
+                self.classic += 1
         return count
 
     def heard(self, text):
@@ -209,10 +211,10 @@ class Pace:
 
     def take(self, answer):
         """Takes an answer: a faulty command of either kind may have an error line."""
-        if answer.word in CODES and self.meta or answer.word in META_CODES:
+        if answer.word in META_CODES or self.meta and answer.word in ERRORS:
             self.meta = max(0, self.meta - 1)
-        else:
-            self.classic = max(0, self.classic - 1)
+        elif self.classic:
+            self.classic -= 1
 
     def last(self, text):
         """These further bytes of the server, up to the end of the last answer that is waited for."""
