@@ -139,10 +139,19 @@ class Steps:
     def perhaps(self, group):
         """A command that has an error for an answer, or none."""
         self.groups.take()
-        found = [side.take() if is_fault(side.get()) else (side.taken, None) for side in (self.one, self.other)]
+        answering = self.answering(0, 0)
+        found = [side.take() if answers_it else (side.taken, None) for side, answers_it in zip((self.one, self.other), answering)]
         texts = [text for _, text in found]
         if texts != [None, None]:
             yield self.exchange(ALONE if None in texts else BOTH, group, *found)
+
+    def answering(self, one_at, other_at):
+        """Which sides answer such a command: those whose next answer is an error, unless it is the other's answer to the
+        command after it."""
+        one, other = self.one.get(one_at), self.other.get(other_at)
+        if not (is_fault(one) and is_fault(other)) or one == other:
+            return is_fault(one), is_fault(other)
+        return one != self.other.get(other_at + 1), other != self.one.get(one_at + 1)
 
     def finish(self, exchange):
         """All that is left is one exchange, whose last command is the number of answers that are left."""
@@ -243,9 +252,8 @@ class Steps:
                 line = group[0][1] if group else b""
                 if not group or not is_silent(group):
                     break
-                one_at += is_fault(self.one.get(one_at))
-                other_at += is_fault(self.other.get(other_at))
-                group_at += 1
+                is_one, is_other = self.answering(one_at, other_at)
+                one_at, other_at, group_at = one_at + is_one, other_at + is_other, group_at + 1
             one, other = self.one.get(one_at), self.other.get(other_at)
             if one is not None or other is not None:
                 yield one, other, line
