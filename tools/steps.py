@@ -1,8 +1,8 @@
 """Which answers of two servers belong to one command, also where one of them was silent or said more.
 
 Both sides are in step while they answer the same command. Where they differ, the answers ahead say whether they still
-are: each has to fit its command, and most of them are the same on both sides. If not, the fewest answers are passed over
-after which they are.
+are: each has to fit its command, and most of them are the same on both sides. If not, the fewest answers are passed
+over after which they are.
 """
 import re
 from collections import deque, namedtuple
@@ -11,15 +11,15 @@ from answers import FAULT, answers, groups, name_of, without_uniques
 from meaning import STORAGE
 
 # an exchange: the number of the first command and of the last, the name, the line of the first command and its group,
-# and what two servers answered, each as the number of its first answer and its bytes; None in place of bytes where there
-# is none
+# and what two servers answered, each as the number of its first answer and its bytes; None in place of bytes where
+# there is none
 Exchange = namedtuple("Exchange", "kind first last name line group one other")
-# what an exchange is: the answers of both; that of one, where the other has none and goes on; the end of one output, with
-# the number of answers that are left of the other; and all that is left, where both are never in step again
+# what an exchange is: the answers of both; that of one, where the other has none and goes on; the end of one output,
+# with the number of answers that are left of the other; and all that is left, where both are never in step again
 BOTH, ALONE, ENDED, LEFT = "both", "alone", "ended", "left"
 
-# how many answers are looked at ahead, how many are passed over at most, and for how many the step is not asked again while
-# they fit their commands: for twice as many each time that both are in step
+# how many answers are looked at ahead, how many are passed over at most, and for how many the step is not asked again
+# while they fit their commands: for twice as many each time that both are in step
 LOOK, MOST, LEAST_SURE, MOST_SURE = 64, 8, 16, 1024
 # what counts of each eight answers ahead that differ
 WEIGHTS = (1, 0.7, 0.5, 0.35, 0.25, 0.18, 0.12, 0.09)
@@ -47,7 +47,8 @@ def fits(line, answer):
     words = line.split(None, 1)
     verb = words[0] if words else b""
     if verb in GETTING:
-        return answer.startswith(b"END") or answer.startswith(b"VALUE ") and answer[:400].split(b" ", 2)[1] in line.split()
+        key = answer[:400].split(b" ", 2)[1] if answer.startswith(b"VALUE ") else None
+        return answer.startswith(b"END") or key in line.split()
     return verb in UNKNOWN or verb in FITTING and FITTING[verb].match(answer) is not None
 
 
@@ -139,15 +140,15 @@ class Steps:
     def perhaps(self, group):
         """A command that has an error for an answer, or none."""
         self.groups.take()
-        answering = self.answering(0, 0)
-        found = [side.take() if answers_it else (side.taken, None) for side, answers_it in zip((self.one, self.other), answering)]
+        found = [side.take() if is_answering else (side.taken, None)
+                 for side, is_answering in zip((self.one, self.other), self.answering(0, 0))]
         texts = [text for _, text in found]
         if texts != [None, None]:
             yield self.exchange(ALONE if None in texts else BOTH, group, *found)
 
     def answering(self, one_at, other_at):
-        """Which sides answer such a command: those whose next answer is an error, unless it is the other's answer to the
-        command after it."""
+        """Which sides answer such a command: those whose next answer is an error, unless it is the other's answer to
+        the command after it."""
         one, other = self.one.get(one_at), self.other.get(other_at)
         if not (is_fault(one) and is_fault(other)) or one == other:
             return is_fault(one), is_fault(other)
@@ -202,7 +203,7 @@ class Steps:
     # ---- the step
 
     def move(self):
-        """What is passed over so that both are in step; a move of nothing where they are, and None if they never are."""
+        """What is passed over so that both are in step; a move of nothing where they are; None if they never are."""
         stay = Move(0, 0, 0, 0)
         if self.sure and all(self.fits(self.line(0), side.get()) for side in (self.one, self.other)):
             return stay
@@ -241,8 +242,8 @@ class Steps:
                 yield Move(0, 0, count, count + 1)
 
     def pairs(self, one_at, other_at, group_at):
-        """The next answers after some that are passed over, in step, each pair with the line of its command; None in place
-        of an answer at an end. They end before commands whose answers are not known one by one."""
+        """The next answers after some that are passed over, in step, each pair with the line of its command; None in
+        place of an answer at an end. They end before commands whose answers are not known one by one."""
         for _ in range(LOOK):
             line = None
             while self.groups:
