@@ -16,7 +16,7 @@ from apart import Callers
 from causes import CAUSES, Causes
 from formats import Part, capture, close, journal, pieces, read_capture, replies, sessions
 from meaning import commands_of
-from model import text_of
+from model import Shard, calls, text_of
 from steps import BOTH, ENDED, LEFT, by_answers, by_commands
 
 FIRST = os.path.join(TOP, "examples/first.replies")
@@ -230,7 +230,9 @@ def steps():
                [b"".join(answers[:at] + [b"ERROR\r\n"] * 3 + answers[at:])],
                "3 differences: touch 3; --all prints them", "touch 3: answered in b alone")
     key = b"k" * 251
-    caused("a long key with noreply", [b"set %s 0 0 1 noreply\r\nx\r\n" % key + sent], [whole],
+    caused("a long key with noreply", [b"set %s 0 0 1 noreply\r\nx\r\n" % key + sent], [b"ERROR\r\n" + whole],
+           [b"CLIENT_ERROR bad command line format\r\nERROR\r\n" + whole], STEP, "set 1: answered in b alone")
+    caused("and without its block", [b"set %s 0 0 1 noreply\r\nx\r\n" % key + sent], [whole],
            [b"CLIENT_ERROR bad command line format\r\nERROR\r\n" + whole],
            "2 differences: set 1, other lines 1; --all prints them", "set 1, other lines 1: answered in b alone")
     lines = compared(replies([whole]), replies([b"ERROR\r\n" + whole]))[1]
@@ -240,6 +242,23 @@ def steps():
            "50 differences: get 50; --all prints them", "get 50" + SERVERS)
     caused("other traffic", [sent], [b"END\r\n" * 100], [b"OK\r\n" * 100],
            "100 answers: out of step, and not compared, since they do not fit the commands; is the capture of other traffic?")
+
+
+def many_steps():
+    """Drawn sessions with many commands on which one server is silent."""
+    for number in range(30):
+        draw, shard, sent, one, other, silent = random.Random(number), Shard(0, 1), [], [], [], 0
+        for _ in range(150):
+            line = draw.choice((b"get k%d\r\n", b"get k%d\r\n", b"set k%d 0 0 1\r\nx\r\n", b"delete k%d\r\n", b"mg k%d v\r\n",
+                                b"touch k%d 0 noreply\r\n", b"append k%d 0 0 1\r\ny\r\n")) % draw.randrange(6)
+            [command] = commands_of(line)
+            text = text_of(command, [shard.reply(call) for _, call in calls(1, command)])
+            silent += command.verb == "fault"
+            sent.append(line)
+            one.append(b"" if command.verb == "fault" else text)
+            other.append(text)
+        caused(f"many silent commands {number}", [b"".join(sent)], [b"".join(one)], [b"".join(other)],
+               f"{silent} differences: touch {silent}; --all prints them", f"touch {silent}: answered in b alone")
 
 
 def uniques():
@@ -345,4 +364,4 @@ def large():
 
 if __name__ == "__main__":
     carry_out(first_differences, one_answer_each, all_differences, silent_commands, not_recorded, items_from_before,
-              shared_keys, steps, uniques, other_causes, drawn_captures, edited_outputs, large)
+              shared_keys, steps, many_steps, uniques, other_causes, drawn_captures, edited_outputs, large)

@@ -95,7 +95,8 @@ def answered(arrivals, name):
     texts, wanted = outputs(name), set(arrivals.sessions())
     if wanted != set(texts):
         raise Fault(f"not of the same traffic: {ends.name_of(arrivals.name)} has {arrivals.count} connections and"
-                    f" {len(wanted)} sessions, {ends.name_of(name)} has {len({key[0] for key in texts})} and {len(texts)}")
+                    f" {len(wanted)} sessions, {ends.name_of(name)} has {len({key[0] for key in texts})} and"
+                    f" {len(texts)}")
     sessions = {key: Session(b"".join(found), texts[key]) for key, found in streams.items()}
     for arrival in arrivals.commands():
         yield arrival, sessions[arrival[:2]].answer()

@@ -1,14 +1,14 @@
 """Why two servers differ in their answers to the commands of a capture.
 
-Of each key it is kept what the capture did to it so far, and the cause of an earlier difference in it: what follows from
-that has the same cause.
+Of each key it is kept what the capture did to it so far, and the cause of an earlier difference in it: what follows
+from that has the same cause.
 """
 from answers import items
 from apart import stored_by
 from meaning import framed
 
-# the causes, from the one that says least of the servers to the one that says most; a difference in several keys has the
-# last one that there is
+# the causes, from the one that says least of the servers to the one that says most; a difference in several keys has
+# the last one that there is
 BEFORE, UNIQUES, EXPIRY, REFUSED, ORDER, QUIET, SERVERS = (
     "before", "uniques", "expiry", "refused", "order", "quiet", "servers")
 CAUSES = (BEFORE, UNIQUES, EXPIRY, REFUSED, ORDER, QUIET, SERVERS)
@@ -28,7 +28,8 @@ TOUCHING = (b"touch", b"gat", b"gats")
 
 
 def is_there(command, answer):
-    """Whether an answer to a command other than `get` and `gets` says that its key has an item; None where it does not."""
+    """Whether an answer to a command other than `get` and `gets` says that its key has an item; None where it says
+    nothing of it."""
     word = answer.split(None, 1)[0] if answer.strip() else b""
     if command.verb in ("incr", "decr"):
         is_number = word.isdigit() or answer.startswith(b"CLIENT_ERROR cannot")

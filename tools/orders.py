@@ -1,9 +1,10 @@
 """An order of commands that came close to each other in which a server may have answered as it was recorded.
 
-A server takes the commands of several connections in an order of its own. Each command was carried out after it came and,
-if its client waits for answers, before the next one of its connection came. So it may change places with those that came
-in between. A `get` whose recorded answer is what its key has goes at once. One that shows what a later `set` stores waits
-for that, and a `set` waits as long as it can. A `set` that no `get` shows any more goes right before another one.
+A server takes the commands of several connections in an order of its own. Each command was carried out after it came
+and, if its client waits for answers, before the next one of its connection came. So it may change places with those
+that came in between. A `get` whose recorded answer is what its key has goes at once. One that shows what a later `set`
+stores waits for that, and a `set` waits as long as it can. A `set` that no `get` shows any more goes right before
+another one.
 """
 from collections import Counter
 
@@ -33,7 +34,8 @@ class Order:
 
     def __init__(self, wanted):
         self.wanted, self.is_unknown, self.items, self.waiting, self.by_connection = wanted, False, {}, {}, {}
-        self.places, self.last_set = [], {}  # commands, with those that are right before one; and the place of a key's set
+        # commands, each after those that are put right before it; and the place of the last `set` of a key
+        self.places, self.last_set = [], {}
 
     def add(self, arrival, answer):
         """Another command came, and was answered by this."""

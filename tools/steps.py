@@ -1,26 +1,28 @@
 """Which answers of two servers belong to one command, also where one of them was silent or said more.
 
 Both sides are in step while they answer the same command. Where they differ, the answers ahead say whether they still
-are: each has to fit its command, and most of them are the same on both sides. If not, the fewest answers are passed over
-after which they are.
+are: each has to fit its command, and most of them are the same on both sides. If not, the fewest answers are passed
+over after which they are.
 """
 import re
 from collections import deque, namedtuple
 
-from answers import FAULT, META, answers, groups, name_of, without_uniques
+from answers import FAULT, answers, groups, name_of, without_uniques
 from meaning import STORAGE
 
 # an exchange: the number of the first command and of the last, the name, the line of the first command and its group,
-# and what two servers answered, each as the number of its first answer and its bytes; None in place of bytes where there
-# is none
+# and what two servers answered, each as the number of its first answer and its bytes; None in place of bytes where
+# there is none
 Exchange = namedtuple("Exchange", "kind first last name line group one other")
-# what an exchange is: the answers of both; that of one, where the other has none and goes on; the end of one output, with
-# the number of answers that are left of the other; and all that is left, where both are never in step again
+# what an exchange is: the answers of both; that of one, where the other has none and goes on; the end of one output,
+# with the number of answers that are left of the other; and all that is left, where both are never in step again
 BOTH, ALONE, ENDED, LEFT = "both", "alone", "ended", "left"
 
-# how many answers are looked at ahead, how many are passed over at most, and for how many the step is not asked again while
-# they fit their commands: for twice as many each time that both are in step
+# how many answers are looked at ahead, how many are passed over at most, and for how many the step is not asked again
+# while they fit their commands: for twice as many each time that both are in step
 LOOK, MOST, LEAST_SURE, MOST_SURE = 64, 8, 16, 1024
+# what counts of each eight answers ahead that differ
+WEIGHTS = (1, 0.7, 0.5, 0.35, 0.25, 0.18, 0.12, 0.09)
 # how far the answers of both are passed over, and how many commands
 Move = namedtuple("Move", "one other groups cost")
 
@@ -28,7 +30,8 @@ GETTING = (b"get", b"gets", b"gat", b"gats", b"bget")
 FITTING = {
     **{verb.encode(): re.compile(rb"STORED|NOT_STORED|EXISTS|NOT_FOUND") for verb in [*STORAGE, "cas"]},
     **dict.fromkeys((b"incr", b"decr"), re.compile(rb"[0-9]|NOT_FOUND")),
-    **dict.fromkeys((b"mg", b"ms", b"md", b"ma", b"me"), META),
+    b"mg": re.compile(rb"(HD|VA|EN)\b"), b"md": re.compile(rb"(HD|NF|EX)\b"), b"me": re.compile(rb"(ME|EN)\b"),
+    b"ms": re.compile(rb"(HD|NS|EX|NF)\b"), b"ma": re.compile(rb"(HD|VA|NF|NS|EX)\b"),
     **dict.fromkeys((b"verbosity", b"flush_all", b"cache_memlimit"), re.compile(rb"OK")),
     b"delete": re.compile(rb"DELETED|NOT_FOUND"), b"touch": re.compile(rb"TOUCHED|NOT_FOUND"),
     b"version": re.compile(rb"VERSION"), b"stats": re.compile(rb"STAT |END|RESET|OK"), b"mn": re.compile(rb"MN"),
@@ -44,7 +47,8 @@ def fits(line, answer):
     words = line.split(None, 1)
     verb = words[0] if words else b""
     if verb in GETTING:
-        return answer.startswith(b"END") or answer.startswith(b"VALUE ") and answer[:400].split(b" ", 2)[1] in line.split()
+        key = answer[:400].split(b" ", 2)[1] if answer.startswith(b"VALUE ") else None
+        return answer.startswith(b"END") or key in line.split()
     return verb in UNKNOWN or verb in FITTING and FITTING[verb].match(answer) is not None
 
 
@@ -93,9 +97,13 @@ class Ahead:
 
 
 def is_silent(group):
-    """Whether a command is one that zygos answers and a memcached does not: a faulty line with noreply."""
+    """Whether a command is one that zygos answers and a memcached mostly does not: a faulty line with noreply."""
     _, line, command = group[0]
-    return command.verb == "fault" and line.rstrip().endswith(b" noreply")
+    return command.verb == "fault" and len(group) == 1 and line.rstrip().endswith(b" noreply")
+
+
+def is_fault(answer):
+    return answer is not None and FAULT.match(answer) is not None
 
 
 class Steps:
@@ -118,40 +126,43 @@ class Steps:
         while self.one.get() is not None or self.other.get() is not None:
             group = self.groups.get() if self.groups else None
             is_open = group is not None and not group.is_whole
-            if (self.one.get() is None or self.other.get() is None) and not is_open:
-                yield self.ended(group)
+            if group and is_silent(group):
+                yield from self.perhaps(group)
+            elif (self.one.get() is None or self.other.get() is None) and not is_open:
+                yield self.finish(self.exchange(ENDED, group, (self.one.taken, self.one.get()),
+                                                (self.other.taken, self.other.get())))
             elif group and (len(group) > 1 or is_open):
                 self.groups.take()
                 yield self.exchange(BOTH, group, self.one.take_group(group), self.other.take_group(group))
             else:
                 yield from self.both(group)
 
-    def ended(self, group):
-        """One output is at its end."""
-        if group and is_silent(group):
-            return self.alone(ALONE, group)
-        found = self.exchange(ENDED, group, (self.one.taken, self.one.get()), (self.other.taken, self.other.get()))
-        return self.finish(found)
+    def perhaps(self, group):
+        """A command that has an error for an answer, or none."""
+        self.groups.take()
+        found = [side.take() if is_answering else (side.taken, None)
+                 for side, is_answering in zip((self.one, self.other), self.answering(0, 0))]
+        texts = [text for _, text in found]
+        if texts != [None, None]:
+            yield self.exchange(ALONE if None in texts else BOTH, group, *found)
+
+    def answering(self, one_at, other_at):
+        """Which sides answer such a command: those whose next answer is an error, unless it is the other's answer to
+        the command after it."""
+        one, other = self.one.get(one_at), self.other.get(other_at)
+        if not (is_fault(one) and is_fault(other)) or one == other:
+            return is_fault(one), is_fault(other)
+        return one != self.other.get(other_at + 1), other != self.one.get(one_at + 1)
 
     def finish(self, exchange):
         """All that is left is one exchange, whose last command is the number of answers that are left."""
         return exchange._replace(last=max(self.one.left(), self.other.left()))
 
-    def alone(self, kind, group):
-        """A command that one side answered."""
-        if group:
-            self.groups.take()
-        return self.exchange(kind, group, *((side.take() if side.get() is not None else (side.taken, None))
-                                            for side in (self.one, self.other)))
-
     def both(self, group):
         """Both sides go on."""
         one, other = self.one.get(), self.other.get()
         if one == other or alike(one, other):
-            if group and is_silent(group) and not fits(group[0][1], one):
-                self.groups.take()
-            else:
-                yield self.pair(group)
+            yield self.pair(group)
             return
         for side, text, longer in ((self.one, one, other), (self.other, other, one)):
             if side.get(1) is None and longer.startswith(text):
@@ -192,7 +203,7 @@ class Steps:
     # ---- the step
 
     def move(self):
-        """What is passed over so that both are in step; a move of nothing where they are, and None if they never are."""
+        """What is passed over so that both are in step; a move of nothing where they are; None if they never are."""
         stay = Move(0, 0, 0, 0)
         if self.sure and all(self.fits(self.line(0), side.get()) for side in (self.one, self.other)):
             return stay
@@ -230,11 +241,31 @@ class Steps:
                 yield Move(count, 0, 0, count + 0.5)
                 yield Move(0, 0, count, count + 1)
 
+    def pairs(self, one_at, other_at, group_at):
+        """The next answers after some that are passed over, in step, each pair with the line of its command; None in
+        place of an answer at an end. They end before commands whose answers are not known one by one."""
+        for _ in range(LOOK):
+            line = None
+            while self.groups:
+                group = self.groups.get(group_at)
+                if group and (len(group) > 1 or not group.is_whole):
+                    return
+                line = group[0][1] if group else b""
+                if not group or not is_silent(group):
+                    break
+                is_one, is_other = self.answering(one_at, other_at)
+                one_at, other_at, group_at = one_at + is_one, other_at + is_other, group_at + 1
+            one, other = self.one.get(one_at), self.other.get(other_at)
+            if one is not None or other is not None:
+                yield one, other, line
+            if one is None or other is None:
+                return
+            one_at, other_at, group_at = one_at + 1, other_at + 1, group_at + 1
+
     def ahead(self):
         """How many of the next answers differ, how many do not fit their commands, and how many there are."""
         differ = odd = seen = 0
-        for at in range(LOOK):
-            one, other, line = self.one.get(at), self.other.get(at), self.line(at)
+        for one, other, line in self.pairs(0, 0, 0):
             if one is None or other is None:
                 break
             seen += 1
@@ -253,21 +284,19 @@ class Steps:
         return line is None or fits(line, answer)
 
     def cost(self, move, most, is_paired=False):
-        """How badly the next answers agree after a move: no more than about `most` is counted."""
+        """How badly the next answers agree after a move, the nearest most; no more than about `most` is counted."""
         cost = move.cost
         if is_paired:  # the first answers belong together all the same
             line = self.line(0)
             cost += 1 + sum(not self.fits(line, side.get()) for side in (self.one, self.other))
         for side, count in ((self.one, move.one), (self.other, move.other)):
-            for at in range(is_paired, min(count, move.groups)):
-                if (answer := side.get(at)) is not None and count == move.groups:
+            for at in range(is_paired, count if count == move.groups else 0):
+                if (answer := side.get(at)) is not None:
                     cost += not self.fits(self.line(at), answer)
-        for at in range(LOOK):
-            one, other, line = self.one.get(move.one + at), self.other.get(move.other + at), self.line(move.groups + at)
-            if one is None or other is None:
-                return cost + sum(1 + (not self.fits(line, text)) for text in (one, other) if text is not None)
-            differ = one != other and not alike(one, other)
-            cost += differ + (not self.fits(line, one)) + (differ and not self.fits(line, other))
+        for at, (one, other, line) in enumerate(self.pairs(move.one, move.other, move.groups)):
+            texts = [text for text in (one, other) if text is not None]
+            differ = len(texts) < 2 or one != other and not alike(one, other)
+            cost += WEIGHTS[at // 8] * (differ + sum(not self.fits(line, text) for text in texts[: 1 + differ]))
             if cost > most:
                 break
         return cost
