@@ -40,12 +40,12 @@ pub record RestTo (cores : ℕ) (before after : Cored) (nap : Nap) : Type 0 wher
   pub loaded : after ≡ stepped (seeing_stop stop (seeing_done done before.control)) turned
   pub is : nap ≡ nap_of cores (has_counted before.control.role) turn done stop
 
--- the core's pass at the bells after a nap: if it rested its token was taken, while its pass on the control words was
--- this; and else it made no step
+-- the core's pass at the bells after a nap: if it rested its token was taken, when it had made as many steps on the
+-- control words as this pass has; and else it made no step
 abbrev pub bell_after : Held → Nap → bells.Passed → bells.Passed
 bell_after control (Awake turn) p = p
 bell_after control (Ending done stop) p = p
-bell_after control Rested p = bells.resting (Some control) p
+bell_after control Rested p = bells.resting (Some control.trace.steps) p
 
 -- what a nap came to, among so many cores, with the core's pass at the bells before and after it: the core announced
 -- itself, took its turn, loaded done and stop, rested or not, and then withdrew
@@ -56,8 +56,8 @@ pub record NapTo (cores : ℕ) (before after : Cored) (bell bell' : bells.Passed
   pub loaded : Cored
   pub announces : announced ≡ with_announcement true set before
   pub rests : RestTo cores announced loaded nap
-  -- while it rested, its pass on the control words was as it was after the load of stop
+  -- it rested, if it did, after the load of stop and before any further step on the control words
   pub rested : bell' ≡ bell_after loaded.control nap bell
-  -- it withdrew after that, by its next step on the control words
+  -- it withdrew after that, by its next step on them
   pub withdraws : after ≡ with_announcement false cleared loaded
   pub last : after.control.trace.stop.step < after.control.trace.sleepers.step

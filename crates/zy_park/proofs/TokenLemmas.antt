@@ -1,4 +1,5 @@
 -- Each step on a token keeps its rule.
+use Rattle.std.specs.Prelude.{Option}
 use Rattle.std.proofs.Common.{◌≡◌, ℕ, zero, suc, ◌+◌, true, false, List, [], ◌∷◌, ◌++◌, set, refl, sym, ap, arith}
 use mathlib.Core.Option.{some, some-injective, some-ne-none}
 use lib.ListN.{get_elem?}
@@ -32,5 +33,5 @@ enters x vs h = let a = rung_end vs unrung in let b = taken_end vs unrung in ome
 pub rings_kept : (id : ℕ) (v : View) → Turns TokenRule id v (λ _. true) puts
 rings_kept id v x vs h at = let a = rung_set vs id v (rings v) at in let b = taken_set vs id v (rings v) at in (rings v, omega arith, refl)
 
-pub takes_kept : (id : ℕ) (v : View) → TurnsAt TokenRule id v true false takes_from
-takes_kept id v vs h at = let w = takes v in let a = rung_set vs id v w at in let b = taken_set vs id v w at in (w, omega arith, refl)
+pub takes_kept : (steps : Option ℕ) (id : ℕ) (v : View) → TurnsAt TokenRule id v true false (takes_from steps)
+takes_kept steps id v vs h at = let w = takes steps v in let a = rung_set vs id v w at in let b = taken_set vs id v w at in (w, omega arith, refl)

@@ -1,8 +1,7 @@
 -- What contracts see of the bells, of the root, and of the passes that it gave.
-use Rattle.std.specs.Prelude.{◌≡◌, ℕ, zero, suc, ◌+◌, ◌<◌, ◌==◌, Bool, false, List, [], ◌∷◌, length, map, Option, Some, None, slice_get, if◌then◌else◌}
+use Rattle.std.specs.Prelude.{◌≡◌, ℕ, zero, suc, ◌+◌, ◌<◌, ◌==◌, Bool, false, List, [], ◌∷◌, length, map, Option, Some, slice_get, if◌then◌else◌}
 use Rattle.std.specs.Int.{bit_at}
 use Rattle.atomic_table.specs.Seated.{TableId}
-use Rattle.zy_control.specs.Pass.{Held}
 use Rattle.zy_park.specs.declared.view.View.{View}
 use Rattle.zy_park.specs.Token.{unrung, rings, takes}
 
@@ -10,16 +9,14 @@ use Rattle.zy_park.specs.Token.{unrung, rings, takes}
 abbrev pub Bells : Type 0
 Bells = List TableId
 
--- a core's pass: the bells, its core, what its seat at each bell knows, and the core's pass on the control words as it
--- was during the last rest, if that rest was given one
+-- a core's pass: the bells, its core, and what its seat at each bell knows
 pub record Passed : Type 0 where
   pub bells : Bells
   pub core : ℕ
   pub views : List View
-  pub rested : Option Held
 
-abbrev pub passed : Bells → ℕ → List View → Option Held → Passed
-passed bells core views rested = record { bells = bells; core = core; views = views; rested = rested }
+abbrev pub passed : Bells → ℕ → List View → Passed
+passed bells core views = record { bells = bells; core = core; views = views }
 
 -- a root: the bells, which cores were given their pass, and what its own seat at each bell knows
 pub record Rooted : Type 0 where
@@ -36,7 +33,7 @@ new_root bells = rooted bells (map (λ (id : TableId). false) bells) (map (λ (i
 
 -- the pass of this core at these bells, which has neither put nor taken a token
 abbrev pub new_pass : Bells → ℕ → Passed
-new_pass bells core = passed bells core (map (λ (id : TableId). unrung) bells) None
+new_pass bells core = passed bells core (map (λ (id : TableId). unrung) bells)
 
 -- the core was not given its pass
 abbrev pub IsFree : Rooted → ℕ → Type 0
@@ -56,16 +53,16 @@ change_at f (suc i) (v ∷ vs) = v ∷ change_at f i vs
 
 -- the token of this core was put by the pass
 abbrev pub ringing : ℕ → Passed → Passed
-ringing core p = passed p.bells p.core (change_at rings core p.views) p.rested
+ringing core p = passed p.bells p.core (change_at rings core p.views)
 
 -- and by the root
 abbrev pub ringing_from : ℕ → Rooted → Rooted
 ringing_from core r = rooted r.bells r.given (change_at rings core r.views)
 
--- the token of the pass's core was taken, in a rest during which the core's pass on the control words was this, if the
--- rest was given one
-abbrev pub resting : Option Held → Passed → Passed
-resting control p = passed p.bells p.core (change_at takes p.core p.views) control
+-- the token of the pass's core was taken, in a rest before which the core had made so many steps on the control words,
+-- if the rest was given its pass on them
+abbrev pub resting : Option ℕ → Passed → Passed
+resting steps p = passed p.bells p.core (change_at (takes steps) p.core p.views)
 
 -- the views from this core on, after the token of each core was put whose bit is 1 in the word
 abbrev pub rung_by : ℕ → ℕ → List View → List View
@@ -74,7 +71,7 @@ rung_by word core (v ∷ vs) = (if bit_at word core == 1 then rings v else v) �
 
 -- the token of each core whose bit is 1 in the word was put by the pass
 abbrev pub ringing_each : ℕ → Passed → Passed
-ringing_each word p = passed p.bells p.core (rung_by word 0 p.views) p.rested
+ringing_each word p = passed p.bells p.core (rung_by word 0 p.views)
 
 -- and by the root
 abbrev pub ringing_each_from : ℕ → Rooted → Rooted

@@ -1,5 +1,5 @@
 -- The token of a core, what the seats at it know, and the rule, which holds between any two steps.
-use Rattle.std.specs.Prelude.{◌≡◌, ℕ, ◌+◌, ◌≤◌, Bool, true, false, List, [], ◌∷◌}
+use Rattle.std.specs.Prelude.{◌≡◌, ℕ, ◌+◌, ◌≤◌, Bool, true, false, List, [], ◌∷◌, Option, None}
 use Rattle.zy_park.specs.declared.view.View.{View}
 
 -- 1 for a token that is there, 0 for one that is not
@@ -9,30 +9,31 @@ worth false = 0
 
 -- ---- views
 
-abbrev pub view : ℕ → ℕ → Bool → View
-view rung taken token = record { rung = rung; taken = taken; token = token }
+abbrev pub view : ℕ → ℕ → Bool → Option ℕ → View
+view rung taken token rested_at = record { rung = rung; taken = taken; token = token; rested_at = rested_at }
 
 -- the view that each seat begins with: it has neither put nor taken the token
 abbrev pub unrung : View
-unrung = view 0 0 false
+unrung = view 0 0 false None
 
 -- the seat has put the token, which was there after that step
 abbrev pub rings : View → View
-rings v = view (v.rung + 1) v.taken true
+rings v = view (v.rung + 1) v.taken true v.rested_at
 
--- the seat has taken the token, which was no longer there after that step
-abbrev pub takes : View → View
-takes v = view v.rung (v.taken + 1) false
+-- the seat has taken the token, which was no longer there after that step, in a rest of a core that had made so many
+-- steps on the control words, if the rest was given its pass on them
+abbrev pub takes : Option ℕ → View → View
+takes steps v = view v.rung (v.taken + 1) false steps
 
 -- ---- steps: the view before, whether the token was there before and after, and the view after
 
 -- the token was put
 abbrev pub puts : View → Bool → Bool → View → Type 0
-puts v was is w = w ≡ view (v.rung + 1) v.taken is
+puts v was is w = w ≡ view (v.rung + 1) v.taken is v.rested_at
 
--- the token was taken, if it was there
-abbrev pub takes_from : View → Bool → Bool → View → Type 0
-takes_from v was is w = w ≡ view v.rung (v.taken + worth was) is
+-- the token was taken, if it was there, in such a rest
+abbrev pub takes_from : Option ℕ → View → Bool → Bool → View → Type 0
+takes_from steps v was is w = w ≡ view v.rung (v.taken + worth was) is steps
 
 -- ---- the rule
 

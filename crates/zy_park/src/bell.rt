@@ -7,7 +7,7 @@ use crate::view::View;
 use crossbeam_utils::rule::{Outcome, Protocol};
 use crossbeam_utils::sync::parker::{Pass, RuledParker, RuledUnparker};
 use std::alloc::Global;
-use std::marker::Model;
+use std::marker::{Brand, Model, PhantomData};
 use std::sync::Wait;
 use zy_base::NoMemory;
 
@@ -31,13 +31,28 @@ impl Outcome<bool, View> for Rings {
     ghost then = { puts };
 }
 
-// The token was taken.
-struct Takes;
+// How many steps a core that rests has made on the control words, if its rest is given its pass.
+pub(crate) trait Numbered {
+    ghost use Rattle.std.specs.Prelude.{ℕ, Option};
 
-impl Outcome<bool, View> for Takes {
+    ghost number: { Option ℕ };
+}
+
+impl Numbered for Brand {
+    ghost use Rattle.std.specs.Prelude.{None};
+
+    ghost number = { None };
+}
+
+// The token was taken.
+struct Takes<J> {
+    marker: PhantomData<J>,
+}
+
+impl<J: Numbered> Outcome<bool, View> for Takes<J> {
     ghost use Rattle.zy_park.specs.Token.{takes_from};
 
-    ghost then = { takes_from };
+    ghost then = { takes_from J.number };
 }
 
 // The end that puts the token. Contracts see which table the token is in.
@@ -122,10 +137,10 @@ impl Bell {
 
 impl Sleeper {
     // Waits until the token is there, and takes it.
-    pub(crate) fn rest<R: Wait>(&self, rt: &R, seat: &mut BellSeat)
+    pub(crate) fn rest<J: Numbered, R: Wait>(&self, rt: &R, seat: &mut BellSeat)
         requires table { seat.old.table ≡ self.now }
-        ensures value { seat.new ≡ seated seat.old.table (takes seat.old.view) }
+        ensures value { seat.new ≡ seated seat.old.table (takes J.number seat.old.view) }
     {
-        self.parker.park_as::<Takes, R>(rt, &mut seat.pass);
+        self.parker.park_as::<Takes<J>, R>(rt, &mut seat.pass);
     }
 }

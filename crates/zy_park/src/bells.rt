@@ -1,17 +1,16 @@
 //! The bells of all cores.
-ghost use Rattle.std.specs.Prelude.{◌≡◌, ◌≢◌, ◌<◌, ◌≤◌, ℕ, length, true, Some, None, slice_set, option_map, IfOk, OnOk, OnErr};
+ghost use Rattle.std.specs.Prelude.{◌≡◌, ◌≢◌, ◌<◌, ◌≤◌, ℕ, length, true, Some, None, slice_set, IfOk, OnOk, OnErr};
 ghost use Rattle.zy_park.specs.Pass.{new_root, rooted, IsFree, GaveNone, new_pass, ringing, ringing_from, ringing_each, ringing_each_from, resting};
 
 mod making;
 mod ringing;
 
-use crate::bell::Bell;
+use crate::bell::{Bell, Numbered};
 use crate::bells::making::{add_all, enter_each, take_sleeper};
 use crate::bells::ringing::{rest_at, ring_at, ring_each_at};
 use crate::pass::{BellPass, BellRoot};
 use std::alloc::Global;
-use std::marker::Model;
-use std::snapshot::Snapshot;
+use std::marker::{Brand, Model};
 use std::sync::Wait;
 use zy_base::NoMemory;
 use zy_control::ControlPass;
@@ -69,7 +68,6 @@ impl Bells {
             core,
             sleeper,
             seats,
-            rested: None,
         })
     }
 
@@ -116,31 +114,31 @@ impl Bells {
         requires bells { pass.old.bells ≡ self.now }
         ensures value { pass.new ≡ resting None pass.old }
     {
-        self.rest_as(rt, pass, None);
+        self.rest_as::<Brand, R>(rt, pass, None);
     }
 
-    /// As `rest`, by a core that has this pass on the control words. The bell pass keeps, for
-    /// contracts, what the pass is during this rest: so they can say which of its steps on the
-    /// control words the core made before the rest, and which after it.
+    /// As `rest`, by a core that has this pass on the control words. For contracts the bell pass keeps
+    /// how many steps that pass has made, which is left as it is: so they can say which of its steps
+    /// on the control words the core made before it rested, and which after that.
     pub fn rest_by<R: Wait>(&self, rt: &R, pass: &mut BellPass, control: &ControlPass)
         requires bells { pass.old.bells ≡ self.now }
-        ensures value { pass.new ≡ resting (Some control.now) pass.old }
+        ensures value { pass.new ≡ resting (Some control.now.trace.steps) pass.old }
     {
-        self.rest_as(rt, pass, Some(Snapshot::of(control)));
+        self.rest_as::<Brand, R>(rt, pass, Some(control));
     }
 
-    // Rests, and keeps the pass on the control words that it was given, if any.
-    fn rest_as<R: Wait>(
+    // The same, where the type has the number of steps of the pass on the control words. That pass is
+    // lent for contracts alone.
+    fn rest_as<J: Numbered, R: Wait>(
         &self,
         rt: &R,
         pass: &mut BellPass,
-        control: Option<Snapshot<ControlPass>>,
+        _control: Option<&ControlPass>,
     )
         requires bells { pass.old.bells ≡ self.now }
-        ensures value { pass.new ≡ resting (option_map (λ s. s.value) control) pass.old }
+        ensures value { pass.new ≡ resting J.number pass.old }
     {
-        rest_at(rt, &pass.sleeper, &mut pass.seats, pass.core);
-        pass.rested = control;
+        rest_at::<J, R>(rt, &pass.sleeper, &mut pass.seats, pass.core);
     }
 
     /// The number of cores.

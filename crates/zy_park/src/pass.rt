@@ -3,30 +3,24 @@ ghost use Rattle.std.specs.Prelude.{◌≡◌};
 
 use crate::bell::{BellSeat, Sleeper};
 use std::marker::Model;
-use std::snapshot::Snapshot;
-use zy_control::ControlPass;
 
 /// The pass of a core: its own parker, and a seat at each bell. Contracts see the bells, its core,
-/// what each of its seats knows, and the core's pass on the control words as it was during the last
-/// rest.
+/// and what each of its seats knows.
 #[derive(Drop)]
 pub struct BellPass {
     pub(crate) core: u32,
     pub(crate) sleeper: Sleeper,
     pub(crate) seats: Vec<BellSeat>,
-    // The pass on the control words with which the core rested last, for contracts alone.
-    pub(crate) rested: Option<Snapshot<ControlPass>>,
 }
 
 impl Model for BellPass {
-    ghost use Rattle.std.specs.Prelude.{◌≡◌, Some, slice_get, option_map};
+    ghost use Rattle.std.specs.Prelude.{◌≡◌, Some, slice_get};
     ghost use Rattle.zy_park.specs.Pass.{Passed, passed};
     ghost use Rattle.zy_park.specs.Bell.{tables_of, views_of};
 
     ghost Value = { Passed };
 
-    ghost view = { λ p. passed (tables_of p.seats.items) p.core (views_of p.seats.items)
-        (option_map (λ s. s.value) p.rested) };
+    ghost view = { λ p. passed (tables_of p.seats.items) p.core (views_of p.seats.items) };
 
     ghost invariant = { λ p. slice_get (tables_of p.seats.items) p.core ≡ Some p.sleeper };
 }

@@ -18,9 +18,9 @@ invariant_of-root c =
 
 pub returns-clause-value : goal.returns-clause-value
 returns-clause-value c =
-    ap (λ seats. passed (tables_of seats) c.args.core (views_of seats) None) c.in_ok-seats.ensures.value
-    ∙ ap (λ ids. passed ids c.args.core (views_of (map new_seat c.self.inside.items.items)) None) (new_tables c.self.inside.items.items)
-    ∙ ap (λ views. passed c.self.inside.items.items c.args.core views None) (new_views c.self.inside.items.items)
+    ap (λ seats. passed (tables_of seats) c.args.core (views_of seats)) c.in_ok-seats.ensures.value
+    ∙ ap (λ ids. passed ids c.args.core (views_of (map new_seat c.self.inside.items.items))) (new_tables c.self.inside.items.items)
+    ∙ ap (λ views. passed c.self.inside.items.items c.args.core views) (new_views c.self.inside.items.items)
     ∙ ap (λ ids. new_pass ids c.args.core) c.self.view_is
 
 pub returns-clause-ok : goal.returns-clause-ok
