@@ -1,6 +1,8 @@
 -- The table of a core's connections, with one further connection, and the places that it has.
-use Rattle.std.proofs.Common.{◌≡◌, ◌≢◌, ℕ, zero, suc, ◌+◌, List, [], ◌∷◌, ◌++◌, length, Option, None, Some, slice_get, refl, sym, ap, ◌∙◌, subst, ⊎_elim, inl, inr}
-use Rattle.std.specs.Prelude.{◌⊎◌}
+use Rattle.std.proofs.Common.{◌≡◌, ◌≢◌, ℕ, zero, suc, ◌+◌, List, [], ◌∷◌, ◌++◌, length, Bool, false, Option, None, Some, slice_get, get_or, ◌<◌, ◌≤◌, refl, sym, ap, ◌∙◌, subst, ⊎_elim, inl, inr}
+use Rattle.std.specs.Prelude.{◌⊎◌, IfSome, IfNone}
+use Rattle.std.proofs.lemmas.Option.{slice_get_past}
+use Rattle.zy_table.proofs.SliceLemmas.{get_at}
 use Rattle.zy_rx.specs.declared.rx.Rx.{Rx}
 use Rattle.zy_rx.specs.Flow.{home_of}
 use Rattle.zy_home.specs.Link.{Link, IsFor, conn_of}
@@ -96,3 +98,27 @@ pub comes_nowhere : (h : Homed) → IsSoundHome h → (conn : ℕ) (item : Rx) �
     → ((place : ℕ) → slice_get (own_conns h.core h.cores h.count) place ≢ Some conn) → (place : ℕ) → ComesTo h place item → ⊥
 comes_nowhere h k conn item is none place comes =
     none place (ap (λ (l : List ℕ). slice_get l place) (sym k.conns) ∙ conn_at h.links place comes.link comes.there ∙ sym (for_is (conn_of comes.link) item comes.own) ∙ is)
+
+-- what a table without a place for a connection means
+pub no_slot : (conns : List ℕ) (table : List (Option ℕ)) → IsTable conns table → (conn : ℕ) (slot : Option ℕ) → conn < length table → slot ≡ get_or table conn slot → slot ≡ None → (place : ℕ) → slice_get conns place ≡ Some conn → ⊥
+no_slot conns table t conn slot within read none place e =
+    let there : slice_get table conn ≡ Some (Some place) = t.there place conn e in
+    let here : slice_get table conn ≡ Some slot = get_at table conn slot slot within read in
+    absurd (cc)
+
+pub past_table : (conns : List ℕ) (table : List (Option ℕ)) → IsTable conns table → (conn : ℕ) → length table ≤ conn → (place : ℕ) → slice_get conns place ≡ Some conn → ⊥
+past_table conns table t conn past place e =
+    let there : slice_get table conn ≡ Some (Some place) = t.there place conn e in
+    let none : slice_get table conn ≡ None = slice_get_past table conn past in
+    absurd (cc)
+
+-- the place that was looked up, or none, for an item of a connection
+pub place_found : (h : Homed) → IsSoundHome h → h.ended ≡ false → (conn : ℕ) (item : Rx) → item_conn item ≡ Some conn → (result : Option ℕ)
+    → IfSome result (λ place. slice_get (own_conns h.core h.cores h.count) place ≡ Some conn) → IfSome result (λ place. ComesTo h place item)
+place_found h k live conn item is (Some place) own = comes_there h k live conn place item is own
+place_found h k live conn item is None own = tt
+
+pub place_missed : (h : Homed) → IsSoundHome h → (conn : ℕ) (item : Rx) → item_conn item ≡ Some conn → (result : Option ℕ)
+    → IfNone result ((place : ℕ) → slice_get (own_conns h.core h.cores h.count) place ≢ Some conn) → IfNone result ((place : ℕ) → ComesTo h place item → ⊥)
+place_missed h k conn item is (Some place) none = tt
+place_missed h k conn item is None none = comes_nowhere h k conn item is none

@@ -47,12 +47,12 @@ impl Places {
         };
         let mut next = 0;
         for conn in 0..count {
-            if homes.home_of(conn) == core {
-                table.push_reserved(Some(next));
-                next += 1;
-            } else {
+            if homes.home_of(conn) != core {
                 table.push_reserved(None);
+                continue;
             }
+            table.push_reserved(Some(next));
+            next += 1;
         }
         Ok(Places {
             core,
@@ -77,8 +77,11 @@ impl Places {
             → slice_get (own_conns self.now.core self.now.cores self.now.count) at ≢ Some conn) }
     {
         match self.table.get(conn as usize) {
-            Some(Some(place)) => Some(*place as usize),
-            _ => None,
+            Some(slot) => match slot {
+                Some(place) => Some(*place as usize),
+                None => None,
+            },
+            None => None,
         }
     }
 }
