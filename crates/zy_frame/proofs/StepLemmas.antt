@@ -17,7 +17,7 @@ use Rattle.mc_parse.specs.Words.{line_limit}
 use Rattle.zy_frame.specs.Line.{IsShort, first_line, chomped, line_feed}
 use Rattle.zy_frame.specs.Frame.{frame_at}
 use Rattle.zy_frame.specs.Progress.{IsAwaited, IsKeptBlock, IsLargeBlock, outcome_of, with_frames, ends_long, ends_frame, goes_on}
-use Rattle.zy_frame.specs.Steps.{awaited, progress_of, step_to, after_line, after_block, Goes, Moves, Closes, ClosesTo, waiting}
+use Rattle.zy_frame.specs.Steps.{awaited, progress_of, after_line, after_block, Goes, Moves, Closes, ClosesTo, waiting}
 use Rattle.zy_frame.proofs.LineLemmas.{ended, spelled, first_line-append, first_line-append_none, first_line-ended}
 use Rattle.zy_frame.proofs.GoingOn.{in_long, long_ends, ends_long-begun_with, ends_frame-part, ends_frame-all, line_ends, quit_ends, block_begins, kept_block, large_block, ends_frame-same}
 
@@ -32,7 +32,7 @@ is_short-nil = record { no_feed = refl; short = omega arith }
 
 -- the line goes on
 pub line_grows : (kept bytes : List ℕ) → IsShort kept → 0 < length bytes → first_line bytes ≡ None → length kept + length bytes ≤ line_limit
-    → Goes (Line kept) bytes (step_to (Line (kept ++ bytes)) (length bytes) None)
+    → Goes (Line kept) bytes (Line (kept ++ bytes)) (length bytes) None
 unfolding goes_on
 line_grows kept bytes s some none fits = record {
   keeps = record { no_feed = first_line-append_none kept bytes s.no_feed none; short = omega (arith, length-append kept bytes) };
@@ -43,7 +43,7 @@ line_grows kept bytes s some none fits = record {
 
 -- it becomes too long
 pub line_too_long : (kept bytes : List ℕ) → IsShort kept → 0 < length bytes → first_line bytes ≡ None → line_limit < length kept + length bytes
-    → Goes (Line kept) bytes (step_to Long (length bytes) None)
+    → Goes (Line kept) bytes Long (length bytes) None
 unfolding goes_on
 line_too_long kept bytes s some none long =
     let longer : line_limit < length (kept ++ bytes) = omega (arith, length-append kept bytes) in
@@ -73,7 +73,7 @@ split_at kept bytes more at h =
 
 -- it ends, and its line feed comes
 line_closes : (kept bytes : List ℕ) (at : ℕ) (state : State) (frame : Option FrameKind) → LineAt bytes at → Closes (kept ++ take at bytes) state frame
-    → Goes (Line kept) bytes (step_to state (at + 1) frame)
+    → Goes (Line kept) bytes state (at + 1) frame
 unfolding goes_on
 line_closes kept bytes at state frame h closes =
     let within = h.within in
@@ -165,7 +165,7 @@ closes_other line (Needs.Block size) frames s is other = record { frame = None; 
 
 -- ---- in a line that is too long
 
-long_grows : (bytes : List ℕ) → 0 < length bytes → first_line bytes ≡ None → Goes Long bytes (step_to Long (length bytes) None)
+long_grows : (bytes : List ℕ) → 0 < length bytes → first_line bytes ≡ None → Goes Long bytes Long (length bytes) None
 unfolding goes_on
 long_grows bytes some none = record {
   keeps = tt;
@@ -174,7 +174,7 @@ long_grows bytes some none = record {
   on = λ more. ap ends_long (first_line-append bytes more none) ∙ ends_long-begun_with bytes (first_line more) ∙ ap (λ (x : List ℕ). ends_long (first_line x)) (all_taken bytes more);
 }
 
-long_over : (bytes : List ℕ) (at : ℕ) → LineAt bytes at → Goes Long bytes (step_to (Line []) (at + 1) (Some Kinds.Long))
+long_over : (bytes : List ℕ) (at : ℕ) → LineAt bytes at → Goes Long bytes (Line []) (at + 1) (Some Kinds.Long)
 unfolding goes_on
 long_over bytes at h =
     let within = h.within in
@@ -201,7 +201,7 @@ fewer : (line : List ℕ) (size left came : ℕ) → came < left → IsAwaited (
 fewer line size left came few w = record { short = w.short; sized = w.sized; some = omega arith }
 
 block_grows : (line block bytes : List ℕ) (size left : ℕ) → IsKeptBlock (awaited (wanted line size left)) block → 0 < length bytes → length bytes < left
-    → Goes (Block (wanted line size left) block) bytes (step_to (Block (wanted line size (left - length bytes)) (block ++ bytes)) (length bytes) None)
+    → Goes (Block (wanted line size left) block) bytes (Block (wanted line size (left - length bytes)) (block ++ bytes)) (length bytes) None
 unfolding goes_on
 block_grows line block bytes size left keeps some few = record {
   keeps = record { awaits = fewer line size left (length bytes) few keeps.awaits; small = keeps.small; all = omega (arith, length-append block bytes, keeps.all) };
@@ -223,7 +223,7 @@ block_moves line block bytes size left frames keeps some few = record {
 }
 
 block_over : (line block bytes : List ℕ) (size left : ℕ) → IsKeptBlock (awaited (wanted line size left)) block → left ≤ length bytes
-    → Goes (Block (wanted line size left) block) bytes (step_to (Line []) left (Some (Kinds.Block (chomped line) (block ++ take left bytes))))
+    → Goes (Block (wanted line size left) block) bytes (Line []) left (Some (Kinds.Block (chomped line) (block ++ take left bytes)))
 unfolding goes_on
 block_over line block bytes size left keeps all = record {
   keeps = is_short-nil;
@@ -247,7 +247,7 @@ block_length line block bytes size left keeps all = omega (arith, length-append 
 -- ---- in a block that is too large
 
 large_grows : (line bytes : List ℕ) (size left : ℕ) → IsLargeBlock (awaited (wanted line size left)) → 0 < length bytes → length bytes < left
-    → Goes (Large (wanted line size left)) bytes (step_to (Large (wanted line size (left - length bytes))) (length bytes) None)
+    → Goes (Large (wanted line size left)) bytes (Large (wanted line size (left - length bytes))) (length bytes) None
 unfolding goes_on
 large_grows line bytes size left keeps some few = record {
   keeps = record { awaits = fewer line size left (length bytes) few keeps.awaits; large = keeps.large };
@@ -267,7 +267,7 @@ large_moves line bytes size left frames keeps some few = record {
 }
 
 large_over : (line bytes : List ℕ) (size left : ℕ) → IsLargeBlock (awaited (wanted line size left)) → left ≤ length bytes
-    → Goes (Large (wanted line size left)) bytes (step_to (Line []) left (Some (Kinds.Large (chomped line))))
+    → Goes (Large (wanted line size left)) bytes (Line []) left (Some (Kinds.Large (chomped line)))
 unfolding goes_on
 large_over line bytes size left keeps all = record {
   keeps = is_short-nil;
@@ -287,7 +287,7 @@ large_ends line bytes given size left before after keeps all chomps appended = r
 
 -- ---- after a quit line
 
-quit_stays : (bytes : List ℕ) → 0 < length bytes → Goes Quit bytes (step_to Quit (length bytes) None)
+quit_stays : (bytes : List ℕ) → 0 < length bytes → Goes Quit bytes Quit (length bytes) None
 unfolding goes_on
 quit_stays bytes some = record { keeps = tt; some = some; within = omega arith; on = λ more. refl }
 

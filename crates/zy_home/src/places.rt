@@ -30,12 +30,7 @@ impl Model for Places {
 
 impl Places {
     // The places of the connections below the count that are this core's of `cores` cores.
-    pub(crate) fn new(
-        alloc: Global,
-        core: u32,
-        cores: u32,
-        count: u32,
-    ) -> Result<Places, NoMemory>
+    pub(crate) fn new(alloc: Global, core: u32, cores: u32, count: u32) -> Result<Places, NoMemory>
         requires some { 1 ≤ cores }
         requires few { cores ≤ 64 }
         ensures ok { IfOk result (λ places. places ≡ share core cores count) }

@@ -26,7 +26,7 @@ pub loop-conn-preserved : goal.loop-conn-preserved
 loop-conn-preserved c =
     let i = c.loop-conn.invariant in
     let conn : ℕ = c.loop-conn.conn in
-    let items = c.push_reserved-2.ensures.items in
+    let items = c.push_reserved-in-loop-conn.ensures.items in
     let home : c.home_of.result ≡ home_of c.args.cores conn = c.home_of.ensures.value ∙ ap (λ (n : ℕ). home_of n conn) c.new-homes.ensures.value in
     let own : home_of c.args.cores conn ≡ c.args.core = sym home ∙ c.if-home_of-core.false in
     let more = own-here c.args.core c.args.cores conn own in
@@ -35,5 +35,5 @@ loop-conn-preserved c =
       next = ap (λ (n : ℕ). n + 1) i.next ∙ sym (ap (λ (l : List ℕ). length l) more ∙ length-append (own_conns c.args.core c.args.cores conn) (conn ∷ []));
       few = (let few = i.few in omega arith);
       table = subst (λ (l : List (Option ℕ)). IsTable (own_conns c.args.core c.args.cores (conn + 1)) l) (sym items) (table_here c.args.core c.args.cores conn c.loop-conn.next c.loop-conn.table.items i.table i.size i.next own);
-      room = c.push_reserved-2.ensures.capacity ∙ i.room;
+      room = c.push_reserved-in-loop-conn.ensures.capacity ∙ i.room;
     }
