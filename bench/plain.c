@@ -18,6 +18,8 @@
 #include <string.h>
 #include <unistd.h>
 
+#define INLINE static inline __attribute__((always_inline))
+
 enum { PIECE = 65536, MOST_WORDS = 64, VALUE_LIMIT = 1048576, SHARDS = 16, TURN = 64, MOST_THREADS = 64, LINE = 64 };
 
 /* A row of bytes that grows. */
@@ -139,7 +141,7 @@ static uint64_t number_of(struct word word) {
 /* ---- the journal */
 
 /* Keeps the entry of a call, if there is a journal. */
-static void note(struct shard *shard, enum call call, struct word key, enum reply reply, struct item *item,
+INLINE void note(struct shard *shard, enum call call, struct word key, enum reply reply, struct item *item,
                  uint64_t number) {
     if (!has_journal) return;
     struct entry *entry = &next_entry;
@@ -177,7 +179,7 @@ static void leave(struct shard *shard) {
 }
 
 /* The link that leads to the item of a key, or to nothing. */
-static struct item **find(struct shard *shard, struct word key, uint32_t hash) {
+INLINE struct item **find(struct shard *shard, struct word key, uint32_t hash) {
     struct item **link = &shard->table[hash & (shard->places - 1)];
     while (*link && !((*link)->hash == hash && (*link)->key_length == key.length &&
                       memcmp((*link)->bytes, key.bytes, key.length) == 0))

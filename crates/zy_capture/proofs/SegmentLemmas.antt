@@ -43,13 +43,13 @@ nine (a ∷ b ∷ c ∷ d ∷ e ∷ f ∷ g ∷ []) long = absurd (omega (arith,
 nine (a ∷ b ∷ c ∷ d ∷ e ∷ f ∷ g ∷ h ∷ []) long = absurd (omega (arith, long))
 
 -- the connection and the length of a segment with which bytes begin, as they are spelled
-conn_bytes : List ℕ → List ℕ
+abbrev conn_bytes : List ℕ → List ℕ
 conn_bytes bytes = get_or bytes 1 0 ∷ get_or bytes 2 0 ∷ get_or bytes 3 0 ∷ get_or bytes 4 0 ∷ []
 
-size_bytes : List ℕ → List ℕ
+abbrev size_bytes : List ℕ → List ℕ
 size_bytes bytes = get_or bytes 5 0 ∷ get_or bytes 6 0 ∷ get_or bytes 7 0 ∷ get_or bytes 8 0 ∷ []
 
-head_text : List ℕ → List ℕ
+abbrev head_text : List ℕ → List ℕ
 head_text bytes = (83 ∷ conn_bytes bytes) ++ size_bytes bytes
 
 head_is : (bytes : List ℕ) (conn size : ℕ) → HoldsSegment bytes conn size → bytes ≡ head_text bytes ++ drop 9 bytes
@@ -96,7 +96,7 @@ pub segment_fed : (p q : CaptureProgress) (bytes payload : List ℕ) (conn size 
     → Feeds captures p q (take (9 + size) bytes) (segment conn payload ∷ [])
 segment_fed p q bytes payload conn size t empty is same =
     let h = t.holds in
-    let known : number (conn_bytes bytes) < p.state.count = (let k = t.known in let c = h.conn_is in omega arith) in
+    let known : number (conn_bytes bytes) < p.state.count = subst (λ (n : ℕ). n < p.state.count) h.conn_is t.known in
     let long : length payload ≡ size = ap (λ (l : List ℕ). length l) is ∙ length-take-le size (drop 9 bytes) (let whole = h.whole in omega (arith, length-drop 9 bytes)) in
     let reads = segment_read p.state p.at size (conn_bytes bytes) (size_bytes bytes) payload t.due refl refl known (sym h.size_is) t.some t.few long t.room in
     fed_by captures p q (take (9 + size) bytes) (segment conn payload ∷ [])
@@ -119,7 +119,7 @@ pub front_fed : (p q : CaptureProgress) (bytes : List ℕ) (conn size : ℕ) →
     → Feeds captures p q (take 8 bytes) []
 front_fed p q bytes conn size t empty same =
     let h = t.holds in
-    let known : number (conn_bytes bytes) < p.state.count = (let k = t.known in let c = h.conn_is in omega arith) in
+    let known : number (conn_bytes bytes) < p.state.count = subst (λ (n : ℕ). n < p.state.count) h.conn_is t.known in
     subst (λ (l : List ℕ). Feeds captures p q l []) (sym (ap (take 8) (head_is bytes conn size h)))
     (head_fed p q (get_or bytes 1 0) (get_or bytes 2 0) (get_or bytes 3 0) (get_or bytes 4 0) (get_or bytes 5 0) (get_or bytes 6 0) (get_or bytes 7 0) t.due t.none empty (let room = t.room in omega arith) known
     (same ∙ ap (λ (n : ℕ). headed p n (get_or bytes 5 0 ∷ get_or bytes 6 0 ∷ get_or bytes 7 0 ∷ [])) h.conn_is))

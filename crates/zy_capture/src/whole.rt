@@ -4,6 +4,9 @@ ghost use Rattle.zy_capture.specs.Whole.{BeginsWithRecord, HoldsSegment};
 
 use zy_read::are_bytes;
 
+// The bytes of a close.
+const CLOSE: usize = 5;
+
 // What a segment begins with.
 #[derive(Clone, Copy)]
 pub(crate) struct Head {
@@ -17,13 +20,16 @@ pub fn begins_with_record(bytes: &[u8]) -> bool
     ensures value { (result ≡ true) ↔ BeginsWithRecord bytes.now }
 {
     are_bytes(bytes);
-    if held_segment(bytes).is_some() {
+    if let Some(_head) = held_segment(bytes) {
         return true;
     }
-    match bytes {
-        [b'C', rest @ ..] => rest.len() >= 4,
-        _ => false,
+    if bytes.len() < CLOSE {
+        return false;
     }
+    if bytes[0] == b'C' {
+        return true;
+    }
+    false
 }
 
 // The head of the segment with which bytes begin, if they hold it whole.

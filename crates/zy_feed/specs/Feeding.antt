@@ -63,6 +63,11 @@ abbrev pub stop_in : Stage → Option (Stop CaptureFault)
 stop_in (Broken stop) = Some stop
 stop_in stage = None
 
+-- an item waits
+abbrev pub IsWaiting : Stage → Type 0
+IsWaiting (Waiting item) = ⊤
+IsWaiting stage = ⊥
+
 -- it is broken
 abbrev pub IsBroken : Stage → Type 0
 IsBroken (Broken stop) = ⊤

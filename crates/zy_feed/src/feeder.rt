@@ -4,7 +4,7 @@ ghost use Rattle.std.proofs.Common.{◌∙◌};
 ghost use Rattle.zy_rx.specs.Routing as Routing;
 ghost use Rattle.zy_rx.specs.Feed.{rings_of, sent_by, HasOffered, HasNoRoom, HasMet};
 ghost use Rattle.zy_feed.specs.declared.stage.Stage.TheVariants as Stages;
-ghost use Rattle.zy_feed.specs.Feeding.{feeder_state, in_stage, stop_in, IsBroken, LeadsTo};
+ghost use Rattle.zy_feed.specs.Feeding.{feeder_state, in_stage, stop_in, IsBroken, IsWaiting, LeadsTo};
 ghost use Rattle.zy_feed.specs.Feeding.{StepsTo};
 ghost use Rattle.zy_feed.specs.Leads.{leads_same, leads_on};
 
@@ -66,6 +66,7 @@ impl<'s, S: Source> CaptureFeeder<'s, S> {
 
     // Cuts the next record and offers it; if there is none, offers the end to the first core.
     fn cut(&mut self) -> Fed
+        requires cutting { self.old.stage ≡ Stages.Cutting }
         ensures source { self.new.source.ghost_name ≡ self.old.source.ghost_name }
         ensures steps { StepsTo self.old.inlets self.new.inlets self.new.stage result }
         ensures leads { LeadsTo S.rest S.faults
@@ -81,19 +82,30 @@ impl<'s, S: Source> CaptureFeeder<'s, S> {
         }
     }
 
+    // Offers the item that waits again.
+    fn offer_again(&mut self) -> Fed
+        requires waiting { IsWaiting self.old.stage }
+        ensures source { self.new.source.ghost_name ≡ self.old.source.ghost_name }
+        ensures steps { StepsTo self.old.inlets self.new.inlets self.new.stage result }
+        ensures leads { LeadsTo S.rest S.faults (feeder_state self.old) (feeder_state self.new) }
+    {
+        match mem::replace(&mut self.stage, Stage::Cutting) {
+            Stage::Waiting(item) => self.deliver(item),
+            _ => unreachable!(),
+        }
+    }
+
     // Offers an item to the core for which it is, and keeps it if it is handed back.
     #[inline(always)]
     fn deliver(&mut self, item: Rx) -> Fed
+        requires cutting { self.old.stage ≡ Stages.Cutting }
         ensures source { self.new.source.ghost_name ≡ self.old.source.ghost_name }
         ensures steps { StepsTo self.old.inlets self.new.inlets self.new.stage result }
         ensures leads { LeadsTo S.rest S.faults
             (in_stage self.old (Stages.Waiting item)) (feeder_state self.new) }
     {
         match self.inlets.deliver(item) {
-            None => {
-                self.stage = Stage::Cutting;
-                Fed::Offered
-            }
+            None => Fed::Offered,
             Some(item) => {
                 self.stage = Stage::Waiting(item);
                 Fed::Full
@@ -132,10 +144,13 @@ impl<'s, S: Source> Feeder for CaptureFeeder<'s, S> {
         × LeadsTo S.rest S.faults (feeder_state f) (feeder_state g) };
 
     fn step(&mut self) -> Fed {
-        match mem::replace(&mut self.stage, Stage::Ended) {
+        match &self.stage {
             Stage::Cutting => self.cut(),
-            Stage::Waiting(item) => self.deliver(item),
-            Stage::Ending(core) => self.end(core),
+            Stage::Waiting(_) => self.offer_again(),
+            Stage::Ending(core) => {
+                let core = *core;
+                self.end(core)
+            }
             Stage::Ended => unreachable!(),
             Stage::Broken(_) => unreachable!(),
         }

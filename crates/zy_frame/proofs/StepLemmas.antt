@@ -17,7 +17,7 @@ use Rattle.mc_parse.specs.Words.{line_limit}
 use Rattle.zy_frame.specs.Line.{IsShort, first_line, chomped, line_feed}
 use Rattle.zy_frame.specs.Frame.{frame_at}
 use Rattle.zy_frame.specs.Progress.{IsAwaited, IsKeptBlock, IsLargeBlock, outcome_of, with_frames, ends_long, ends_frame, goes_on}
-use Rattle.zy_frame.specs.Steps.{awaited, progress_of, step_to, after_line, after_block, Goes, Moves, Closes, ClosesTo, waiting}
+use Rattle.zy_frame.specs.Steps.{awaited, progress_of, after_line, after_block, Goes, Moves, Closes, ClosesTo, waiting}
 use Rattle.zy_frame.proofs.LineLemmas.{ended, spelled, first_line-append, first_line-append_none, first_line-ended}
 use Rattle.zy_frame.proofs.GoingOn.{in_long, long_ends, ends_long-begun_with, ends_frame-part, ends_frame-all, line_ends, quit_ends, block_begins, kept_block, large_block, ends_frame-same}
 
@@ -32,7 +32,7 @@ is_short-nil = record { no_feed = refl; short = omega arith }
 
 -- the line goes on
 pub line_grows : (kept bytes : List ℕ) → IsShort kept → 0 < length bytes → first_line bytes ≡ None → length kept + length bytes ≤ line_limit
-    → Goes (Line kept) bytes (step_to (Line (kept ++ bytes)) (length bytes) None)
+    → Goes (Line kept) bytes (Line (kept ++ bytes)) (length bytes) None
 unfolding goes_on
 line_grows kept bytes s some none fits = record {
   keeps = record { no_feed = first_line-append_none kept bytes s.no_feed none; short = omega (arith, length-append kept bytes) };
@@ -43,7 +43,7 @@ line_grows kept bytes s some none fits = record {
 
 -- it becomes too long
 pub line_too_long : (kept bytes : List ℕ) → IsShort kept → 0 < length bytes → first_line bytes ≡ None → line_limit < length kept + length bytes
-    → Goes (Line kept) bytes (step_to Long (length bytes) None)
+    → Goes (Line kept) bytes Long (length bytes) None
 unfolding goes_on
 line_too_long kept bytes s some none long =
     let longer : line_limit < length (kept ++ bytes) = omega (arith, length-append kept bytes) in
@@ -60,7 +60,7 @@ pub record LineAt (bytes : List ℕ) (at : ℕ) : Type 0 where
   pub within : at < length bytes
   pub ends : first_line bytes ≡ Some (ended (take at bytes) (drop (at + 1) bytes))
 
-front_no_feed : (bytes : List ℕ) (at : ℕ) → LineAt bytes at → first_line (take at bytes) ≡ None
+pub front_no_feed : (bytes : List ℕ) (at : ℕ) → LineAt bytes at → first_line (take at bytes) ≡ None
 front_no_feed bytes at h = (spelled bytes (ended (take at bytes) (drop (at + 1) bytes)) h.ends).no_feed
 
 split_at : (kept bytes more : List ℕ) (at : ℕ) → LineAt bytes at → kept ++ (bytes ++ more) ≡ (kept ++ take at bytes) ++ line_feed ∷ (drop (at + 1) bytes ++ more)
@@ -72,8 +72,8 @@ split_at kept bytes more at h =
     ∙ sym (append_assoc kept front (line_feed ∷ (back ++ more)))
 
 -- it ends, and its line feed comes
-pub line_closes : (kept bytes : List ℕ) (at : ℕ) (state : State) (frame : Option FrameKind) → LineAt bytes at → Closes (kept ++ take at bytes) state frame
-    → Goes (Line kept) bytes (step_to state (at + 1) frame)
+line_closes : (kept bytes : List ℕ) (at : ℕ) (state : State) (frame : Option FrameKind) → LineAt bytes at → Closes (kept ++ take at bytes) state frame
+    → Goes (Line kept) bytes state (at + 1) frame
 unfolding goes_on
 line_closes kept bytes at state frame h closes =
     let within = h.within in
@@ -102,16 +102,33 @@ line_whole kept bytes s none fits = record {
 -- ---- at the end of a line
 
 -- a line that is too long
-pub closes_long : (kept bytes : List ℕ) → IsShort kept → first_line bytes ≡ None → line_limit < length kept + length bytes → Closes (kept ++ bytes) (Line []) (Some Kinds.Long)
+closes_long : (kept bytes : List ℕ) → IsShort kept → first_line bytes ≡ None → line_limit < length kept + length bytes → Closes (kept ++ bytes) (Line []) (Some Kinds.Long)
 unfolding goes_on
 closes_long kept bytes s none long =
     let longer : line_limit < length (kept ++ bytes) = omega (arith, length-append kept bytes) in
     record { keeps = is_short-nil; on = λ more. long_ends (kept ++ bytes) more (first_line-append_none kept bytes s.no_feed none) longer }
 
 -- a line by itself
-pub closes_alone : (line : List ℕ) → IsShort line → need (chomped line) ≡ Needs.Nothing → Closes line (Line []) (Some (Kinds.Line (chomped line)))
+closes_alone : (line : List ℕ) → IsShort line → need (chomped line) ≡ Needs.Nothing → Closes line (Line []) (Some (Kinds.Line (chomped line)))
 unfolding goes_on
 closes_alone line s is = record { keeps = is_short-nil; on = λ more. line_ends line more s is }
+
+-- the same, and its frame was appended
+pub line_frame : (line given rest : List ℕ) (before after : List FrameKind) → IsShort line → need (chomped line) ≡ Needs.Nothing → given ≡ chomped line → rest ≡ [] → after ≡ before ++ Kinds.Line given ∷ []
+    → ClosesTo line (Line rest) before after
+line_frame line given rest before after s is chomps none appended = rw none (record {
+  frame = Some (Kinds.Line (chomped line));
+  closes = closes_alone line s is;
+  appended = appended ∙ ap (λ (l : List ℕ). before ++ Kinds.Line l ∷ []) chomps;
+})
+
+pub long_frame : (kept bytes rest : List ℕ) (before after : List FrameKind) → IsShort kept → first_line bytes ≡ None → line_limit < length kept + length bytes → rest ≡ [] → after ≡ before ++ Kinds.Long ∷ []
+    → ClosesTo (kept ++ bytes) (Line rest) before after
+long_frame kept bytes rest before after s none long empty appended = rw empty (record {
+  frame = Some Kinds.Long;
+  closes = closes_long kept bytes s none long;
+  appended = appended;
+})
 
 -- a quit line
 closes_quit : (line : List ℕ) → IsShort line → need (chomped line) ≡ Needs.Quit → Closes line Quit None
@@ -148,7 +165,7 @@ closes_other line (Needs.Block size) frames s is other = record { frame = None; 
 
 -- ---- in a line that is too long
 
-pub long_grows : (bytes : List ℕ) → 0 < length bytes → first_line bytes ≡ None → Goes Long bytes (step_to Long (length bytes) None)
+long_grows : (bytes : List ℕ) → 0 < length bytes → first_line bytes ≡ None → Goes Long bytes Long (length bytes) None
 unfolding goes_on
 long_grows bytes some none = record {
   keeps = tt;
@@ -157,7 +174,7 @@ long_grows bytes some none = record {
   on = λ more. ap ends_long (first_line-append bytes more none) ∙ ends_long-begun_with bytes (first_line more) ∙ ap (λ (x : List ℕ). ends_long (first_line x)) (all_taken bytes more);
 }
 
-pub long_over : (bytes : List ℕ) (at : ℕ) → LineAt bytes at → Goes Long bytes (step_to (Line []) (at + 1) (Some Kinds.Long))
+long_over : (bytes : List ℕ) (at : ℕ) → LineAt bytes at → Goes Long bytes (Line []) (at + 1) (Some Kinds.Long)
 unfolding goes_on
 long_over bytes at h =
     let within = h.within in
@@ -169,6 +186,12 @@ long_over bytes at h =
           ∙ ap ends_long (first_line-ended (take at bytes) (drop (at + 1) bytes ++ more) (front_no_feed bytes at h));
     }
 
+pub long_goes_on : (bytes : List ℕ) (frames : List FrameKind) → 0 < length bytes → first_line bytes ≡ None → Moves Long Long frames frames bytes (length bytes)
+long_goes_on bytes frames some none = record { frame = None; goes = long_grows bytes some none; appended = sym (append-nil frames) }
+
+pub long_ends_at : (bytes : List ℕ) (at : ℕ) (before after : List FrameKind) → LineAt bytes at → after ≡ before ++ Kinds.Long ∷ [] → Moves Long (Line []) before after bytes (at + 1)
+long_ends_at bytes at before after h appended = record { frame = Some Kinds.Long; goes = long_over bytes at h; appended = appended }
+
 -- ---- in a block
 
 abbrev pub wanted : List ℕ → ℕ → ℕ → Wanted
@@ -178,7 +201,7 @@ fewer : (line : List ℕ) (size left came : ℕ) → came < left → IsAwaited (
 fewer line size left came few w = record { short = w.short; sized = w.sized; some = omega arith }
 
 block_grows : (line block bytes : List ℕ) (size left : ℕ) → IsKeptBlock (awaited (wanted line size left)) block → 0 < length bytes → length bytes < left
-    → Goes (Block (wanted line size left) block) bytes (step_to (Block (wanted line size (left - length bytes)) (block ++ bytes)) (length bytes) None)
+    → Goes (Block (wanted line size left) block) bytes (Block (wanted line size (left - length bytes)) (block ++ bytes)) (length bytes) None
 unfolding goes_on
 block_grows line block bytes size left keeps some few = record {
   keeps = record { awaits = fewer line size left (length bytes) few keeps.awaits; small = keeps.small; all = omega (arith, length-append block bytes, keeps.all) };
@@ -199,8 +222,8 @@ block_moves line block bytes size left frames keeps some few = record {
   appended = sym (append-nil frames);
 }
 
-pub block_over : (line block bytes : List ℕ) (size left : ℕ) → IsKeptBlock (awaited (wanted line size left)) block → left ≤ length bytes
-    → Goes (Block (wanted line size left) block) bytes (step_to (Line []) left (Some (Kinds.Block (chomped line) (block ++ take left bytes))))
+block_over : (line block bytes : List ℕ) (size left : ℕ) → IsKeptBlock (awaited (wanted line size left)) block → left ≤ length bytes
+    → Goes (Block (wanted line size left) block) bytes (Line []) left (Some (Kinds.Block (chomped line) (block ++ take left bytes)))
 unfolding goes_on
 block_over line block bytes size left keeps all = record {
   keeps = is_short-nil;
@@ -209,13 +232,22 @@ block_over line block bytes size left keeps all = record {
   on = λ more. ends_frame-all left (λ rest. Kinds.Block (chomped line) (block ++ rest)) bytes more all;
 }
 
+-- its frame was appended
+pub block_ends : (line block bytes given whole : List ℕ) (size left : ℕ) (before after : List FrameKind) → IsKeptBlock (awaited (wanted line size left)) block → left ≤ length bytes → given ≡ chomped line → whole ≡ block ++ take left bytes
+    → after ≡ before ++ Kinds.Block given whole ∷ [] → Moves (Block (wanted line size left) block) (Line []) before after bytes left
+block_ends line block bytes given whole size left before after keeps all chomps is appended = record {
+  frame = Some (Kinds.Block (chomped line) (block ++ take left bytes));
+  goes = block_over line block bytes size left keeps all;
+  appended = appended ∙ ap (λ (l : List ℕ). before ++ Kinds.Block l whole ∷ []) chomps ∙ ap (λ (l : List ℕ). before ++ Kinds.Block (chomped line) l ∷ []) is;
+}
+
 pub block_length : (line block bytes : List ℕ) (size left : ℕ) → IsKeptBlock (awaited (wanted line size left)) block → left ≤ length bytes → length (block ++ take left bytes) ≡ size + 2
 block_length line block bytes size left keeps all = omega (arith, length-append block (take left bytes), length-take left bytes, keeps.all)
 
 -- ---- in a block that is too large
 
 large_grows : (line bytes : List ℕ) (size left : ℕ) → IsLargeBlock (awaited (wanted line size left)) → 0 < length bytes → length bytes < left
-    → Goes (Large (wanted line size left)) bytes (step_to (Large (wanted line size (left - length bytes))) (length bytes) None)
+    → Goes (Large (wanted line size left)) bytes (Large (wanted line size (left - length bytes))) (length bytes) None
 unfolding goes_on
 large_grows line bytes size left keeps some few = record {
   keeps = record { awaits = fewer line size left (length bytes) few keeps.awaits; large = keeps.large };
@@ -234,8 +266,8 @@ large_moves line bytes size left frames keeps some few = record {
   appended = sym (append-nil frames);
 }
 
-pub large_over : (line bytes : List ℕ) (size left : ℕ) → IsLargeBlock (awaited (wanted line size left)) → left ≤ length bytes
-    → Goes (Large (wanted line size left)) bytes (step_to (Line []) left (Some (Kinds.Large (chomped line))))
+large_over : (line bytes : List ℕ) (size left : ℕ) → IsLargeBlock (awaited (wanted line size left)) → left ≤ length bytes
+    → Goes (Large (wanted line size left)) bytes (Line []) left (Some (Kinds.Large (chomped line)))
 unfolding goes_on
 large_over line bytes size left keeps all = record {
   keeps = is_short-nil;
@@ -244,8 +276,20 @@ large_over line bytes size left keeps all = record {
   on = λ more. ends_frame-all left (λ rest. Kinds.Large (chomped line)) bytes more all;
 }
 
+-- its frame was appended
+pub large_ends : (line bytes given : List ℕ) (size left : ℕ) (before after : List FrameKind) → IsLargeBlock (awaited (wanted line size left)) → left ≤ length bytes → given ≡ chomped line
+    → after ≡ before ++ Kinds.Large given ∷ [] → Moves (Large (wanted line size left)) (Line []) before after bytes left
+large_ends line bytes given size left before after keeps all chomps appended = record {
+  frame = Some (Kinds.Large (chomped line));
+  goes = large_over line bytes size left keeps all;
+  appended = appended ∙ ap (λ (l : List ℕ). before ++ Kinds.Large l ∷ []) chomps;
+}
+
 -- ---- after a quit line
 
-pub quit_stays : (bytes : List ℕ) → 0 < length bytes → Goes Quit bytes (step_to Quit (length bytes) None)
+quit_stays : (bytes : List ℕ) → 0 < length bytes → Goes Quit bytes Quit (length bytes) None
 unfolding goes_on
 quit_stays bytes some = record { keeps = tt; some = some; within = omega arith; on = λ more. refl }
+
+pub quit_goes_on : (bytes : List ℕ) (frames : List FrameKind) → 0 < length bytes → Moves Quit Quit frames frames bytes (length bytes)
+quit_goes_on bytes frames some = record { frame = None; goes = quit_stays bytes some; appended = sym (append-nil frames) }

@@ -54,29 +54,18 @@ after_block state = state
 
 -- ---- steps
 
--- a step: what the framer is in the middle of then, how many bytes it took, and the frame that they ended
-pub record Step : Type 0 where
-  pub state : State
-  pub taken : ℕ
-  pub frame : Option FrameKind
-
-abbrev pub step_to : State → ℕ → Option FrameKind → Step
-step_to state taken frame = record { state = state; taken = taken; frame = frame }
-
--- a step from a state over bytes: some were taken, and what follows gives the step's frame and
--- then what its state gives
-pub record Goes (state : State) (bytes : List ℕ) (step : Step) : Type 0 where
-  pub keeps : Keeps (progress_of step.state)
-  pub some : 0 < step.taken
-  pub within : step.taken ≤ length bytes
+-- a step over bytes: some were taken, this frame came, and what follows gives what the next state gives
+pub record Goes (state : State) (bytes : List ℕ) (next : State) (taken : ℕ) (frame : Option FrameKind) : Type 0 where
+  pub keeps : Keeps (progress_of next)
+  pub some : 0 < taken
+  pub within : taken ≤ length bytes
   pub on : (more : List ℕ) → goes_on (progress_of state) (bytes ++ more)
-      ≡ with_frames (option_to_list step.frame)
-      (goes_on (progress_of step.state) (drop step.taken bytes ++ more))
+      ≡ with_frames (option_to_list frame) (goes_on (progress_of next) (drop taken bytes ++ more))
 
 -- a step from a state over bytes, whose frame was appended
 pub record Moves (old new : State) (before after : List FrameKind) (bytes : List ℕ) (taken : ℕ) : Type 0 where
   pub frame : Option FrameKind
-  pub goes : Goes old bytes (step_to new taken frame)
+  pub goes : Goes old bytes new taken frame
   pub appended : after ≡ before ++ option_to_list frame
 
 -- the line feed of a line has come: what follows gives this frame and then what this state gives

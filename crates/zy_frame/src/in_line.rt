@@ -2,7 +2,7 @@
 ghost use Rattle.std.specs.Prelude.{◌≡◌, ◌<◌, ◌++◌, None, [], length, IfOk, OnErr};
 ghost use Rattle.zy_frame.specs.declared.state.State.TheVariants.{Line};
 ghost use Rattle.zy_frame.specs.Line.{first_line, IsShort};
-ghost use Rattle.zy_frame.specs.Steps.{Goes, ClosesTo, after_line, grown_to, step_to};
+ghost use Rattle.zy_frame.specs.Steps.{Goes, ClosesTo, after_line, grown_to};
 
 use crate::frame_kind::FrameKind;
 use crate::frames::{Frames, append};
@@ -18,7 +18,7 @@ pub(crate) fn grow_line(kept: &mut Blob, bytes: &[u8]) -> Result<bool, NoMemory>
     requires some { 0 < length bytes.now }
     requires none { first_line bytes.now ≡ None }
     ensures value { IfOk result (λ long.
-        Goes (Line kept.old) bytes.now (step_to (grown_to long kept.new) (length bytes.now) None)) }
+        Goes (Line kept.old) bytes.now (grown_to long kept.new) (length bytes.now) None) }
 {
     if kept.bytes().len() + bytes.len() > LINE_LIMIT {
         return Ok(true);

@@ -1,6 +1,7 @@
 -- The table of a core's connections, with one further connection, and the places that it has.
-use Rattle.std.proofs.Common.{◌≡◌, ◌≢◌, ℕ, zero, suc, ◌+◌, List, [], ◌∷◌, ◌++◌, length, Option, None, Some, slice_get, refl, sym, ap, ◌∙◌, subst, ⊎_elim, inl, inr}
-use Rattle.std.specs.Prelude.{◌⊎◌}
+use Rattle.std.proofs.Common.{◌≡◌, ◌≢◌, ℕ, zero, suc, ◌+◌, List, [], ◌∷◌, ◌++◌, length, Bool, false, Option, None, Some, slice_get, get_or, ◌<◌, ◌≤◌, refl, sym, ap, ◌∙◌, subst, ⊎_elim, inl, inr}
+use Rattle.std.specs.Prelude.{◌⊎◌, IfSome, IfNone}
+use Rattle.std.proofs.lemmas.Option.{slice_get_past}
 use Rattle.zy_rx.specs.declared.rx.Rx.{Rx}
 use Rattle.zy_rx.specs.Flow.{home_of}
 use Rattle.zy_home.specs.Link.{Link, IsFor, conn_of}
@@ -33,10 +34,6 @@ module _ {A : Type 0} where
       (get_either xs x y i e)
 
 -- ---- one further connection
-
--- no connection has a place yet
-pub no_table : IsTable [] []
-no_table = record { there = λ place conn e. absurd (cc); back = λ place conn e. absurd (cc) }
 
 -- the next one has the next place
 with_next : (conns : List ℕ) (table : List (Option ℕ)) → IsTable conns table → IsTable (conns ++ length table ∷ []) (table ++ Some (length conns) ∷ [])
@@ -87,8 +84,8 @@ comes_there h k live conn place item is own =
     let found = link_of h.links place conn (ap (λ (l : List ℕ). slice_get l place) k.conns ∙ own) in record {
       live = live;
       link = found.0;
-      there = found.1.0;
-      own = is_for (conn_of found.0) item (is ∙ ap Some (sym found.1.1));
+      there = found.1;
+      own = is_for (conn_of found.0) item (is ∙ ap Some (sym found.2));
     }
 
 -- an item of a connection without a place comes to none
@@ -96,3 +93,21 @@ pub comes_nowhere : (h : Homed) → IsSoundHome h → (conn : ℕ) (item : Rx) �
     → ((place : ℕ) → slice_get (own_conns h.core h.cores h.count) place ≢ Some conn) → (place : ℕ) → ComesTo h place item → ⊥
 comes_nowhere h k conn item is none place comes =
     none place (ap (λ (l : List ℕ). slice_get l place) (sym k.conns) ∙ conn_at h.links place comes.link comes.there ∙ sym (for_is (conn_of comes.link) item comes.own) ∙ is)
+
+-- a connection past the end of the table is at no place
+pub past_table : (conns : List ℕ) (table : List (Option ℕ)) → IsTable conns table → (conn : ℕ) → length table ≤ conn → (place : ℕ) → slice_get conns place ≡ Some conn → ⊥
+past_table conns table t conn past place e =
+    let there : slice_get table conn ≡ Some (Some place) = t.there place conn e in
+    let none : slice_get table conn ≡ None = slice_get_past table conn past in
+    absurd (cc)
+
+-- the place that was looked up, or none, for an item of a connection
+pub place_found : (h : Homed) → IsSoundHome h → h.ended ≡ false → (conn : ℕ) (item : Rx) → item_conn item ≡ Some conn → (result : Option ℕ)
+    → IfSome result (λ place. slice_get (own_conns h.core h.cores h.count) place ≡ Some conn) → IfSome result (λ place. ComesTo h place item)
+place_found h k live conn item is (Some place) own = comes_there h k live conn place item is own
+place_found h k live conn item is None own = tt
+
+pub place_missed : (h : Homed) → IsSoundHome h → (conn : ℕ) (item : Rx) → item_conn item ≡ Some conn → (result : Option ℕ)
+    → IfNone result ((place : ℕ) → slice_get (own_conns h.core h.cores h.count) place ≢ Some conn) → IfNone result ((place : ℕ) → ComesTo h place item → ⊥)
+place_missed h k conn item is (Some place) none = tt
+place_missed h k conn item is None none = comes_nowhere h k conn item is none

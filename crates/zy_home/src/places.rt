@@ -30,12 +30,7 @@ impl Model for Places {
 
 impl Places {
     // The places of the connections below the count that are this core's of `cores` cores.
-    pub(crate) fn new(
-        alloc: Global,
-        core: u32,
-        cores: u32,
-        count: u32,
-    ) -> Result<Places, NoMemory>
+    pub(crate) fn new(alloc: Global, core: u32, cores: u32, count: u32) -> Result<Places, NoMemory>
         requires some { 1 ≤ cores }
         requires few { cores ≤ 64 }
         ensures ok { IfOk result (λ places. places ≡ share core cores count) }
@@ -47,12 +42,12 @@ impl Places {
         };
         let mut next = 0;
         for conn in 0..count {
-            if homes.home_of(conn) == core {
-                table.push_reserved(Some(next));
-                next += 1;
-            } else {
+            if homes.home_of(conn) != core {
                 table.push_reserved(None);
+                continue;
             }
+            table.push_reserved(Some(next));
+            next += 1;
         }
         Ok(Places {
             core,
@@ -77,8 +72,11 @@ impl Places {
             → slice_get (own_conns self.now.core self.now.cores self.now.count) at ≢ Some conn) }
     {
         match self.table.get(conn as usize) {
-            Some(Some(place)) => Some(*place as usize),
-            _ => None,
+            Some(slot) => match slot {
+                Some(place) => Some(*place as usize),
+                None => None,
+            },
+            None => None,
         }
     }
 }

@@ -1,5 +1,5 @@
 //! A segment that bytes hold whole, taken at once.
-ghost use Rattle.std.specs.Prelude.{◌≡◌, ◌≤◌, length, take, get_or, IfSome, Err};
+ghost use Rattle.std.specs.Prelude.{◌≡◌, ◌≢◌, ◌<◌, ◌≤◌, length, take, get_or, IfSome, Ok, Err, None};
 ghost use Rattle.zy_read.specs.Standing.{given_in, Feeds, TellsFault, TellsLasting};
 ghost use Rattle.zy_read.specs.declared.not_taken.NotTaken.TheVariants.{NoMemory};
 ghost use Rattle.zy_capture.specs.Standing.{IsLengthEnd};
@@ -18,22 +18,22 @@ use zy_read::Fed;
 // The bytes of a segment before its own.
 const FRONT: usize = HEAD + 1;
 
+// The last place where there is room for each segment.
+const LAST: u64 = CAPTURE_LIMIT - 65_544;
+
 impl Reader {
     // The head of the segment with which bytes begin, if they hold it whole, and it is lawful here and
     // not empty.
     pub(super) fn lawful_segment(&self, bytes: &[u8]) -> Option<Head>
         ensures some { IfSome result (λ head. TakesSegment self.now bytes.now head.conn head.size) }
     {
-        if self.fault.is_some() || !matches!(self.state.due, Due::Tag) {
+        if self.fault.is_some() || !matches!(self.state.due, Due::Tag) || self.at > LAST {
             return None;
         }
         let Some(head) = held_segment(bytes) else {
             return None;
         };
         if head.conn >= self.state.count || head.size == 0 || head.size > SEGMENT_LIMIT {
-            return None;
-        }
-        if self.at + FRONT as u64 + head.size as u64 > CAPTURE_LIMIT {
             return None;
         }
         Some(head)
@@ -45,6 +45,7 @@ impl Reader {
         requires takes { TakesSegment self.old bytes.now head.conn head.size }
         ensures within { result.taken ≤ length bytes.now }
         ensures some { 0 < result.taken }
+        ensures gives { result.answer ≢ Ok None }
         ensures fed { Feeds captures self.old self.new (take result.taken bytes.now) (given_in result.answer) }
         ensures exact { TellsFault captures self.old (take result.taken bytes.now) result.answer }
         ensures lasts { TellsLasting captures self.old (take result.taken bytes.now) result.answer }

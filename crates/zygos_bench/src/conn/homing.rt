@@ -38,7 +38,15 @@ pub(crate) fn serve_all<R: CpuClock>(
 {
     let (mut inlet, mut outlet) = zy_rx::ring(alloc, CONNECTIONS as usize)?;
     let spent = serve_rounds(
-        rt, alloc, ring, store, home, &mut inlet, &mut outlet, rounds, size,
+        rt,
+        alloc,
+        ring,
+        store,
+        home,
+        &mut inlet,
+        &mut outlet,
+        rounds,
+        size,
     );
     drop(inlet);
     drop(outlet);

@@ -1,4 +1,5 @@
-use Rattle.std.proofs.Common.{sym, ap, ◌∙◌, subst, arith}
+use Rattle.std.proofs.Common.{ℕ, sym, ap, ◌∙◌, subst, arith}
+use Rattle.zy_conn.specs.Hold.{IsRecorded}
 use Rattle.zy_conn.specs.Block.{label_of}
 use Rattle.zy_conn.proofs.LabelLemmas.{same_store, same_cores}
 use Rattle.zy_home.specs.Home.{all_here, Homed, HomeStands}
@@ -59,7 +60,7 @@ returns-in-Ok-settle-clause-value g c = rw (← c.self.view_is) (
   c.in-Took.ensures.value,
   record {
     ends = c.in-Ok.ensures.end;
-    recorded = c.hold.ensures.holds;
+    recorded = subst (λ (n : ℕ). IsRecorded n c.in-Took.block c.hold.new.self) c.core.ensures.value c.hold.ensures.holds;
     more = c.hold.ensures.more;
     limit = c.hold.ensures.limit;
     mark = c.hold.ensures.mark;

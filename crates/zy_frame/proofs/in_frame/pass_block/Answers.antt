@@ -1,0 +1,22 @@
+use Rattle.std.proofs.Common.{◌∙◌, ap}
+use Rattle.zy_frame.specs.Line.{chomped}
+use Rattle.zy_frame.proofs.GoingOn.{is_large_frame}
+use Rattle.zy_frame.proofs.StepLemmas.{large_moves, large_ends}
+use Rattle.zy_frame.proofs.in_frame.pass_block.Goals as goal
+
+pub returns-then-bytes-left-clause-value : goal.returns-then-bytes-left-clause-value
+returns-then-bytes-left-clause-value c =
+    large_moves c.args.wanted.now.line c.args.bytes.now c.args.wanted.now.size c.args.wanted.now.left c.args.frames.now c.requires.keeps c.requires.some c.if-bytes-left.true
+
+pub append-requires : goal.append-requires
+append-requires c =
+    let keeps = c.requires.keeps in
+    record {
+      frame = rw (c.chomp_kept-line.ensures.value ∙ ap chomped c.replace.ensures.value)
+          (is_large_frame c.args.wanted.now.line c.args.wanted.now.size keeps.awaits.short keeps.awaits.sized keeps.large);
+    }
+
+pub returns-clause-value : goal.returns-clause-value
+returns-clause-value c =
+    large_ends c.args.wanted.now.line c.args.bytes.now c.chomp_kept-line.result c.args.wanted.now.size c.args.wanted.now.left c.args.frames.now c.append.new.frames c.requires.keeps c.if-bytes-left.false
+    (c.chomp_kept-line.ensures.value ∙ ap chomped c.replace.ensures.value) c.in_ok-append.ensures.ok

@@ -1,0 +1,24 @@
+use Rattle.std.proofs.Common.{◌∙◌, ap}
+use Rattle.zy_frame.specs.Line.{chomped}
+use Rattle.zy_frame.proofs.GoingOn.{is_block_frame}
+use Rattle.zy_frame.proofs.StepLemmas.{block_moves, block_ends, block_length}
+use Rattle.zy_frame.proofs.in_frame.take_block.Goals as goal
+
+pub returns-then-bytes-left-clause-value : goal.returns-then-bytes-left-clause-value
+returns-then-bytes-left-clause-value c =
+    rw c.in_ok-grow_block.ensures.ok (block_moves c.args.wanted.now.line c.args.block.now c.args.bytes.now c.args.wanted.now.size c.args.wanted.now.left c.args.frames.now
+    c.requires.keeps c.requires.some c.if-bytes-left.true)
+
+pub append-requires-2 : goal.append-requires-2
+append-requires-2 c =
+    let keeps = c.requires.keeps in
+    record {
+      frame = rw (c.chomp_kept-line.ensures.value ∙ ap chomped c.replace.ensures.value, c.replace-block.ensures.value ∙ c.in_ok-append.ensures.ok)
+          (is_block_frame c.args.wanted.now.line _ c.args.wanted.now.size keeps.awaits.short keeps.awaits.sized keeps.small
+          (block_length c.args.wanted.now.line c.args.block.now c.args.bytes.now c.args.wanted.now.size c.args.wanted.now.left keeps c.if-bytes-left.false));
+    }
+
+pub returns-clause-value : goal.returns-clause-value
+returns-clause-value c =
+    block_ends c.args.wanted.now.line c.args.block.now c.args.bytes.now c.chomp_kept-line.result c.replace-block.result c.args.wanted.now.size c.args.wanted.now.left c.args.frames.now c.append-2.new.frames
+    c.requires.keeps c.if-bytes-left.false (c.chomp_kept-line.ensures.value ∙ ap chomped c.replace.ensures.value) (c.replace-block.ensures.value ∙ c.in_ok-append.ensures.ok) c.in_ok-append-2.ensures.ok
