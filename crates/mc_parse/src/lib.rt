@@ -6,7 +6,6 @@ mod arity;
 mod asking;
 mod command;
 mod error_line;
-mod got_keys;
 mod laws;
 mod line;
 mod listing;
@@ -20,6 +19,7 @@ mod on_all;
 mod one_call;
 mod parse;
 mod reading;
+mod retrieval;
 mod shard_call;
 mod sizes;
 mod verb;
@@ -27,7 +27,6 @@ mod word;
 
 pub use command::{Command, Keys};
 pub use error_line::ErrorLine;
-pub use got_keys::got_keys;
 pub use laws::{
     a_block_is_its_value_and_two_bytes, a_command_calls_its_keys, a_fault_has_no_calls,
     a_faulty_line_is_answered, a_get_calls_for_each_key, a_name_decides_how_a_line_is_read,
@@ -44,5 +43,6 @@ pub use meta::Meta;
 pub use need::{Need, need_of};
 pub use one_call::call_at;
 pub use parse::{parse_block, parse_large, parse_line};
+pub use retrieval::got_keys;
 pub use shard_call::{Calls, ShardCall};
 pub use verb::Verb;

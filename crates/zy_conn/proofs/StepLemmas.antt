@@ -2,15 +2,11 @@
 use Rattle.std.proofs.Common.{◌≡◌, ◌≢◌, inl, ℕ, ◌+◌, ◌≤◌, ◌^◌, List, [], ◌∷◌, ◌++◌, length, Some, Result, Ok, Err, MatchResult, IfOk, slice_get, refl, sym, ap, ◌∙◌, subst, arith, length-append}
 use Rattle.std.specs.Prelude.{IsSome, OnOk, OnErr, option_map}
 use Rattle.std.proofs.lemmas.Option.{slice_get_within, slice_get-map}
-use Rattle.zy_base.specs.declared.call.Call.TheVariants.{Get}
 use Rattle.zy_base.specs.declared.call_reply.CallReply.{CallReply}
-use Rattle.zy_base.specs.declared.entry.Tag.{Tag}
-use Rattle.zy_base.specs.Key.{shard_of}
 use Rattle.mc_parse.specs.declared.command.Command.{Command}
 use Rattle.mc_parse.specs.declared.shard_call.ShardCall.{ShardCall}
-use Rattle.mc_parse.specs.Calls.{Due, calls_of, get_calls, get_at, on_shard, tag_of}
-use Rattle.mc_shard.specs.Shard.{entry_of}
-use Rattle.mc_store.specs.Call.{WasBusy, HasFetched}
+use Rattle.mc_parse.specs.Calls.{Due, calls_of, get_calls, get_at}
+use Rattle.mc_store.specs.Call.{WasBusy}
 use Rattle.mc_store.specs.Pass.{Passed}
 use Rattle.zy_calls.specs.Batch.{Batch, with_text, with_finished}
 use Rattle.zy_frame.specs.Frame.{command_of}
@@ -156,13 +152,11 @@ module _ (p : Passed) (r : RingName) (taken known : List FrameKind) (s s' : Star
 pub key_there : (shards : ℕ) (keys : List (List ℕ)) (part : ℕ) → slice_get (get_calls shards keys) part ≡ option_map (get_at shards) (slice_get keys part)
 key_there shards keys part = slice_get-map (get_at shards) keys part
 
--- a get that was made is the next call
-pub got_this : (index shards shard stamp : ℕ) (tag : Tag) (key : List ℕ) (replies replies' : List CallReply) (before after : Passed)
-    → HasFetched tag shard key replies replies' before.calls after.calls stamp → tag ≡ tag_of before.conn index (length replies) → shard ≡ shard_of key shards
-    → MakesThis index (get_at shards key) replies before replies' after Call
-got_this index shards shard stamp tag key replies replies' before after got tag_is shard_is = (
-  entry_of tag shard (Get key) got.reply stamp,
-  record { due = λ i. record { tag = tag_is i; call = on_shard (Get key) (shard_is i) }; kind = got.kind },
-  got.entered,
-  got.replied,
-)
+-- what came of a call is what came of the next of the calls, where it is the next one
+pub makes_next : {E : Type 0} (index : ℕ) (calls : List ShardCall) (asked : ShardCall) (replies : List CallReply) (before : Passed) (replies' : List CallReply) (after : Passed) (result : Result Made E) (otherwise : E → Type 0)
+    → slice_get calls (length replies) ≡ Some asked → MatchResult result (MakesThis index asked replies before replies' after) otherwise
+    → MatchResult result (Makes index calls replies before replies' after) otherwise
+makes_next index calls asked replies before replies' after (Ok Call) otherwise there made = (asked, there, made.0, made.1, made.2, made.3)
+makes_next index calls asked replies before replies' after (Ok Done) otherwise there made = absurd made
+makes_next index calls asked replies before replies' after (Ok (Stopped end)) otherwise there made = (asked, there, made.0, made.1, made.2)
+makes_next index calls asked replies before replies' after (Err e) otherwise there made = made
