@@ -1,32 +1,45 @@
 -- What each step keeps, for values that are given by equations.
-use Rattle.std.proofs.Common.{◌≡◌, ◌≢◌, inl, ℕ, ◌+◌, ◌≤◌, ◌^◌, List, [], ◌∷◌, ◌++◌, length, Some, Result, Ok, Err, MatchResult, IfOk, slice_get, refl, sym, ap, ◌∙◌, subst, arith, length-append}
+use Rattle.std.proofs.Common.{◌≡◌, ◌≢◌, inl, true, false, ℕ, ◌+◌, ◌≤◌, ◌^◌, List, [], ◌∷◌, ◌++◌, length, Some, Result, Ok, Err, MatchResult, IfOk, slice_get, refl, sym, ap, ◌∙◌, subst, arith, length-append}
 use Rattle.std.specs.Prelude.{IsSome, OnOk, OnErr, option_map}
 use Rattle.std.proofs.lemmas.Option.{slice_get_within, slice_get-map}
-use Rattle.zy_base.specs.declared.call.Call.TheVariants.{Get}
 use Rattle.zy_base.specs.declared.call_reply.CallReply.{CallReply}
-use Rattle.zy_base.specs.declared.entry.Tag.{Tag}
-use Rattle.zy_base.specs.Key.{shard_of}
 use Rattle.mc_parse.specs.declared.command.Command.{Command}
 use Rattle.mc_parse.specs.declared.shard_call.ShardCall.{ShardCall}
-use Rattle.mc_parse.specs.Calls.{Due, calls_of, get_calls, get_at, on_shard, tag_of}
-use Rattle.mc_shard.specs.Shard.{entry_of}
-use Rattle.mc_store.specs.Call.{WasBusy, HasFetched}
+use Rattle.mc_parse.specs.Calls.{Due, calls_of, get_calls, get_at}
+use Rattle.mc_store.specs.Call.{WasBusy}
 use Rattle.mc_store.specs.Pass.{Passed}
 use Rattle.zy_calls.specs.Batch.{Batch, with_text, with_finished}
 use Rattle.zy_frame.specs.Frame.{command_of}
 use Rattle.zy_frame.specs.declared.frame_kind.FrameKind.{FrameKind}
 use Rattle.zy_rx.specs.Ring.{RingName}
-use Rattle.zy_conn.specs.declared.begun.Begun.{Begun}
-use Rattle.zy_conn.specs.declared.begun.Begun.TheVariants.{Raw, Going}
 use Rattle.zy_conn.specs.declared.hold_end.HoldEnd.{HoldEnd}
 use Rattle.zy_conn.specs.declared.hold_end.HoldEnd.TheVariants.{Drained, Limit, Spent, Busy}
 use Rattle.zy_conn.specs.declared.calling.Made.{Made}
 use Rattle.zy_conn.specs.declared.calling.Made.TheVariants.{Call, Done, Stopped}
-use Rattle.zy_conn.specs.Work.{Start, idle, raw, going, start_of, Worked, work_of_pass, texts_taken, mark_of}
+use Rattle.zy_conn.specs.Work.{Started, no_frame, frame_alone, command_read, is_going, is_alone, Start, idle, raw, going, start_of, Worked, work_of_pass, texts_taken, mark_of}
 use Rattle.zy_conn.specs.Kept.{KeepsCommands}
 use Rattle.zy_conn.specs.Hold.{call_due}
-use Rattle.zy_conn.specs.Step.{IsAllMade, text_begun, calls_left, SamePass, CallStopsBy, Makes, MakesThis, StepsOn, StopsBy, MadeFrom}
+use Rattle.zy_conn.specs.Step.{IsGoing, IsAllMade, text_begun, calls_left, SamePass, CallStopsBy, Makes, MakesThis, StepsOn, StopsBy, MadeFrom}
 use Rattle.zy_conn.proofs.KeptLemmas.{kept_looks, texts_begin, kept_begins, kept_reads, texts_call, kept_calls, kept_finishes}
+
+-- ---- what is begun
+
+-- nothing, where there is neither a command nor a frame
+pub none_begun : (s : Started) → is_going s ≡ false → is_alone s ≡ false → s ≡ no_frame
+none_begun no_frame none alone = refl
+none_begun (frame_alone frame) none alone = cc
+none_begun (command_read command) none alone = cc
+
+-- a command is in progress where it is known with its calls
+pub going_begun : (shards : ℕ) (s : Started) (replies : List CallReply) → IsGoing (start_of shards s replies) → is_going s ≡ true
+going_begun shards no_frame replies is = absurd is
+going_begun shards (frame_alone frame) replies is = absurd is
+going_begun shards (command_read command) replies is = refl
+
+pub all_made_going : (shards : ℕ) (s : Started) (replies : List CallReply) → IsAllMade (start_of shards s replies) → is_going s ≡ true
+all_made_going shards no_frame replies is = absurd is
+all_made_going shards (frame_alone frame) replies is = absurd is
+all_made_going shards (command_read command) replies is = refl
 
 -- ---- a frame is taken
 
@@ -46,8 +59,8 @@ module _ (p : Passed) (r r' : RingName) (taken taken' known known' : List FrameK
       (kept_reads (work_of_pass p r (taken ++ frame ∷ []) known' (raw frame) f sh b) (kept_begins (work_of_pass p r taken known s f sh b) k frame known' e below) frame refl some limit)))
 
   -- the command of the frame is read, or the frame stays
-  pub kept_begun_as : {A E : Type 0} (read : Result A E) (b' : Begun) (replies' : List CallReply) → s' ≡ start_of p.table.slots b' replies' → replies' ≡ []
-      → OnOk read (b' ≡ Going (command_of frame)) → OnErr read (b' ≡ Raw frame)
+  pub kept_begun_as : {A E : Type 0} (read : Result A E) (b' : Started) (replies' : List CallReply) → s' ≡ start_of p.table.slots b' replies' → replies' ≡ []
+      → OnOk read (b' ≡ command_read (command_of frame)) → OnErr read (b' ≡ frame_alone frame)
       → f ≢ 2 ^ 40 → r' ≡ r → taken' ≡ taken ++ frame ∷ [] → 1 ≤ p.table.slots → p.table.slots ≤ 256 → KeepsCommands (work_of_pass p r' taken' known' s' f sh b)
   kept_begun_as (Ok x) b' replies' start none ok err below ring is some limit =
       kept_reads_as below ring is some limit
@@ -156,13 +169,11 @@ module _ (p : Passed) (r : RingName) (taken known : List FrameKind) (s s' : Star
 pub key_there : (shards : ℕ) (keys : List (List ℕ)) (part : ℕ) → slice_get (get_calls shards keys) part ≡ option_map (get_at shards) (slice_get keys part)
 key_there shards keys part = slice_get-map (get_at shards) keys part
 
--- a get that was made is the next call
-pub got_this : (index shards shard stamp : ℕ) (tag : Tag) (key : List ℕ) (replies replies' : List CallReply) (before after : Passed)
-    → HasFetched tag shard key replies replies' before.calls after.calls stamp → tag ≡ tag_of before.conn index (length replies) → shard ≡ shard_of key shards
-    → MakesThis index (get_at shards key) replies before replies' after Call
-got_this index shards shard stamp tag key replies replies' before after got tag_is shard_is = (
-  entry_of tag shard (Get key) got.reply stamp,
-  record { due = λ i. record { tag = tag_is i; call = on_shard (Get key) (shard_is i) }; kind = got.kind },
-  got.entered,
-  got.replied,
-)
+-- what came of a call is what came of the next of the calls, where it is the next one
+pub makes_next : {E : Type 0} (index : ℕ) (calls : List ShardCall) (asked : ShardCall) (replies : List CallReply) (before : Passed) (replies' : List CallReply) (after : Passed) (result : Result Made E) (otherwise : E → Type 0)
+    → slice_get calls (length replies) ≡ Some asked → MatchResult result (MakesThis index asked replies before replies' after) otherwise
+    → MatchResult result (Makes index calls replies before replies' after) otherwise
+makes_next index calls asked replies before replies' after (Ok Call) otherwise there made = (asked, there, made.0, made.1, made.2, made.3)
+makes_next index calls asked replies before replies' after (Ok Done) otherwise there made = absurd made
+makes_next index calls asked replies before replies' after (Ok (Stopped end)) otherwise there made = (asked, there, made.0, made.1, made.2)
+makes_next index calls asked replies before replies' after (Err e) otherwise there made = made

@@ -1,6 +1,6 @@
 -- The view of a connection's work: its pass, its events, the command in progress, and the texts of
 -- finished commands.
-use Rattle.std.specs.Prelude.{ℕ, Bool, true, false, ◌||◌, nat_lt, List, map, take, length}
+use Rattle.std.specs.Prelude.{ℕ, Bool, true, false, ◌||◌, nat_lt, List, map, take, length, Option, None, Some}
 use Rattle.atomic_table.specs.Seated.{TableId}
 use Rattle.zy_base.specs.declared.call_reply.CallReply.{CallReply}
 use Rattle.zy_base.specs.declared.entry.Entry.{Entry}
@@ -14,10 +14,32 @@ use Rattle.zy_calls.specs.Batch.{Batch}
 use Rattle.zy_frame.specs.declared.frame_kind.FrameKind.{FrameKind}
 use Rattle.zy_frame.specs.Frame.{command_of}
 use Rattle.zy_rx.specs.Ring.{RingName}
-use Rattle.zy_conn.specs.declared.begun.Begun.{Begun}
-use Rattle.zy_conn.specs.declared.begun.Begun.TheVariants.{Nothing, Raw, Going}
 
 -- ---- the command in progress
+
+-- nothing is begun; or a frame that was taken, or its command
+pub data Started : Type 0 where
+  no_frame : Started
+  frame_alone : FrameKind → Started
+  command_read : Command → Started
+
+-- what is begun, by whether a command is in progress, and the frame that is kept
+abbrev pub started : Bool → Command → Option FrameKind → Started
+started true command frame = command_read command
+started false command (Some frame) = frame_alone frame
+started false command None = no_frame
+
+-- a command is in progress
+abbrev pub is_going : Started → Bool
+is_going no_frame = false
+is_going (frame_alone frame) = false
+is_going (command_read command) = true
+
+-- a frame was taken whose command was not read
+abbrev pub is_alone : Started → Bool
+is_alone no_frame = false
+is_alone (frame_alone frame) = true
+is_alone (command_read command) = false
 
 -- nothing is begun; or a frame that was taken, or its command with its calls and the replies so far
 pub data Start : Type 0 where
@@ -26,10 +48,10 @@ pub data Start : Type 0 where
   going : Command → List ShardCall → List CallReply → Start
 
 -- what is begun on so many shards, with the replies so far
-abbrev pub start_of : ℕ → Begun → List CallReply → Start
-start_of shards Nothing replies = idle
-start_of shards (Raw frame) replies = raw frame
-start_of shards (Going command) replies = going command (calls_of shards command) replies
+abbrev pub start_of : ℕ → Started → List CallReply → Start
+start_of shards no_frame replies = idle
+start_of shards (frame_alone frame) replies = raw frame
+start_of shards (command_read command) replies = going command (calls_of shards command) replies
 
 -- a command is in progress
 abbrev pub is_begun : Start → Bool

@@ -1,47 +1,109 @@
 //! The command in progress.
-ghost use Rattle.std.specs.Prelude.{◌≡◌, OnOk, OnErr};
+ghost use Rattle.std.specs.Prelude.{◌≡◌, ◌≢◌, true, false, IfSome, IfNone, OnOk, OnErr};
+ghost use Rattle.zy_frame.specs.declared.frame_kind.FrameKind.{FrameKind};
 ghost use Rattle.zy_frame.specs.Frame.{command_of};
-ghost use Rattle.zy_conn.specs.declared.begun.Begun.TheVariants.{Raw, Going};
+ghost use Rattle.mc_parse.specs.declared.command.Command.{Command};
+ghost use Rattle.zy_conn.specs.Work.{no_frame, frame_alone, command_read, is_going, is_alone};
 
 use mc_parse::Command;
 use std::alloc::Global;
+use std::marker::Model;
 use std::mem;
 use zy_base::NoMemory;
 use zy_frame::{Frame, meaning};
 
-/// The command in progress. A step that is refused memory leaves it as it was, so that a later one
-/// goes on.
+/// What is begun: nothing, a frame that was taken from the event ring, or the command of that frame, of whose
+/// calls the first were made. Contracts see which of these.
+///
+/// A command stays in its place when it was finished, until the next one is read: so it is moved once.
 #[derive(Drop)]
-pub(crate) enum Begun {
-    Nothing,
-    /// A frame that was taken from the event ring.
-    Raw(Frame),
-    /// The command of that frame, of whose calls the first were made.
-    Going(Command),
+pub(crate) struct Begun {
+    // Whether the command is in progress.
+    going: bool,
+    command: Command,
+    // A frame for whose command there was no memory, if no command is in progress.
+    frame: Option<Frame>,
+}
+
+impl Model for Begun {
+    ghost use Rattle.zy_conn.specs.Work.{Started, started};
+
+    ghost Value = { Started };
+
+    ghost view = { λ b. started b.going b.command b.frame };
 }
 
 impl Begun {
-    /// Puts the command of a frame in its place, or the frame itself after a refusal.
+    /// Nothing is begun.
+    pub(crate) fn new() -> Begun
+        ensures value { result ≡ no_frame }
+    {
+        Begun {
+            going: false,
+            command: Command::Version,
+            frame: None,
+        }
+    }
+
+    /// Whether a command is in progress.
+    pub(crate) fn is_going(&self) -> bool
+        ensures value { result ≡ is_going self.now }
+    {
+        self.going
+    }
+
+    /// Whether a frame was taken whose command was not read.
+    pub(crate) fn is_alone(&self) -> bool
+        ensures value { result ≡ is_alone self.now }
+    {
+        !self.going && self.frame.is_some()
+    }
+
+    /// The command in progress.
+    pub(crate) fn command(&self) -> &Command
+        requires going { is_going self.now ≡ true }
+        ensures value { self.now ≡ command_read result.now }
+    {
+        &self.command
+    }
+
+    /// Takes the frame whose command was not read; then nothing is begun. `None`, and nothing changes, if
+    /// there is no such frame.
+    pub(crate) fn take_frame(&mut self) -> Option<Frame>
+        ensures some { IfSome result (λ frame. (self.old ≡ frame_alone frame) × (self.new ≡ no_frame)) }
+        ensures none { IfNone result ((self.new ≡ self.old) × (is_alone self.old ≡ false)) }
+    {
+        if self.going {
+            return None;
+        }
+        mem::replace(&mut self.frame, None)
+    }
+
+    /// Reads the command of a frame where nothing is begun, and begins it. After a refusal the frame is kept.
     pub(crate) fn read(&mut self, alloc: Global, frame: Frame) -> Result<(), NoMemory>
-        ensures ok { OnOk result (self.new ≡ Going (command_of frame)) }
-        ensures err { OnErr result (self.new ≡ Raw frame) }
+        requires none { self.old ≡ no_frame }
+        ensures ok { OnOk result (self.new ≡ command_read (command_of frame)) }
+        ensures err { OnErr result (self.new ≡ frame_alone frame) }
     {
         match meaning(alloc, frame) {
             Ok(command) => {
-                self.put(Begun::Going(command));
+                drop(mem::replace(&mut self.command, command));
+                self.going = true;
                 Ok(())
             }
             Err((frame, e)) => {
-                self.put(Begun::Raw(frame));
+                drop(mem::replace(&mut self.frame, Some(frame)));
                 Err(e)
             }
         }
     }
 
-    /// Puts another in its place, and drops the old one.
-    pub(crate) fn put(&mut self, begun: Begun)
-        ensures value { self.new ≡ begun }
+    /// Ends the command in progress.
+    pub(crate) fn end(&mut self)
+        requires going { is_going self.old ≡ true }
+        ensures value { self.new ≡ no_frame }
     {
-        drop(mem::replace(self, begun));
+        self.going = false;
+        drop(mem::replace(&mut self.frame, None))
     }
 }

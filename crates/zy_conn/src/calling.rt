@@ -52,7 +52,6 @@ pub(crate) fn next_call(
 }
 
 // Makes the next get of a retrieval of these keys.
-#[tactic(auto, using(crate::proofs::StepLemmas::key_there))]
 fn next_get(
     pass: &mut Pass,
     store: &StoreTable,

@@ -72,7 +72,7 @@ impl Work {
                     alloc,
                     pass,
                     frames,
-                    begun: Begun::Nothing,
+                    begun: Begun::new(),
                     replies: Vec::new(alloc),
                     shown: 0,
                     batch: Batch::new(alloc, 0),
@@ -101,10 +101,7 @@ impl Work {
     pub(crate) fn has_event(&self) -> bool
         ensures value { result ≡ has_event self.now }
     {
-        match &self.begun {
-            Begun::Nothing => self.frames.known() > 0,
-            _ => true,
-        }
+        self.begun.is_going() || self.begun.is_alone() || self.frames.known() > 0
     }
 
     /// Shows each end of the event ring what the other did.

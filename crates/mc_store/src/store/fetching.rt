@@ -93,7 +93,10 @@ impl StoreTable {
     {
         let words = &self.table.shared;
         let word = shard as usize;
-        match seat.slot_mut(words, word).fetch(tag, key, hash, seen, replies) {
+        match seat
+            .slot_mut(words, word)
+            .fetch(tag, key, hash, seen, replies)
+        {
             Ok(stamp) => {
                 words.store::<PutsBack>(seat, word, even + 2);
                 Ok(stamp)

@@ -8,7 +8,6 @@ ghost use Rattle.zy_conn.specs.Step.{IsGoing, IsAllMade, StepsOn, StopsBy, MadeF
 
 use super::Work;
 use crate::answer::Answer;
-use crate::begun::Begun;
 use crate::calling::{Made, next_call};
 use crate::hold_end::HoldEnd;
 use mc_parse::Command;
@@ -33,13 +32,12 @@ impl Work {
         ensures finished { self.new.finished ≡ self.old.finished }
         ensures begun { IfOk result (λ stop. MatchOption stop (IsGoing self.new.begun) (StopsBy self.old self.new)) }
     {
-        match &self.begun {
-            Begun::Nothing => {}
-            Begun::Raw(_) => {
-                self.read_again(shards)?;
-                return Ok(None);
-            }
-            Begun::Going(_) => return Ok(None),
+        if self.begun.is_going() {
+            return Ok(None);
+        }
+        if self.begun.is_alone() {
+            self.read_again(shards)?;
+            return Ok(None);
         }
         if self.frames.is_empty() {
             return Ok(Some(HoldEnd::Drained));
@@ -66,15 +64,12 @@ impl Work {
         ensures finished { self.new.finished ≡ self.old.finished }
         ensures going { OnOk result (self.old.begun ≢ idle → IsGoing self.new.begun) }
     {
-        match mem::replace(&mut self.begun, Begun::Nothing) {
-            Begun::Raw(frame) => {
+        match self.begun.take_frame() {
+            Some(frame) => {
                 self.replies.clear();
                 self.begun.read(self.alloc, frame)
             }
-            begun => {
-                self.begun.put(begun);
-                Ok(())
-            }
+            None => Ok(()),
         }
     }
 
@@ -88,14 +83,11 @@ impl Work {
         ensures going { IsGoing self.new.begun }
         ensures made { IfOk result (MadeFrom self.old self.new) }
     {
-        let Begun::Going(command) = &self.begun else {
-            unreachable!()
-        };
         next_call(
             &mut self.pass,
             store,
             self.batch.finished(),
-            command,
+            self.begun.command(),
             &mut self.replies,
         )
     }
@@ -107,14 +99,12 @@ impl Work {
         ensures ok { OnOk result ((self.new.finished ≡ self.old.finished + 1) × (self.new.begun ≡ idle)) }
         ensures err { OnErr result (self.new.finished ≡ self.old.finished) }
     {
-        let Begun::Going(command) = &self.begun else {
-            unreachable!()
-        };
+        let command = self.begun.command();
         let replies = Replies::from_vec(mem::replace(&mut self.replies, Vec::new(self.alloc)));
         let sent = send(&mut self.batch, command, &replies);
         self.replies = replies.into_vec();
         sent?;
-        self.begun.put(Begun::Nothing);
+        self.begun.end();
         self.replies.clear();
         let finished = self.batch.finished();
         self.batch.set_finished(finished + 1);

@@ -6,6 +6,6 @@ use Rattle.zy_conn.proofs.work.Work.new.Goals as goal
 
 pub invariant_of-result : goal.invariant_of-result
 invariant_of-result c =
-    kept_new_as c.args.pass _ _ _ c.new-in-Ok.result
+    rw c.new.ensures.value (kept_new_as c.args.pass _ _ _ c.new-in-Ok-2.result
     (sym (ap (λ (r : RingName). r.capacity) c.in-Ok.ensures.ok) ∙ c.in-Ok.ensures.capacity) c.requires.empty
-    (ap (λ (o : RingOutlet FrameKind). o.taken) c.in-Ok.ensures.outlet) c.new-in-Ok.ensures.value
+    (ap (λ (o : RingOutlet FrameKind). o.taken) c.in-Ok.ensures.outlet) c.new-in-Ok-2.ensures.value)

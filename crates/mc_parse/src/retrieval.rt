@@ -1,5 +1,6 @@
 //! The keys of a retrieval.
-ghost use Rattle.std.specs.Prelude.{◌≡◌, ℕ, IfSome};
+ghost use Rattle.std.specs.Prelude.{◌≡◌, ◌≢◌, ℕ, Bool, List, IfSome, IfNone};
+ghost use Rattle.mc_parse.specs.declared.command.Command.TheVariants.{Get};
 ghost use Rattle.mc_parse.specs.Calls.{calls_of, get_calls};
 
 use crate::command::Command;
@@ -7,7 +8,8 @@ use zy_base::Blob;
 
 /// The keys of a `get` or a `gets`, whose calls are the gets of these keys; `None` for any other command.
 pub fn got_keys(command: &Command) -> Option<&[Blob]>
-    ensures value { IfSome result (λ keys. (shards : ℕ) → calls_of shards command.now ≡ get_calls shards keys.now) }
+    ensures some { IfSome result (λ keys. (shards : ℕ) → calls_of shards command.now ≡ get_calls shards keys.now) }
+    ensures none { IfNone result ((keys : List (List ℕ)) (unique : Bool) → command.now ≢ Get keys unique) }
 {
     match command {
         Command::Get { keys, .. } => Some(keys.items()),
