@@ -218,7 +218,8 @@ def faulty_servers():
           capture(2, [segment(0, b"mn\r\n"), segment(0, b"hush\r\n"), segment(0, b"mn\r\n"),
                       segment(1, b"wait 0.1\r\n")]),
           "--wait", "0.3", status=1, said="tools/play: 2 connections, 3 commands answered\n"
-          "tools/play: 1 commands were not answered\n")
+          "tools/play: 1 commands were not answered\n"
+          "tools/play: 1 of them after 0.3 seconds without any answer; --wait waits longer\n")
     plays("a quit", replies([b"MN\r\n"]), capture(1, [segment(0, b"mn\r\nquit\r\nmn\r\n"), segment(0, b"mn\r\n")]),
           said="tools/play: 1 connections, 1 commands answered\n")
     plays("a server that closes", replies([b"MN\r\n", b"MN\r\n"]),
