@@ -162,18 +162,36 @@ def uniques():
 
 def uniques_of_others():
     """A `cas` names a unique that another connection, or another session, was shown; those of its own come first."""
-    sent = [(0, b"set a 0 0 1\r\nx\r\n"), (0, b"gets a\r\n"), (1, b"cas a 0 0 1 8\r\ny\r\n"), (1, b"gets a\r\n"),
-            (1, None), (1, b"cas a 0 0 1 9\r\nz\r\nquit\r\n"), (0, b"cas a 0 0 1 9\r\nz\r\n")]
-    given = capture(2, [close(c) if text is None else segment(c, text) for c, text in sent], 2)
-    shows = b"VALUE a 0 1 %d\r\n%s\r\nEND\r\n"
-    outputs = [[[b"STORED\r\n" + shows % (unique, b"x") + b"EXISTS\r\n"],
-                [b"STORED\r\n" + shows % (unique + 1, b"y"), b"STORED\r\n"]] for unique in (8, 501)]
+    shows = b"VALUE a 0 1 %d\r\nx\r\nEND\r\n"
+    store, look, swap = b"set a 0 0 1\r\nx\r\n", b"gets a\r\n", b"cas a 0 0 1 %d\r\nx\r\n"
+    # the number of the connection, what is sent, and what is answered in the recording and here
+    steps = [(0, store, b"STORED\r\n", b"STORED\r\n"), (0, look, shows % 8, shows % 501),
+             (1, swap % 8, b"STORED\r\n", b"STORED\r\n"), (1, look, shows % 9, shows % 502), (1, None, b"", b""),
+             (1, store, b"STORED\r\n", b"STORED\r\n"), (1, look, shows % 8, shows % 503),
+             (0, swap % 8, b"EXISTS\r\n", b"EXISTS\r\n"), (1, swap % 8, b"STORED\r\n", b"STORED\r\n")]
+    given = capture(2, [segment(c, text) if text else close(c) for c, text, _, _ in steps], 2)
+    files = []
+    for at in (2, 3):
+        second = [one[at] for one in steps if one[0] == 1]
+        files.append(sessions([[b"".join(one[at] for one in steps if one[0] == 0)],
+                               [b"".join(second[:2]), b"".join(second[3:])]]))
     with open("recorded", "wb") as file:
-        file.write(sessions(outputs[0]))
-    for words in (("--recorded", "recorded"), ()):
-        with Server(unique=500) as server:
-            same(f"uniques of others {words}", sessions(outputs[1]),
-                 played("uniques of others", server, given, "--in-order", *words)[0])
+        file.write(files[0])
+    with Server(unique=500) as server:
+        same("uniques of others", files[1], played("uniques of others", server, given, "--in-order", "--recorded",
+                                                   "recorded")[0])
+
+
+def held_back():
+    """A line that may name a unique waits for its end; at the end of a session it is sent as it is."""
+    for text in (b"mn\r\ncas a 0 0 1 7", b"mn\r\nc", b"mn\r\n ms a 1 C5"):
+        with Server() as server:
+            recorder = Recorder(server.place)
+            given = capture(1, pieces(0, text, 1))
+            ran = run("play", "-", "--server", recorder.place, "--wait", "0.3", given=given)
+            recorder.end()
+            same(f"what is sent of {text}", {(0, 0): text}, files_of()[0])
+            same(f"what is answered to {text}", replies([b"MN\r\n"]), ran.stdout)
 
 
 def interrupted():
@@ -200,7 +218,8 @@ def faulty_servers():
           capture(2, [segment(0, b"mn\r\n"), segment(0, b"hush\r\n"), segment(0, b"mn\r\n"),
                       segment(1, b"wait 0.1\r\n")]),
           "--wait", "0.3", status=1, said="tools/play: 2 connections, 3 commands answered\n"
-          "tools/play: 1 commands were not answered\n")
+          "tools/play: 1 commands were not answered\n"
+          "tools/play: 1 of them after 0.3 seconds without any answer; --wait waits longer\n")
     plays("a quit", replies([b"MN\r\n"]), capture(1, [segment(0, b"mn\r\nquit\r\nmn\r\n"), segment(0, b"mn\r\n")]),
           said="tools/play: 1 connections, 1 commands answered\n")
     plays("a server that closes", replies([b"MN\r\n", b"MN\r\n"]),
@@ -331,5 +350,5 @@ def against_memcached():
 
 if __name__ == "__main__":
     all_of(words, orders, in_order, later_sessions, many, large, quiet, tabs, uniques, uniques_of_others,
-           interrupted, faulty_servers, other_sockets, closed_pipe,
+           held_back, interrupted, faulty_servers, other_sockets, closed_pipe,
            uniques_of_memcached, against_memcached)
