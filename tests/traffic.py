@@ -72,11 +72,13 @@ def free_port():
 
 
 class Server:
-    """A small memcached: `set`, `get`, `mg` with `q`, `mn` and `quit`; `big N` is answered by an item of N bytes,
-    `wait S` after S seconds, `hush` never, and `echo N` by the N bytes after it. It is in a thread of its own."""
+    """A small memcached: `set`, `get`, `gets`, `cas`, `mg` with `q` and `c`, `ms` with `C`, `mn` and `quit`; `big N` is
+    answered by an item of N bytes, `wait S` after S seconds, `hush` never, and `echo N` by the N bytes after it. The
+    first unique is that after `unique`. It is in a thread of its own."""
 
-    def __init__(self, place=("127.0.0.1", 0)):
-        self.items, self.writers, self.loop = {}, set(), asyncio.new_event_loop()
+    def __init__(self, place=("127.0.0.1", 0), unique=0):
+        self.items, self.uniques, self.unique, self.hushed = {}, {}, unique, 0
+        self.writers, self.loop = set(), asyncio.new_event_loop()
         threading.Thread(target=self.loop.run_forever, daemon=True).start()
         self.listening = self.do(self.listen(place))
         address = self.listening.sockets[0].getsockname()
@@ -108,17 +110,33 @@ class Server:
         self.writers.add(writer)
         with contextlib.suppress(OSError, ValueError):
             while (line := await lines.readline()).endswith(b"\n") and not line.startswith(b"quit"):
-                writer.write(await self.answer(line.split(), lines, writer))
+                writer.write(await self.answer(line.removesuffix(b"\r\n").split(b" "), lines, writer))
                 await writer.drain()
         writer.close()
         self.writers.discard(writer)
+
+    def store(self, key, block):
+        self.unique += 1
+        self.items[key], self.uniques[key] = block[:-2], self.unique
 
     async def answer(self, words, lines, writer):
         """What answers a command, or the rest of it."""
         match words:
             case [b"set", key, _, _, size, *rest]:
-                self.items[key] = (await lines.readexactly(int(size) + 2))[:-2]
+                self.store(key, await lines.readexactly(int(size) + 2))
                 return b"" if rest else b"STORED\r\n"
+            case [b"cas", key, _, _, size, unique] | [b"ms", key, size, unique]:
+                value, is_meta = await lines.readexactly(int(size) + 2), words[0] == b"ms"
+                if int(unique.removeprefix(b"C")) != self.uniques.get(key):
+                    return b"EX\r\n" if is_meta else b"EXISTS\r\n"
+                self.store(key, value)
+                return b"HD\r\n" if is_meta else b"STORED\r\n"
+            case [b"gets", *keys]:
+                return b"".join(b"VALUE %s 0 %d %d\r\n%s\r\n" % (key, len(self.items[key]), self.uniques[key],
+                                                                 self.items[key])
+                                for key in keys if key in self.items) + b"END\r\n"
+            case [b"mg", key, b"c"]:
+                return b"HD c%d\r\n" % self.uniques[key] if key in self.items else b"EN\r\n"
             case [b"get", *keys]:
                 return b"".join(b"VALUE %s 0 %d\r\n%s\r\n" % (key, len(self.items[key]), self.items[key])
                                 for key in keys if key in self.items) + b"END\r\n"
@@ -141,6 +159,7 @@ class Server:
                     left -= len(text)
                 return b"END\r\n"
             case [b"hush"]:
+                self.hushed += 1
                 return b""
         return b"ERROR\r\n"
 
@@ -247,8 +266,8 @@ class Recorder:
 
     def __init__(self, server, *words, listen="127.0.0.1:0", files=("my.cap", "my.replies"), tool=("tools/record",),
                  **more):
-        given = [os.path.join(TOP, tool[0]), *tool[1:], "--listen", listen, "--server", server, *words, *files]
-        self.process = subprocess.Popen(given, stderr=subprocess.PIPE, **more)
+        given = ["--over", "--listen", listen, "--server", server, *words, *files]
+        self.process = subprocess.Popen([os.path.join(TOP, tool[0]), *tool[1:], *given], stderr=subprocess.PIPE, **more)
         self.first = self.process.stderr.readline().decode()
         self.place = self.first.rsplit(" ", 1)[-1].strip()
         self.said = None

@@ -5,10 +5,8 @@ was left while it grew is whole up to its last record, and can be completed.
 """
 import os
 
-from formats import (END, MOST_CONNECTIONS, MOST_FILE, SEGMENT, Fault, Part, Segment, capture_head, capture_records,
-                     capture_start, close)
-
-GROWING = 2, MOST_CONNECTIONS
+from formats import (END, GROWING, MOST_CONNECTIONS, MOST_FILE, SEGMENT, Fault, Part, Segment, capture_head,
+                     capture_records, capture_start, close)
 
 
 def write_at(file, text, place):
@@ -37,13 +35,22 @@ class Growing:
                 while left:
                     left = left[os.write(self.file, left) :]
         except OSError:
-            os.ftruncate(self.file, self.size)
-            os.lseek(self.file, self.size, os.SEEK_SET)
+            self.cut(self.size)
             raise
         self.size += length
 
+    def cut(self, size):
+        """Cuts it after `size` bytes."""
+        os.ftruncate(self.file, size)
+        os.lseek(self.file, size, os.SEEK_SET)
+        self.size = size
+
     def segment(self, connection, text):
         self.add(SEGMENT.pack(ord("S"), connection, len(text)), text)
+
+    def empty(self, connection, count):
+        """Writes segments without bytes."""
+        self.add(SEGMENT.pack(ord("S"), connection, 0) * count)
 
     def close(self, connection):
         self.add(close(connection))
@@ -54,17 +61,19 @@ class Growing:
         self.add(END)
 
 
-def reading(file, name=""):
-    """A part that is read from the begin of a file, however long that is."""
+def reading(file, name="", passed=None, kind="capture"):
+    """A part that is read from the begin of a file, however long that is; `passed` gets the length of each piece."""
     at = 0
 
     def more(count):
         nonlocal at
         piece = os.pread(file, count, at)
         at += len(piece)
+        if passed:
+            passed(len(piece))
         return piece
 
-    part = Part("capture", more=more, before=name and f"{name}: ")
+    part = Part(kind, more=more, before=name and f"{name}: ")
     part.most = MOST_FILE
     return part
 
@@ -72,10 +81,10 @@ def reading(file, name=""):
 class Found:
     """What there is in a capture that may have been left while it grew; it is refused for any other fault."""
 
-    def __init__(self, file, name=""):
+    def __init__(self, file, name="", passed=None):
         self.file, self.closes, self.sizes, self.count_seen = file, [0] * MOST_CONNECTIONS, [0] * MOST_CONNECTIONS, 0
         self.length = os.fstat(file).st_size
-        part = reading(file, name)
+        part = reading(file, name, passed)
         self.version, self.count = capture_head(part)
         self.whole, self.is_ended = part.place, False  # where the last whole record ends, and whether END is there
         try:

@@ -3,24 +3,32 @@
 A command is what a memcached takes for one, also of those that docs/PROFILE.md leaves out. Of the commands of binary
 clients, and of lines that a server may take for this or that, nothing exact is said.
 """
-from collections import namedtuple
+from collections import deque, namedtuple
 
 STORAGE = (b"set", b"add", b"replace", b"append", b"prepend", b"cas")
 CAN_BE_QUIET = (*STORAGE, b"incr", b"decr", b"delete", b"touch", b"flush_all", b"verbosity")
 # the commands whose flag `q` hides answers: how many words come before the flags, and which answers are hidden
 HIDDEN = {b"mg": (2, (b"EN",)), b"ms": (3, (b"HD",)), b"md": (2, (b"HD", b"NF")), b"ma": (2, (b"HD", b"NF"))}
-CODES = (b"HD", b"VA", b"EN", b"NS", b"EX", b"NF", b"ERROR", b"CLIENT_ERROR", b"SERVER_ERROR")
+META_CODES = (b"HD", b"VA", b"EN", b"NS", b"EX", b"NF")
+ERRORS = (b"ERROR", b"CLIENT_ERROR", b"SERVER_ERROR")
+CODES = (*META_CODES, *ERRORS)
+# first bytes that are not those of text
+ODD = {0x80: "the binary protocol", 0x16: "TLS"}
 # the first words of lines after which an answer goes on
 LONG = (b"VALUE", b"STAT", b"ITEM")
+# the first words of lines that name a key or may show a unique, and how many words they have where they do neither
+ITEMS = {b"VALUE": 1, b"VA": 2, b"HD": 1}
+# the commands that may name a unique
+NAMING = (b"cas", b"ms", b"md", b"ma")
 # what is kept of a line, in bytes
 MOST_LINE = 1 << 16
 
 ALWAYS, PERHAPS, NEVER = "always", "perhaps", "never"
 
-# a command: its first word, when it is answered, and where it ends in the bytes that were fed
-Command = namedtuple("Command", "verb answered end")
-# an answer: the first word of its last line, or VA, and where it ends in the bytes that were fed
-Answer = namedtuple("Answer", "word end")
+# a command: its first word, when it is answered, the words of its line, and where it ends in the bytes that were fed
+Command = namedtuple("Command", "verb answered words end")
+# an answer: the first word of its last line, or VA, the words of its lines with a key or a unique, and where it ends
+Answer = namedtuple("Answer", "word items end")
 
 
 def number(words, at):
@@ -28,9 +36,14 @@ def number(words, at):
     return int(words[at]) if len(words) > at and words[at].isdigit() and len(words[at]) <= 10 else None
 
 
-def command_of(line):
+def words_of(line):
+    """The words of a line without its line feed. Only spaces are between words: a tab is part of one."""
+    words = line.removesuffix(b"\r").split(b" ")
+    return [word for word in words if word] if b"" in words else words
+
+
+def command_of(words):
     """The first word of a line, when it is answered, and the length of its block; None where it has none."""
-    words = line.split()
     verb = words[0] if words else b""
     if verb in HIDDEN:
         is_quiet = any(word.startswith(b"q") for word in words[HIDDEN[verb][0] :])
@@ -74,21 +87,26 @@ class Commands(Lines):
     def __init__(self):
         super().__init__()
         self.waiting, self.has_quit = None, False
+        self.naming = []  # the lines of the last bytes that may name a unique, each after the place of its end
 
     def feed(self, text):
         """The commands that end in these further bytes; a `quit` is the last one."""
+        self.naming = []
         if self.has_quit:
             return
         for end, line in self.cut(text):
             if line is None:
                 yield Command(*self.waiting, end)
                 continue
-            verb, answered, size = command_of(line)
+            words = words_of(line)
+            verb, answered, size = command_of(words)
+            if verb in NAMING:
+                self.naming.append((end, line))
             if size is not None:
-                self.waiting, self.block = (verb, answered), size + 2
+                self.waiting, self.block = (verb, answered, words), size + 2
                 continue
             self.has_quit = verb == b"quit"
-            yield Command(verb, NEVER if self.has_quit else answered, end)
+            yield Command(verb, NEVER if self.has_quit else answered, words, end)
             if self.has_quit:
                 return
 
@@ -98,41 +116,112 @@ class Answers(Lines):
 
     def __init__(self):
         super().__init__()
-        self.word = None  # the answer that ends with the current block
+        self.word, self.items = None, []  # the answer that ends with the current block, and what it has so far
 
     def feed(self, text):
         """The answers that end in these further bytes."""
         for end, line in self.cut(text):
             if line is None:
                 if self.word:
-                    yield Answer(self.word, end)
-                    self.word = None
+                    yield self.answer(self.word, end)
                 continue
-            words = line.split()
+            words = words_of(line)
             word = words[0] if words else b""
+            if word in ITEMS and len(words) > ITEMS[word]:
+                self.items.append(words)
             size = number(words, {b"VALUE": 3, b"VA": 1}[word]) if word in (b"VALUE", b"VA") else None
             if size is not None:
                 self.block, self.word = size + 2, word if word == b"VA" else None
             elif word not in LONG:
-                yield Answer(word, end)
+                yield self.answer(word, end)
+
+    def answer(self, word, end):
+        items, self.word, self.items = self.items, None, []
+        return Answer(word, items, end)
+
+
+class Pending:
+    """The commands of a connection that wait for their answers, in their order; of some it is sure that one comes."""
+
+    def __init__(self):
+        self.commands, self.sure = deque(), 0
+
+    def add(self, sent):
+        """Adds a command that may be answered, with what is noted of it."""
+        self.commands.append(sent)
+        self.sure += sent.command.answered == ALWAYS
+
+    def take(self, answer):
+        """What was noted of the command that an answer belongs to; None where there is none."""
+        waiting = self.commands
+        while waiting:
+            sent = waiting.popleft()
+            if sent.command.answered == ALWAYS or can_answer(answer.word, sent.command.verb):
+                self.sure -= sent.command.answered == ALWAYS
+                return sent
+        return None
+
+    def clear(self):
+        """Waits no more for answers; gives how many were to come."""
+        count, self.sure = self.sure, 0
+        self.commands.clear()
+        return count
 
 
 class Pace:
-    """What passes on a connection; `owed` is how many commands wait for their answer."""
+    """What passes on a connection, and how many commands wait for their answer.
+
+    Where some have the flag `q` it is not known which meta commands the answers of these belong to: then the other
+    commands are counted alone.
+    """
 
     def __init__(self):
         self.is_new = self.is_text = True
-        self.commands, self.answers, self.owed = Commands(), Answers(), 0
+        self.commands, self.answers = Commands(), Answers()
+        self.classic = self.meta = 0
+        self.has_quiet = False
+
+    @property
+    def owed(self):
+        """How many commands wait for their answer."""
+        return self.classic + (0 if self.has_quiet else self.meta)
 
     def sent(self, text):
-        """How many commands end in these further bytes of the client."""
-        self.is_new, count = False, 0
-        for command in self.commands.feed(text) if self.is_text else ():
-            count += 1
-            self.owed += command.answered == ALWAYS
+        """How many commands end in these further bytes of the client; a `quit` is none."""
+        if self.is_new and text:
+            self.is_new, self.is_text = False, text[0] not in ODD
+        count = 0
+        for verb, answered, _, _ in self.commands.feed(text) if self.is_text else ():
+            count += verb != b"quit"
+            if answered == PERHAPS:
+                self.has_quiet = True
+            elif answered == ALWAYS and verb in HIDDEN:
+                self.meta += 1
+            elif answered == ALWAYS:
+                self.classic += 1
         return count
 
     def heard(self, text):
-        """Takes further bytes of the server."""
-        for _ in self.answers.feed(text) if self.is_text else ():
-            self.owed = max(0, self.owed - 1)
+        """How many answers end in these further bytes of the server."""
+        count = 0
+        for answer in self.answers.feed(text) if self.is_text else ():
+            count += 1
+            self.take(answer)
+        return count
+
+    def take(self, answer):
+        """Takes an answer: a faulty command of either kind may have an error line."""
+        if answer.word in META_CODES or self.meta and answer.word in ERRORS:
+            self.meta = max(0, self.meta - 1)
+        elif self.classic:
+            self.classic -= 1
+
+    def last(self, text):
+        """These further bytes of the server, up to the end of the last answer that is waited for."""
+        if not self.owed:
+            return b""
+        for answer in self.answers.feed(text):
+            self.take(answer)
+            if not self.owed:
+                return text[: answer.end]
+        return text

@@ -4,12 +4,13 @@ import math
 import selectors
 import socket
 
-from pace import ALWAYS, NEVER, PERHAPS, Answers, Commands, can_answer
+from pace import NEVER, Answers, Commands, Pending
+from uniques import held_back
 
 READ, WRITE = selectors.EVENT_READ, selectors.EVENT_WRITE
 
-# a command that was sent, and when
-Sent = collections.namedtuple("Sent", "verb answered time")
+# a command that was sent, its number in its session, and when
+Sent = collections.namedtuple("Sent", "command number time")
 
 
 class Times:
@@ -35,29 +36,40 @@ class Times:
 
 
 class Player:
-    """A session that is played: what it sends, and the answers that it waits for."""
+    """A session that is played: what it sends, with the uniques of the server, and the answers that it waits for."""
 
-    def __init__(self, number, script, addresses):
+    def __init__(self, number, script, addresses, uniques):
         self.number, self.script, self.left = number, script, list(addresses)
         self.socket, self.mask, self.waiting, self.handler = None, 0, b"", None
         self.is_connected = self.is_ending = self.is_shut = self.is_over = False
-        self.commands, self.answers, self.pending, self.sure = Commands(), Answers(), collections.deque(), 0
+        self.commands, self.answers, self.pending, self.asked = Commands(), Answers(), Pending(), 0
+        self.uniques, self.held = uniques, b""
 
     def is_ready(self):
         """Whether the next step can be carried out."""
-        return self.is_over or not (self.waiting or self.sure or self.is_ending)
+        return self.is_over or not (self.waiting or self.pending.sure or self.is_ending)
 
     def ask(self, text, now):
         """Takes a segment to send, up to a `quit`."""
         if self.commands.has_quit or self.is_over:
             return
+        end = len(text)
         for command in self.commands.feed(text):
             if command.answered != NEVER:
-                self.pending.append(Sent(command.verb, command.answered, now))
-                self.sure += command.answered == ALWAYS
-            if self.commands.has_quit:
-                text = text[: command.end]
-        self.waiting = memoryview(text)
+                sent = Sent(command, self.asked, now)
+                self.pending.add(sent)
+                self.uniques.sent(sent)
+            self.asked += 1
+            end = command.end if self.commands.has_quit else end
+        whole = self.uniques.translated(self.held, text[:end], self.commands.naming)
+        count = held_back(self.commands)
+        self.held = whole[len(whole) - count :]
+        self.waiting = memoryview(whole[: len(whole) - count])
+
+    def finish(self):
+        """Nothing more is asked: sends the rest, and then the end."""
+        self.is_ending = True
+        self.waiting, self.held = memoryview(bytes(self.waiting) + self.held), b""
 
     def send(self):
         """Sends what the server takes."""
@@ -75,19 +87,10 @@ class Player:
     def hear(self, text, note):
         """Takes bytes of the server; `note` gets the time of each command that they answer."""
         for answer in self.answers.feed(text):
-            pending = self.pending
-            while pending and pending[0].answered == PERHAPS and not can_answer(answer.word, pending[0].verb):
-                pending.popleft()
-            if pending:
-                sent = pending.popleft()
-                self.sure -= sent.answered == ALWAYS
+            sent = self.pending.take(answer)
+            if sent is not None:
+                self.uniques.answered(sent, answer)
                 note(sent.time)
-
-    def give_up(self):
-        """Waits no more for answers; gives how many were to come."""
-        count, self.sure = self.sure, 0
-        self.pending.clear()
-        return count
 
     def wanted(self):
         return (READ if self.is_connected else 0) | (WRITE if self.waiting or not self.is_connected else 0)

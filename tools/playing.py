@@ -34,15 +34,17 @@ class Script:
 
 
 class Play:
-    """The loop: scripts are carried out, and what comes back is kept in a spool."""
+    """The loop: scripts are carried out, and what comes back is kept in a spool. `uniques` gives what translates the
+    uniques of a connection's session."""
 
-    def __init__(self, scripts, options, spool, screen):
+    def __init__(self, scripts, options, spool, screen, uniques):
+        self.uniques, self.sessions, self.is_interrupted = uniques, collections.Counter(), False
         self.queue, self.running, self.players, self.active = collections.deque(scripts), set(), {}, set()
         self.server, self.addresses = options["--server"].name, options["--server"].addresses()
         self.most, self.wait = options["--connections"], options["--wait"]
         self.spool, self.screen = spool, screen
         self.selector, self.later, self.begun = selectors.DefaultSelector(), [], 0
-        self.times, self.connected, self.missing, self.faults = Times(), 0, 0, 0
+        self.times, self.connected, self.missing, self.late, self.faults, self.closed = Times(), 0, 0, 0, 0, 0
         self.now = self.last = time.perf_counter()
 
     # ---- scripts
@@ -52,6 +54,7 @@ class Play:
         while script in self.running and script.is_ready():
             if script.closing is not None:
                 self.spool.close(script.closing)
+                self.sessions[script.closing] += 1
                 script.closing = None
             step = next(script.steps, None)
             if step is None:
@@ -69,14 +72,15 @@ class Play:
         if step.is_close:
             script.closing = step.connection
         if player and not player.is_over:
-            player.is_ending = True
+            player.finish()
             self.push(player)
 
     # ---- sessions
 
     def begin(self, connection, script):
         """A new session."""
-        player = self.players[connection] = Player(connection, script, self.addresses)
+        uniques = self.uniques(connection, self.sessions[connection])
+        player = self.players[connection] = Player(connection, script, self.addresses, uniques)
         player.handler = functools.partial(self.handle, player)
         self.active.add(player)
         self.begun += 1
@@ -126,9 +130,10 @@ class Play:
             player.socket.close()
         player.is_over, player.waiting = True, b""
         self.active.discard(player)
-        self.missing += player.give_up()
+        self.missing += player.pending.clear()
         if fault is None and not player.is_ending and not player.commands.has_quit:
             fault = "closed by the server"
+            self.closed += 1
         if fault is not None:
             self.tell(f"connection {player.number}: {fault}")
 
@@ -191,7 +196,7 @@ class Play:
 
     def run(self):
         second = self.now
-        while self.queue or self.running:
+        while (self.queue or self.running) and not self.is_interrupted:
             while self.queue and self.begun < MOST_BEGUN and len(self.running) < self.most:
                 script = self.queue.popleft()
                 self.running.add(script)
@@ -210,12 +215,18 @@ class Play:
             if self.now > second:
                 second = self.now + 1
                 self.screen.show(f"{len(self.active)} connections open; {self.times.count} commands answered")
+        self.missing += sum(player.pending.clear() for player in self.active)
+
+    def interrupt(self, *_):
+        """Ends soon, with what has come so far."""
+        self.is_interrupted = True
 
     def release(self):
         """Nothing came for long: all go on without the answers that they wait for."""
         self.last = self.now
         for player in list(self.active):
-            self.missing += player.give_up()
+            count = player.pending.clear()
+            self.missing, self.late = self.missing + count, self.late + count
             if player.is_connected and (player.waiting or player.is_ending):
                 self.over(player, f"nothing was taken for {self.wait} seconds" if player.waiting else None)
         for script in list(self.running):

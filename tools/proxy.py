@@ -10,7 +10,6 @@ import selectors
 import socket
 import time
 
-from formats import MOST_CONNECTIONS
 from links import READ, WRITE, Link
 from places import beginning, forget, prompt
 
@@ -35,7 +34,7 @@ class Proxy:
         self.recording, self.server, self.addresses, self.most = recording, server, addresses, most
         self.screen, self.selector = screen, selectors.DefaultSelector()
         self.listening, self.links, self.dials, self.later = [], set(), set(), []
-        self.turned_away = self.refused = 0  # for the server is not there; for there is no number
+        self.turned_away = self.gone = 0  # clients without a server, and those that have come and gone
         self.room = max(1, (resource.getrlimit(resource.RLIMIT_NOFILE)[0] - OTHERS) // 2)
         self.now = self.last = time.monotonic()
         self.ending, self.is_crowded, self.is_signalled, self.is_hurried = None, False, False, False
@@ -50,7 +49,7 @@ class Proxy:
     def accept(self, one, _):
         """Takes clients that wait."""
         for _ in range(64):
-            if self.recording.open() + len(self.dials) >= self.room:
+            if len(self.links) + len(self.dials) >= self.room:
                 self.pause(one)
                 return
             try:
@@ -62,24 +61,15 @@ class Proxy:
                     self.pause(one)
                     return
                 continue
-            if self.recording.open() + len(self.dials) < MOST_CONNECTIONS:
-                self.dial(Dial(client, self.addresses))
-            else:
-                self.refuse(client)
+            self.dial(Dial(client, self.addresses))
 
     def pause(self, one):
         """No client is taken for a while, since no more files may be open."""
         if not self.is_crowded:
-            self.screen.say("no more files may be open: clients wait")
+            self.screen.say("no more files may be open (ulimit -n): clients wait")
         self.is_crowded = True
         self.selector.unregister(one)
         self.later.append(functools.partial(self.selector.register, one, READ, self.accept))
-
-    def refuse(self, client):
-        client.close()
-        self.refused += not self.recording.fault
-        if self.refused == 1:
-            self.screen.say(f"{MOST_CONNECTIONS} connections are open, the most of a recording: others are refused")
 
     # ---- the server
 
@@ -115,18 +105,14 @@ class Proxy:
             self.screen.say(f"{self.server}: connected again; clients turned away: {self.turned_away}")
             self.turned_away = 0
         self.dials.discard(dial)
-        number = self.recording.begin()
-        if number is None:
-            one.close()
-            self.refuse(dial.client)
-            return
-        self.add(Link(dial.client, one, number, self.recording))
+        self.add(Link(dial.client, one, self.recording.begin(), self.recording))
 
     def turn_away(self, dial, fault):
         self.dials.discard(dial)
         dial.client.close()
         if not self.turned_away:
-            self.screen.say(f"{self.server}: {os.strerror(fault)}: clients are turned away")
+            self.screen.say(f"{self.server}: {os.strerror(fault)}: clients are turned away until it is there;"
+                            " --server names it")
         self.turned_away += 1
 
     # ---- links
@@ -166,6 +152,7 @@ class Proxy:
                 self.selector.unregister(one)
             one.close()
         self.links.discard(link)
+        self.gone += 1
         self.recording.end(link.number)
 
     # ---- the loop
@@ -177,8 +164,7 @@ class Proxy:
             for key, events in self.selector.select(LOOK if self.ending or self.later else IDLE):
                 key.data(key.fileobj, events)
             self.now = time.monotonic()
-            is_enough = self.most is not None and self.recording.done >= self.most
-            if self.is_signalled or self.recording.fault or is_enough:
+            if self.is_signalled or self.most is not None and self.gone >= self.most:
                 self.end()
             if self.now >= look:
                 look = self.now + LOOK
@@ -200,8 +186,9 @@ class Proxy:
 
     def status(self):
         one = self.recording
-        return (f"{one.open()} connections open, {one.done} closed; {one.commands} commands,"
-                f" {one.sent_bytes} bytes sent, {one.answered_bytes} bytes back")
+        return (f"{len(self.links)} connections open, {self.gone} closed; {one.commands} commands,"
+                f" {one.sent_bytes} bytes sent, {one.answered_bytes} bytes back"
+                + ("; nothing more is recorded" if one.fault else ""))
 
     def signal(self, one, _):
         """Signals came: they begin the end and, if they come later, end at once."""

@@ -7,8 +7,9 @@ import struct
 from bisect import bisect_right
 from collections import namedtuple
 from itertools import groupby
+from operator import itemgetter
 
-from formats import END, capture, capture_start, close, output, pieces, replies_start
+from formats import END, capture, capture_start, close, output, pieces, replies_start, segment
 
 MOST_FILE = (1 << 32) - 1
 MOST_FRAME, GROUPS, MOST_OF_GROUP = 262144, 128, 32
@@ -25,9 +26,9 @@ HASH_KEY = int("6d5a56da255b0ec24167253d43a38fb0d0ca2bcbae7b30b477cb2da38030f20c
 HASH_KEY_BITS = 320
 
 Record = namedtuple("Record", "at time frame")
-Packet = namedtuple("Packet", "flow sequence is_syn payload")
-# how much of the stream of a session had come with a packet
-Arrival = namedtuple("Arrival", "time connection session size")
+Packet = namedtuple("Packet", "flow sequence is_syn payload expected", defaults=[None])
+# how much of the requests of a session, or of its answers, had come with a packet
+Arrival = namedtuple("Arrival", "time connection session is_answer size")
 
 
 class PacketFault(Exception):
@@ -116,8 +117,9 @@ def packet_of(frame, at, begin, end):
     if payload < end and len(frame) < end:
         raise PacketFault(MISSING, at)
     sequence = int.from_bytes(frame[begin + 4 : begin + 8], "big")
+    expected = int.from_bytes(frame[begin + 8 : begin + 12], "big")
     flow = frame[26:34] + frame[begin : begin + 4]
-    return Packet(flow, sequence, frame[begin + 13] >> 1 & 1, frame[payload:end])
+    return Packet(flow, sequence, frame[begin + 13] >> 1 & 1, frame[payload:end], expected)
 
 
 def judge(frame, at, port):
@@ -166,6 +168,12 @@ class Stream:
             found.append(self.texts[span][begin - first : end - first])
             begin, span = self.stop(span), span + 1
         return b"".join(found)
+
+    def reach(self, offset):
+        """Notes that there were bytes up to an offset."""
+        if offset > self.end():
+            self.begins.append(offset)
+            self.texts.append(bytearray())
 
     def rest(self):
         """What comes after the stream: the offset and the bytes of each run between two gaps."""
@@ -225,7 +233,11 @@ class Answers(Stream):
     """What a server sends in a session: its length has no bound."""
 
     def offset(self, packet, at):
-        ahead = (packet.sequence + packet.is_syn - self.base - self.size()) % NUMBERS
+        return self.place(packet.sequence + packet.is_syn)
+
+    def place(self, number):
+        """The offset of the byte with a sequence number: the one that is nearest to the end of the stream."""
+        ahead = (number - self.base - self.size()) % NUMBERS
         return self.size() + (ahead if ahead < BEFORE else ahead - NUMBERS)
 
 
@@ -234,7 +246,10 @@ class Session:
 
     def __init__(self, packet):
         self.requests, self.answers = Stream(packet), None
-        self.sent = 0  # how many bytes were sent, as the numbers of packets without bytes show
+        # how many bytes were sent, and how many came back, as the numbers of other packets show
+        self.sent = self.heard = 0
+        self.is_resumed = self.is_answered = False  # it began anew after a loss; what came last is of the server
+        self.early, self.is_misfit = 0, False  # how many bytes answer earlier requests; no answer fits its request
 
     def ends_with(self, packet):
         """Whether a packet begins the next session."""
@@ -245,6 +260,19 @@ class Session:
         if self.answers is None or packet.is_syn and self.answers.syn != packet.sequence:
             self.answers = Answers(packet)
         self.answers.meet(packet, at)
+        self.is_answered |= bool(packet.payload)
+
+    def expects(self, number):
+        """Notes that the client has all bytes of the server up to the one with this sequence number."""
+        place = self.answers.place(number) if self.answers else 0
+        if place < self.heard + MOST_STREAM:
+            self.heard = max(self.heard, place)
+
+    def is_expected(self, number):
+        """Notes that the client has sent all bytes up to the one with this sequence number."""
+        offset = (number - self.requests.base) % NUMBERS
+        if offset < MOST_STREAM:
+            self.sent = max(self.sent, offset)
 
 
 # ---- flows
@@ -287,10 +315,15 @@ class Flows:
         """The current session of a flow; None before its first packet."""
         return self.sessions[self.numbers[flow]][-1] if flow in self.numbers else None
 
-    def arrival(self, flow, time):
+    def arrival(self, flow, time, is_answer=False):
         """How much of the current session of a flow has come, at this time."""
         number = self.numbers[flow]
-        return Arrival(time, number, len(self.sessions[number]) - 1, self.sessions[number][-1].requests.size())
+        last = len(self.sessions[number]) - 1
+        session = self.sessions[number][last]
+        return Arrival(time, number, last, is_answer, (session.answers if is_answer else session.requests).size())
+
+    def settle(self):
+        """All packets were met."""
 
     def count(self):
         return max(self.sessions, default=-1) + 1
@@ -304,18 +337,30 @@ class Flows:
                 made += pieces(number, session.requests.text())
         return capture(self.count(), made, 2)
 
-    def in_order(self, arrivals):
-        """The bytes of the capture with the same streams, cut where in time other connections come in between."""
+    def in_order(self, arrivals, ends_of=None):
+        """The bytes of the capture with the same streams, cut where in time other connections come in between.
+
+        Where an answer is whole that arrived, there is a segment without bytes; `ends_of` gives the places at which the
+        answers of a session end.
+        """
         yield capture_start(self.count(), 2)
-        place = {}
-        for (number, session), some in groupby(by_time(arrivals), lambda one: (one.connection, one.session)):
-            before, begin = place.get(number, (0, 0))
-            if session > before:
+        last, written, ends = {}, {}, {}
+        for key, some in groupby(by_time(arrivals), itemgetter(1, 2, 3)):
+            number, at, is_answer = key
+            if at < last.setdefault(number, at):
+                continue
+            session = self.sessions[number][at]
+            if at > last[number]:
                 yield close(number)
-                begin = 0
-            end = max(one.size for one in some)
-            yield from pieces(number, self.sessions[number][session].requests.text(begin, end))
-            place[number] = session, end
+                last[number] = at
+            begin, end = written.get(key, 0), max(one.size for one in some)
+            written[key] = end
+            if not is_answer:
+                yield from pieces(number, session.requests.text(begin, end))
+                continue
+            if key not in ends:
+                ends[key] = ends_of(session)
+            yield segment(number, b"") * (bisect_right(ends[key], end) - bisect_right(ends[key], begin))
         yield END
 
     def replies(self, answered):
@@ -328,10 +373,14 @@ class Flows:
 
 
 def by_time(arrivals):
-    """Arrivals by their time; those of a connection stay in their order."""
+    """Arrivals by their time; requests of a connection stay in their order, and answers come after the requests that
+    were before them."""
     latest, found = {}, []
     for one in arrivals:
-        time = latest[one.connection] = max(one.time, latest.get(one.connection, one.time))
+        number, time = one.connection, max(one.time, latest.get((one.connection, one.is_answer), one.time))
+        latest[number, True] = max(time, latest.get((number, True), time))
+        if not one.is_answer:
+            latest[number, False] = time
         found.append(one._replace(time=time))
     return sorted(found, key=lambda one: one.time)
 

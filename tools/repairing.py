@@ -1,10 +1,13 @@
 """Completes the files of a recording that was killed: its capture, and the replies file from the spool."""
 import os
+from collections import defaultdict
+from itertools import zip_longest
 
 import ends
-from formats import END, capture_start, close
-from growing import Found, write_at
-from screen import write
+from formats import END, Close, capture_head, capture_records, capture_start, close
+from growing import Found, reading, write_at
+from pace import Pace
+from screen import Screen, write
 from spool import replies_of
 from targets import SPOOL, locked, naming
 
@@ -34,6 +37,26 @@ def cut(found):
     return f", {kept[0]} of the {kept[1]} bytes of the last segment" if kept else ""
 
 
+def closed(file, take):
+    """The connections that close in a capture, in its order; the segments before each are given to `take`."""
+    part = reading(file)
+    for record in capture_records(part, *capture_head(part)):
+        if isinstance(record, Close):
+            yield record.connection
+        else:
+            take(record)
+
+
+def unanswered(sent, back):
+    """How many commands of a capture have no whole answer in a spool, in which connections close in the same order."""
+    paces, count = defaultdict(Pace), 0
+    for both in zip_longest(closed(sent, lambda one: paces[one.connection].sent(one.text)),
+                            closed(back, lambda one: paces[one.connection].heard(one.text))):
+        for number in set(both) & set(paces):
+            count += paces.pop(number).owed
+    return count + sum(pace.owed for pace in paces.values())
+
+
 def repair(names):
     capture, replies = names
     spool = replies + SPOOL
@@ -51,11 +74,14 @@ def repair(names):
     with naming(spool):
         complete(back, closes, version, count)
     with naming(replies):
-        replies_of(back.file, os.open(replies, os.O_RDWR | os.O_CREAT, 0o666), version, count)
+        replies_of(back.file, os.open(replies, os.O_RDWR | os.O_CREAT, 0o666), version, count, Screen())
+    missing = unanswered(sent.file, back.file)
     os.unlink(spool)
     say(f"{capture}: completed: {count} connections, {count + sum(closes)} sessions, {sum(sent.sizes)} bytes sent"
         f"{endings[0]}")
     say(f"{replies}: completed: {sum(back.sizes)} bytes back{endings[1]}")
+    if missing:
+        say(f"{missing} commands are not answered whole")
 
 
 def version_of(sent, closes, seen):

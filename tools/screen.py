@@ -1,7 +1,11 @@
 """Lines on standard error: those that stay and, on a terminal, one that is written over again and again."""
 import os
+import time
 
 import ends
+
+# bytes that it takes seconds to go over
+MUCH = 1 << 28
 
 
 def hold_first():
@@ -40,3 +44,20 @@ class Screen:
         if self.is_shown:
             write("\r\x1b[K")
             self.is_shown = False
+
+
+class Progress:
+    """Work on a number of bytes. On a terminal a line a second says how much is done, and elsewhere one line that it
+    has begun, where it is much."""
+
+    def __init__(self, screen, what, size):
+        self.screen, self.what, self.size, self.done = screen, what, size, 0
+        self.next = time.monotonic() + 1
+        if size > MUCH and not screen.is_terminal:
+            screen.say(what)
+
+    def __call__(self, count):
+        self.done += count
+        if time.monotonic() > self.next:
+            self.next = time.monotonic() + 1
+            self.screen.show(f"{self.what}: {100 * self.done // self.size} %")

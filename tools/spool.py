@@ -8,6 +8,7 @@ import os
 
 from formats import END, Segment, capture_head, capture_records, output_start, replies_start
 from growing import Found, reading, write_at
+from screen import Progress
 
 # how many bytes of outputs are gathered before they are written
 MOST_GATHERED = 1 << 23
@@ -44,11 +45,13 @@ def all_outputs(found, file, version, count):
     return outputs, place
 
 
-def replies_of(spool, file, version, count):
+def replies_of(spool, file, version, count, screen):
     """Writes the replies file of a spool; both are open files. Gives how many bytes came back."""
-    found = Found(spool)
+    size = os.fstat(spool).st_size
+    passed = Progress(screen, f"joining {size >> 20} MB of replies", 2 * size)
+    found = Found(spool, passed=passed)
     outputs, place = all_outputs(found, file, version, count)
-    part, gathered = reading(spool), 0
+    part, gathered = reading(spool, passed=passed), 0
     for record in capture_records(part, *capture_head(part)):
         if not isinstance(record, Segment):
             outputs[record.connection].end()
@@ -64,4 +67,5 @@ def replies_of(spool, file, version, count):
     write_at(file, END, place)
     os.ftruncate(file, place + len(END))
     write_at(file, replies_start(version), 0)
+    screen.clear()
     return sum(found.sizes)

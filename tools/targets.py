@@ -32,13 +32,16 @@ def naming(name):
 
 class Target:
     """A file that is written. `file` can be read and written at any place: it is the file itself or, for standard
-    output, pipes and devices, a temporary one whose bytes are passed on at the end."""
+    output, pipes and devices, a temporary one whose bytes are passed on at the end. A file in which there is something
+    is refused, unless `is_over` says that it is written over."""
 
-    def __init__(self, name):
+    def __init__(self, name, is_over):
         self.name, self.out, self.is_made = name, None, name != "-" and not os.path.lexists(name)
         if name == "-":
             self.out = sys.stdout.fileno()
         elif self.is_made or stat.S_ISREG(os.stat(name).st_mode):
+            if not self.is_made and os.path.getsize(name) and not is_over:
+                raise OSError(errno.EEXIST, "there is something in this file; --over writes over it", name)
             self.file = os.open(name, os.O_RDWR | os.O_CREAT, 0o666)
         else:
             self.out = os.open(name, os.O_WRONLY)
@@ -66,14 +69,22 @@ def locked(name, flags=0):
     return file
 
 
+def refuse_left(name):
+    """Refuses a spool that another recording writes, or has left."""
+    if os.path.lexists(name):
+        locked(name)
+        raise OSError(errno.EEXIST, "left by a recording that did not end; complete that with --repair", name)
+
+
 class Files:
     """The files of a recording: what is sent, what comes back, and its spool."""
 
-    def __init__(self, names):
+    def __init__(self, names, is_over):
         self.targets, self.spool_name = [], None
+        refuse_left(names[1] + SPOOL)
         try:
             for name in names:
-                self.targets.append(Target(name))
+                self.targets.append(Target(name, is_over))
             self.capture, self.replies = self.targets
             if os.path.samestat(os.fstat(self.capture.file), os.fstat(self.replies.file)):
                 raise OSError(errno.EEXIST, "both files cannot be this one", names[1])
@@ -88,12 +99,7 @@ class Files:
             self.spool = self.kept.fileno()
             return
         name = self.replies.name + SPOOL
-        try:
-            self.spool = locked(name, os.O_CREAT | os.O_EXCL)
-        except FileExistsError:
-            locked(name)
-            raise OSError(errno.EEXIST, "left by a recording that did not end; complete that with --repair", name) \
-                from None
+        self.spool = locked(name, os.O_CREAT | os.O_EXCL)
         self.spool_name = name
 
     def take_back(self):
