@@ -274,6 +274,15 @@ def uniques():
     caused("ms with C", [b"ms a 1\r\nx\r\nms a 1 C7\r\ny\r\n"], [b"HD\r\nHD\r\n"], [b"HD\r\nEX\r\n"], "ms 1" + UNIQUES)
 
 
+def odd_keys():
+    """Keys with white space other than the space."""
+    for key in (b"a\tb", b"a\rb", b"a\x0b", b"\x0c"):
+        sent = b"set %s 0 0 4\r\nEND\r\r\nget %s\r\nget %s b\r\nget c\r\n" % (key, key, key)
+        one = b"STORED\r\n" + b"VALUE %s 0 4\r\nEND\r\r\nEND\r\n" % key * 2
+        lines = caused(f"the key {key!r}", [sent], [one + b"END\r\n"], [one + b"VALUE c 0 1\r\nx\r\nEND\r\n"], "get 1" + BEFORE)
+        same(f"where the answers to {key!r} are", "connection 0, session 0, answer 3, command 3: get c", lines[0])
+
+
 def other_causes():
     caused("an exptime", [b"set a 0 1 1\r\nx\r\nget a\r\n"], [b"STORED\r\nEND\r\n"], [b"STORED\r\n" + ITEM], "get 1" + EXPIRY)
     caused("an exptime by touch", [b"set a 0 0 1\r\nx\r\ntouch a 1\r\nget a\r\n"], [b"STORED\r\nTOUCHED\r\nEND\r\n"],
@@ -364,4 +373,4 @@ def large():
 
 if __name__ == "__main__":
     carry_out(first_differences, one_answer_each, all_differences, silent_commands, not_recorded, items_from_before,
-              shared_keys, steps, many_steps, uniques, other_causes, drawn_captures, edited_outputs, large)
+              shared_keys, steps, many_steps, uniques, odd_keys, other_causes, drawn_captures, edited_outputs, large)

@@ -53,6 +53,7 @@ def values():
     hit = b"VALUE a 7 3\r\nxyz\r\nEND\r\n"
     for name, value, flags, sent, answered in (
         ("a hit", b"xyz", 7, b"get a\r\n", hit),
+        ("a hit without its key", b"xyz", 0, b"mg a v\r\n", b"VA 3\r\nxyz\r\n"),
         ("a hit with its unique", b"xyz", 7, b"gets b a\r\n", b"VALUE a 7 3 99\r\nxyz\r\nEND\r\n"),
         ("a hit of mg", b"xyz", 7, b"mg a f v\r\n", b"VA 3 f7\r\nxyz\r\n"),
         ("a hit of gat", b"xyz", 7, b"gat 0 a\r\n", hit),
@@ -71,6 +72,8 @@ def values():
         ("meta commands", b"", 0, b"ms a 1 ME\r\nw\r\nmd a\r\n", b"NS\r\nHD\r\n"),
     ):
         same(name, {0: set_of(b"a", value, flags)}, warmed([sent], [answered]))
+    odd = b"a\t\x0b"
+    same("an odd key", {0: set_of(odd, b"x")}, warmed([b"get %s\r\n" % odd], [b"VALUE %s 0 1\r\nx\r\nEND\r\n" % odd]))
     for name, sent, answered in (
         ("a miss", b"get a\r\nset a 0 0 1\r\nx\r\nget a\r\n", b"END\r\nSTORED\r\nVALUE a 0 1\r\nx\r\nEND\r\n"),
         ("a set", b"set a 0 0 1\r\nx\r\nget a\r\n", b"STORED\r\nVALUE a 0 1\r\nx\r\nEND\r\n"),

@@ -9,7 +9,7 @@ import subprocess
 import sys
 import tempfile
 
-from checks import TOP, carry_out, fail, most_memory, path_of, prints, run, same, says
+from checks import TOP, carry_out, fail, module, most_memory, path_of, prints, run, same, says
 import drawn
 import formats
 import reports
@@ -74,7 +74,7 @@ def parts():
     for name, wanted in (("capture", sent), ("journal", JOURNAL), ("replies", told)):
         prints(f"the {name} of three parts", wanted, "part", name, given=whole)
         prints(f"the {name} alone", wanted, "part", name, "-", given=wanted)
-        says(f"no {name}", f"standard input: no {name} in it", "part", name)
+        says(f"no {name}", f"standard input: no {name} in it{module('part').HINTS[name]}", "part", name)
         says(f"two times the {name}", f"standard input: {name}: there are two of them, in the part that begins at byte "
              f"{len(wanted)}", "part", name, given=wanted * 2)
     ran = run("part", "journal", given=sent + JOURNAL[:-1])

@@ -1,7 +1,7 @@
 """The answers in the outputs of a server, and which commands they answer where each has its answer."""
 import re
 
-from meaning import framed, line_of
+from meaning import framed, line_of, words_of
 
 # the answers of several lines that end in another line, by how they begin
 LISTS = (b"VALUE ", b"STAT ")
@@ -16,7 +16,7 @@ def line_end(text, at):
 
 def block_end(text, begin, at, word):
     """The end of the block after a line, whose length is this word of the line."""
-    words = text[begin:at].split(None, word + 1)
+    words = words_of(text[begin:at].removesuffix(b"\r\n"))
     size = words[word] if len(words) > word else b""
     return min(at + int(size) + 2, len(text)) if size.isdigit() and len(size) <= 10 else at
 
@@ -47,7 +47,7 @@ def items(text):
     at = 0
     while text.startswith(b"VALUE ", at):
         begin, at = at, line_end(text, at)
-        words, end = text[begin + 6 : at].split(), block_end(text, begin, at, 3)
+        words, end = words_of(text[begin + 6 : at].removesuffix(b"\r\n")), block_end(text, begin, at, 3)
         yield words, text[at : end - 2]
         at = end
 
@@ -64,7 +64,7 @@ def without_uniques(text):
 
 def name_of(line):
     """The name of the command of a line."""
-    words = line.split(None, 1)
+    words = words_of(line)
     return words[0].decode() if words and NAME.fullmatch(words[0]) else "other lines"
 
 

@@ -3,7 +3,7 @@
 Other keys depend on the order in which connections are served, and so do all of them after a `flush_all`, and `stats`.
 """
 from formats import shown
-from meaning import framed
+from meaning import framed, line_of, words_of
 
 
 class Callers:
@@ -46,7 +46,7 @@ MAKING = (b"set", b"add", b"ms", b"ma")
 def stored_by(command, frame):
     """The keys of which a command may make items where there are none; a faulty line may do so on another server."""
     if command.verb == "fault":
-        words = frame[: frame.index(b"\n")].split(None, 2)
+        words = words_of(line_of(frame))
         return words[1:2] if words and words[0] in MAKING else ()
     makes = command.call in ("set", "add") or command.verb in ("set", "add")
     return command.keys if makes and command.value is not None else ()

@@ -5,7 +5,7 @@ from that has the same cause.
 """
 from answers import items
 from apart import stored_by
-from meaning import framed
+from meaning import framed, line_of, words_of
 
 # the causes, from the one that says least of the servers to the one that says most; a difference in several keys has
 # the last one that there is
@@ -90,7 +90,7 @@ class Causes:
             key.is_stored = True
             key.has_exptime = command.verb == "fault" or command.numbers.get("exptime", 0) != 0
         if command.verb == "fault" and frame.startswith(TOUCHING):
-            for name in frame[: frame.index(b"\n")].split()[1:]:
+            for name in words_of(line_of(frame))[1:]:
                 self.key(name).has_exptime = True
 
     # ---- causes
@@ -134,7 +134,7 @@ class Causes:
 
     def of_command(self, command, line, one, other):
         if command.verb == "fault":
-            for name in line.split()[1:2]:
+            for name in words_of(line)[1:2]:
                 self.key(name).cause = REFUSED
             return REFUSED
         causes = []

@@ -107,11 +107,16 @@ def usual(getting, keys, storing, key, flags, exptime, size, noreply):
     return Command(storing.decode(), [key], numbers, quiet=noreply is not None)
 
 
+def words_of(line):
+    """The words of a line: its longest runs of bytes other than the space."""
+    return [word for word in line.split(b" ") if word]
+
+
 def command_of(line):
     """The command of a line; that of a storage line has no value yet."""
     if found := USUAL.fullmatch(line):
         return usual(*found.groups())
-    words = [word for word in line.split(b" ") if word]
+    words = words_of(line)
     verb = words.pop(0).decode("latin-1") if words else ""
     if verb in LEAST:
         return meta_of(verb, words)

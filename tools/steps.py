@@ -8,7 +8,7 @@ import re
 from collections import deque, namedtuple
 
 from answers import FAULT, answers, groups, name_of, without_uniques
-from meaning import STORAGE
+from meaning import STORAGE, words_of
 
 # an exchange: the number of the first command and of the last, the name, the line of the first command and its group,
 # and what two servers answered, each as the number of its first answer and its bytes; None in place of bytes where
@@ -44,11 +44,11 @@ def fits(line, answer):
     """Whether an answer can be that of the command of a line."""
     if FAULT.match(answer):
         return True
-    words = line.split(None, 1)
+    words = words_of(line)
     verb = words[0] if words else b""
     if verb in GETTING:
         key = answer[:400].split(b" ", 2)[1] if answer.startswith(b"VALUE ") else None
-        return answer.startswith(b"END") or key in line.split()
+        return answer.startswith(b"END") or key in words
     return verb in UNKNOWN or verb in FITTING and FITTING[verb].match(answer) is not None
 
 
