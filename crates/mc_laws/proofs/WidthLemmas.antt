@@ -12,7 +12,7 @@ use Rattle.mc_meta.specs.declared.meta_line.MetaLine.TheVariants as Lines
 use Rattle.mc_meta.specs.Key.{bytes_in}
 use Rattle.mc_meta.specs.Words.{words}
 use Rattle.mc_meta.specs.Meta.{is_meta_name, is_key, meta_line}
-use Rattle.mc_meta.proofs.WidthLemmas.{line_width, words_few, meta_line_width}
+use Rattle.mc_laws.proofs.LineWidthLemmas.{line_width, words_few, meta_line_width}
 use Rattle.mc_parse.specs.declared.command.Command.{Command}
 use Rattle.mc_parse.specs.declared.command.Command.TheVariants.{Fault}
 use Rattle.mc_parse.specs.declared.error_line.ErrorLine.{ErrorLine}
