@@ -10,8 +10,8 @@ use Rattle.zy_base.specs.Bounds.{IsKey, IsReply, FitsReply}
 use Rattle.mc_parse.specs.declared.command.Command.{Command}
 use Rattle.mc_parse.specs.declared.error_line.ErrorLine.{ErrorLine}
 use Rattle.mc_parse.specs.declared.error_line.ErrorLine.TheVariants as Errors
-use Rattle.mc_parse.specs.Says.{Fixed, the_version, is_done, does_noop, has_fault, About, a_found, a_stored, a_removed}
-use Rattle.mc_parse.specs.Says.{Says, says_reply, says_items, says_counts, says_line, says_marks, says_of}
+use Rattle.mc_parse.specs.Saying.{Fixed, the_version, is_done, does_noop, has_fault, About, a_found, a_stored, a_removed}
+use Rattle.mc_parse.specs.Saying.{Saying, says_reply, says_items, says_counts, says_line, says_marks, says_of}
 use Rattle.mc_parse.specs.Bounds.{IsShown, IsCommand}
 use Rattle.mc_laws.proofs.WidthLemmas.{letters_in, width}
 use Rattle.mc_meta.specs.Flags.{is_among}
@@ -269,7 +269,7 @@ fixed_few is_done = omega arith
 fixed_few does_noop = omega arith
 fixed_few (has_fault fault) = error_few fault
 
-says_few : (says : Says) (replies : List CallReply) → IsShown says → AllByRecursion IsSmall replies → length replies ≤ 1099511627776
+says_few : (says : Saying) (replies : List CallReply) → IsShown says → AllByRecursion IsSmall replies → length replies ≤ 1099511627776
     → length (says_text says replies) ≤ 300 + 252 * letters_in says + 2097152 * length replies
 says_few (says_reply quiet) replies is small few = omega (arith, unless_few quiet 100 (only_line replies) (only_few replies small))
 says_few (says_items keys unique) replies is small few = omega (arith, length-append (items_text unique keys replies) (line (codes "END")), items_few unique keys replies is small)
