@@ -8,7 +8,7 @@ use Rattle.mc_parse.specs.declared.command.Command.{Command}
 use Rattle.mc_parse.specs.OnAll.{made_by}
 use Rattle.mc_parse.specs.Deed.{Deed, does_nothing, makes_one, gets_each, makes_on_all, deed_of}
 use Rattle.mc_parse.specs.Calls.{calls_of, calls_by, call_alone, get_at, on_shard}
-use Rattle.mc_parse.specs.Plain.{key_list, keys_by, keys_of}
+use Rattle.mc_parse.specs.Plain.{key_list, deed_keys, keys_of}
 use Rattle.mc_parse.proofs.DeedLemmas.{no_key}
 use Rattle.mc_laws.specs.Calls.{asked_by}
 
@@ -20,7 +20,7 @@ no_keys : (call : Call) (first n : ℕ) → key_of call ≡ None → filter_map 
 no_keys call first zero is = refl
 no_keys call first (suc n) is = rw is (no_keys call (first + 1) n is)
 
-keys_of_deed : (shards : ℕ) (deed : Deed) → filter_map key_of (asked_by (calls_by shards deed)) ≡ keys_by deed
+keys_of_deed : (shards : ℕ) (deed : Deed) → filter_map key_of (asked_by (calls_by shards deed)) ≡ deed_keys deed
 keys_of_deed shards does_nothing = refl
 keys_of_deed shards (makes_one call) = go (key_of call) refl
   where

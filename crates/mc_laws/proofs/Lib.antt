@@ -7,3 +7,7 @@ mod CallLemmas
 mod KeyLemmas
 mod SaidLemmas
 mod SameCallLemmas
+mod LineWidthLemmas
+pub mod WidthLemmas
+pub mod SizeLemmas
+pub mod SameLemmas

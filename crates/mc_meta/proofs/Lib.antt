@@ -5,4 +5,3 @@ pub mod PlaceLemmas
 pub mod KeyLemmas
 pub mod LineLemmas
 pub mod SaidLemmas
-pub mod WidthLemmas

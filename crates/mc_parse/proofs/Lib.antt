@@ -6,8 +6,6 @@ pub mod DeedLemmas
 pub mod CallLemmas
 pub mod PlainLemmas
 pub mod BoundLemmas
-pub mod SameLemmas
 pub mod AskLemmas
 pub mod NeedLemmas
 pub mod GetLemmas
-pub mod WidthLemmas

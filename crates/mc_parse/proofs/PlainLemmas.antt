@@ -18,7 +18,7 @@ use Rattle.mc_parse.specs.Form.{Ask, stores, exchanges, gets, deletes, counts, f
 use Rattle.mc_parse.specs.Meaning.{is_ended, value_of, alone_meta, value_meta, value_command, command_for, block_command_for, large_command_for, line_command, block_command, large_command}
 use Rattle.mc_parse.specs.Deed.{Deed, does_nothing, makes_one, gets_each, makes_on_all, deed_of, stored_by, counted_by}
 use Rattle.mc_parse.specs.Calls.{Due, calls_of, calls_by, call_alone, get_at, on_shard, tag_of, tagged, due, due_from, due_at}
-use Rattle.mc_parse.specs.Plain.{key_list, keys_by, keys_of, all_keys_of, IsSteadyDeed, IsOwnMeta, IsPlain, IsKeyed, IsDueOwn, bare, IsOwnCommand, IsOwnAsk, IsOwnForm}
+use Rattle.mc_parse.specs.Plain.{key_list, deed_keys, keys_of, all_keys_of, IsSteadyDeed, IsOwnMeta, IsPlain, IsKeyed, IsDueOwn, bare, IsOwnCommand, IsOwnAsk, IsOwnForm}
 use Rattle.mc_parse.proofs.DeedLemmas.{stored_key, counted_key, stored_steady, counted_steady}
 
 -- ---- lists
@@ -39,7 +39,7 @@ gets_keyed shards IsOwn (key ∷ keys) own = (
   gets_keyed shards IsOwn keys (λ k inside. own k (Contains-append_right (key ∷ []) keys k inside)),
 )
 
-deed_keyed : (shards : ℕ) (IsOwn : List ℕ → Type 0) (deed : Deed) → IsSteadyDeed deed → ((key : List ℕ) → Contains (keys_by deed) key → IsOwn key)
+deed_keyed : (shards : ℕ) (IsOwn : List ℕ → Type 0) (deed : Deed) → IsSteadyDeed deed → ((key : List ℕ) → Contains (deed_keys deed) key → IsOwn key)
     → AllByRecursion (IsKeyed shards IsOwn) (calls_by shards deed)
 deed_keyed shards IsOwn does_nothing steady own = tt
 deed_keyed shards IsOwn (makes_one call) steady own = go (key_of call) refl own

@@ -5,7 +5,7 @@ use Rattle.zy_base.specs.Bounds.{IsKey, IsCall}
 use Rattle.mc_parse.specs.declared.command.Command.{Command}
 use Rattle.mc_parse.specs.declared.shard_call.ShardCall.{ShardCall}
 use Rattle.mc_parse.specs.Deed.{Deed, makes_one, gets_each, deed_of}
-use Rattle.mc_parse.specs.Says.{Says, says_items, says_marks, says_of}
+use Rattle.mc_parse.specs.Saying.{Saying, says_items, says_marks, says_of}
 use Rattle.mc_parse.specs.Calls.{Due}
 
 -- the keys and the value of what is done on the shards are within their bounds
@@ -15,7 +15,7 @@ IsDeed (gets_each keys) = AllByRecursion IsKey keys
 IsDeed deed = Unit {0}
 
 -- the keys that an answer shows are within their bounds
-abbrev pub IsShown : Says → Type 0
+abbrev pub IsShown : Saying → Type 0
 IsShown (says_items keys unique) = AllByRecursion IsKey keys
 IsShown (says_marks about key letters) = IsKey key
 IsShown says = Unit {0}

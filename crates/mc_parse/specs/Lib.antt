@@ -10,6 +10,6 @@ pub mod Meaning
 pub mod OnAll
 pub mod Deed
 pub mod Calls
-pub mod Says
+pub mod Saying
 pub mod Bounds
 pub mod Plain

@@ -12,7 +12,7 @@ use Rattle.mc_parse.specs.MetaAsk.{MetaAsk, meta_gets, meta_stores, meta_exchang
 use Rattle.mc_parse.specs.Form.{Ask, stores, exchanges, gets, deletes, counts, flushes}
 use Rattle.mc_parse.specs.Form.{tells_counts, metas, Form, faulty, asks}
 use Rattle.mc_parse.specs.Deed.{Deed, does_nothing, makes_one, gets_each, makes_on_all, deed_of}
-use Rattle.mc_parse.specs.Says.{Says, says_items, says_marks, a_found, says_of}
+use Rattle.mc_parse.specs.Saying.{Saying, says_items, says_marks, a_found, says_of}
 use Rattle.mc_parse.specs.Calls.{Due, on_shard}
 
 -- ---- commands
@@ -23,15 +23,15 @@ key_list None = []
 key_list (Some key) = key ∷ []
 
 -- the keys of what is done on the shards
-abbrev pub keys_by : Deed → List (List ℕ)
-keys_by does_nothing = []
-keys_by (makes_one call) = key_list (key_of call)
-keys_by (gets_each keys) = keys
-keys_by (makes_on_all made) = []
+abbrev pub deed_keys : Deed → List (List ℕ)
+deed_keys does_nothing = []
+deed_keys (makes_one call) = key_list (key_of call)
+deed_keys (gets_each keys) = keys
+deed_keys (makes_on_all made) = []
 
 -- the keys that a command calls
 abbrev pub keys_of : Command → List (List ℕ)
-keys_of command = keys_by (deed_of command)
+keys_of command = deed_keys (deed_of command)
 
 -- the keys that commands call
 abbrev pub all_keys_of : List Command → List (List ℕ)
@@ -48,7 +48,7 @@ IsSteadyDeed (makes_on_all made) = ⊥
 IsSteadyDeed deed = Unit {0}
 
 -- an answer shows no unique
-abbrev pub HidesUniques : Says → Type 0
+abbrev pub HidesUniques : Saying → Type 0
 HidesUniques (says_items keys true) = ⊥
 HidesUniques (says_marks a_found key letters) = is_among letters unique_letter ≡ false
 HidesUniques says = Unit {0}

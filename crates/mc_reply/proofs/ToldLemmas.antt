@@ -8,8 +8,8 @@ use Rattle.zy_base.specs.declared.call_reply.CallReply.TheVariants.{Hit}
 use Rattle.zy_base.specs.declared.entry.Entry.{Entry}
 use Rattle.zy_base.specs.Replies.{replies_at}
 use Rattle.mc_parse.specs.declared.command.Command.{Command}
-use Rattle.mc_parse.specs.Says.{About, a_found, a_stored, a_removed}
-use Rattle.mc_parse.specs.Says.{Says, says_reply, says_items, says_counts, says_line, says_marks, says_of}
+use Rattle.mc_parse.specs.Saying.{About, a_found, a_stored, a_removed}
+use Rattle.mc_parse.specs.Saying.{Saying, says_reply, says_items, says_counts, says_line, says_marks, says_of}
 use Rattle.mc_reply.specs.declared.stats.Stat.{Stat}
 use Rattle.mc_reply.specs.declared.stats.Stat.TheVariants.{Gets, Sets, Hits, Misses, Items}
 use Rattle.mc_reply.specs.StatsText.{stat_in, sum_in, stat_line, stats_text}
@@ -130,7 +130,7 @@ stats-told replies =
 
 -- ---- one command of any kind
 
-says-told : (says : Says) (replies : List CallReply) → HidesUniques says → says_text says (map told replies) ≡ says_text says replies
+says-told : (says : Saying) (replies : List CallReply) → HidesUniques says → says_text says (map told replies) ≡ says_text says replies
 says-told (says_reply quiet) replies hides = ap (unless quiet) (only_line-told replies)
 says-told (says_items keys true) replies hides = absurd hides
 says-told (says_items keys false) replies hides = ap (λ (items : List ℕ). items ++ line (codes "END")) (items-told keys replies)

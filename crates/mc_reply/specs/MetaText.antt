@@ -4,7 +4,7 @@ use Rattle.std.specs.Prelude.{ℕ, Bool, ◌==◌, if◌then◌else◌, List, []
 use Rattle.zy_base.specs.declared.call_reply.CallReply.{CallReply}
 use Rattle.zy_base.specs.declared.call_reply.CallReply.TheVariants.{Miss, Hit, Stored, NotStored, Exists, NotFound, Deleted, TooLarge}
 use Rattle.mc_meta.specs.Flags.{is_among}
-use Rattle.mc_parse.specs.Says.{About, a_found, a_stored, a_removed}
+use Rattle.mc_parse.specs.Saying.{About, a_found, a_stored, a_removed}
 use Rattle.mc_reply.specs.declared.marks.Found.{Found}
 use Rattle.mc_reply.specs.Line.{line, too_large, unless}
 

@@ -6,8 +6,8 @@ use Rattle.zy_base.specs.declared.call_reply.CallReply.TheVariants.{Miss, Hit, S
 use Rattle.mc_parse.specs.declared.error_line.ErrorLine.{ErrorLine}
 use Rattle.mc_parse.specs.declared.error_line.ErrorLine.TheVariants as Errors
 use Rattle.mc_parse.specs.declared.command.Command.{Command}
-use Rattle.mc_parse.specs.Says.{Fixed, the_version, is_done, does_noop, has_fault}
-use Rattle.mc_parse.specs.Says.{Says, says_reply, says_items, says_counts, says_line, says_marks, says_of}
+use Rattle.mc_parse.specs.Saying.{Fixed, the_version, is_done, does_noop, has_fault}
+use Rattle.mc_parse.specs.Saying.{Saying, says_reply, says_items, says_counts, says_line, says_marks, says_of}
 pub use Rattle.mc_reply.specs.Line.{line_end, line, too_large, unless}
 use Rattle.mc_reply.specs.MetaText.{marks_answer}
 use Rattle.mc_reply.specs.StatsText.{stats_text}
@@ -81,7 +81,7 @@ items_text asked keys replies = []
 -- ---- commands
 
 -- the text of an answer with the replies
-abbrev pub says_text : Says → List CallReply → List ℕ
+abbrev pub says_text : Saying → List CallReply → List ℕ
 says_text (says_reply quiet) replies = unless quiet (only_line replies)
 says_text (says_items keys unique) replies = items_text unique keys replies ++ line (codes "END")
 says_text says_counts replies = stats_text replies

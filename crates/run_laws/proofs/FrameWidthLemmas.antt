@@ -6,7 +6,7 @@ use Rattle.mc_parse.specs.declared.need.Need.{Need}
 use Rattle.mc_parse.specs.declared.need.Need.TheVariants as Needs
 use Rattle.mc_parse.specs.Need.{need}
 use Rattle.mc_parse.specs.Words.{line_limit}
-use Rattle.mc_parse.proofs.WidthLemmas.{width, line_command_width, block_command_width, large_command_width}
+use Rattle.mc_laws.proofs.WidthLemmas.{width, line_command_width, block_command_width, large_command_width}
 use Rattle.zy_frame.specs.declared.frame_kind.FrameKind.TheVariants as Kinds
 use Rattle.zy_frame.specs.Line.{Ended, first_line, chomped, line_feed}
 use Rattle.zy_frame.specs.Frame.{IsFrameText, tail_length, frame_by, frame_at, frame_in, frame_of, command_of}

@@ -30,10 +30,10 @@ use Rattle.mc_parse.specs.Calls.{calls_of, due_at, due_from, due_of}
 use Rattle.mc_parse.specs.Bounds.{IsCommand}
 use Rattle.mc_parse.proofs.CallLemmas.{length-tagged}
 use Rattle.mc_parse.proofs.PlainLemmas.{each-append}
-use Rattle.mc_parse.proofs.WidthLemmas.{width, calls_few}
+use Rattle.mc_laws.proofs.WidthLemmas.{width, calls_few}
 use Rattle.mc_reply.specs.Text.{text}
 use Rattle.mc_reply.specs.Texts.{texts_from}
-use Rattle.mc_reply.proofs.SizeLemmas.{IsSmall, text_few}
+use Rattle.mc_laws.proofs.SizeLemmas.{IsSmall, text_few}
 use Rattle.mc_reply.proofs.TextLemmas.{texts_from-append}
 use Rattle.zy_frame.specs.Frame.{IsFrameText, frame_of, command_of}
 use Rattle.zy_frame.specs.Cut.{joined, cut_of, frames_of, commands_of}

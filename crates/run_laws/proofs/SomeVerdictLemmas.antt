@@ -12,7 +12,7 @@ use Rattle.zy_base.specs.History.{replayed}
 use Rattle.zy_base.proofs.SameLemmas.{option_told, bytes_told, reply_told}
 use Rattle.zy_capture.specs.Streams.{sessions_of}
 use Rattle.mc_parse.specs.Calls.{due_of}
-use Rattle.mc_parse.proofs.SameLemmas.{due_told}
+use Rattle.mc_laws.proofs.SameLemmas.{due_told}
 use Rattle.zy_run.specs.Commands.{commands_over, commands_held}
 use Rattle.zy_run.specs.Output.{connection_outputs}
 use Rattle.zy_run.specs.Spans.{held_of, AreHoldsOf}

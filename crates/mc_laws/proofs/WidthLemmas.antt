@@ -12,7 +12,7 @@ use Rattle.mc_meta.specs.declared.meta_line.MetaLine.TheVariants as Lines
 use Rattle.mc_meta.specs.Key.{bytes_in}
 use Rattle.mc_meta.specs.Words.{words}
 use Rattle.mc_meta.specs.Meta.{is_meta_name, is_key, meta_line}
-use Rattle.mc_meta.proofs.WidthLemmas.{line_width, words_few, meta_line_width}
+use Rattle.mc_laws.proofs.LineWidthLemmas.{line_width, words_few, meta_line_width}
 use Rattle.mc_parse.specs.declared.command.Command.{Command}
 use Rattle.mc_parse.specs.declared.command.Command.TheVariants.{Fault}
 use Rattle.mc_parse.specs.declared.error_line.ErrorLine.{ErrorLine}
@@ -25,7 +25,7 @@ use Rattle.mc_parse.specs.Form.{Ask, metas, Form, faulty, asks, is_key, first_wo
 use Rattle.mc_parse.specs.Meaning.{is_ended, value_of, alone_meta, value_meta, value_command, command_for, block_command_for, large_command_for, line_command, block_command, large_command}
 use Rattle.mc_parse.specs.OnAll.{made_by}
 use Rattle.mc_parse.specs.Deed.{Deed, does_nothing, makes_one, gets_each, makes_on_all, deed_of}
-use Rattle.mc_parse.specs.Says.{Says, says_marks, says_of}
+use Rattle.mc_parse.specs.Saying.{Saying, says_marks, says_of}
 use Rattle.mc_parse.specs.Calls.{calls_of, calls_by, call_alone, on_shard, get_at}
 use Rattle.mc_parse.proofs.AskLemmas.{meta_width, ask_width, Reads, reads, keys_by_name}
 
@@ -37,7 +37,7 @@ keys_in (gets_each keys) = length keys
 keys_in deed = 0
 
 -- the number of letters of which marks are shown
-abbrev pub letters_in : Says → ℕ
+abbrev pub letters_in : Saying → ℕ
 letters_in (says_marks about key letters) = length letters
 letters_in says = 0
 

@@ -29,27 +29,27 @@ pub data About : Type 0 where
   a_removed : About
 
 -- what answers a command
-pub data Says : Type 0 where
+pub data Saying : Type 0 where
   -- the line of its one reply; nothing if it is quiet
-  says_reply : Bool → Says
+  says_reply : Bool → Saying
   -- the items of these keys, with their uniques or not
-  says_items : List (List ℕ) → Bool → Says
+  says_items : List (List ℕ) → Bool → Saying
   -- the sums of the counts
-  says_counts : Says
+  says_counts : Saying
   -- a line that no reply changes; nothing if it is quiet
-  says_line : Fixed → Bool → Says
+  says_line : Fixed → Bool → Saying
   -- what its one reply is about, with the marks of these letters: the key, and the letters
-  says_marks : About → List ℕ → List ℕ → Says
+  says_marks : About → List ℕ → List ℕ → Saying
 
 -- what answers a meta command
-abbrev pub meta_says : MetaCommand → Says
+abbrev pub meta_says : MetaCommand → Saying
 meta_says Metas.Noop = says_line does_noop false
 meta_says (Metas.Get key flags) = says_marks a_found key flags
 meta_says (Metas.Set key call marks) = says_marks a_stored key marks
 meta_says (Metas.Delete key flags) = says_marks a_removed key flags
 
 -- what answers a command
-abbrev pub says_of : Command → Says
+abbrev pub says_of : Command → Saying
 says_of (Store verb key flags value quiet) = says_reply quiet
 says_of (Cas key flags unique value quiet) = says_reply quiet
 says_of (Get keys unique) = says_items keys unique
