@@ -7,8 +7,12 @@ Where there is none, the calls of one connection (of a multiple get, or of comma
 each other in a circle.
 """
 import heapq
+from collections import deque
 
 from judging.events import FOREVER
+
+# a part of more nodes is mended by short circles in it, which are looked for as long as so many nodes are gone through
+MOST_NODES, MOST_REACHED = 150, 300000
 
 
 class Graph:
@@ -109,12 +113,46 @@ class Graph:
                 if node >= self.base or self.kept[node]]
 
     def circles(self, left):
-        """The strongly connected parts of more than one node among these nodes (Tarjan)."""
-        parts = Parts(self, left)
+        """Circles among these nodes: the strongly connected parts of more than one node (Tarjan), and in place of a large
+        one some short circles in it."""
+        parts, found = Parts(self, left), []
         for node in left:
             if node not in parts.index:
                 parts.visit(node)
-        return parts.found
+        for part in parts.found:
+            found += [part] if len(part) <= MOST_NODES else self.short_circles(part) or [part]
+        return found
+
+    def short_circles(self, part):
+        """Circles in a strongly connected part, without a node in common. Each circle has a link from a call to one that
+        probably ended before it: around each such link there is one, with as few calls as can be."""
+        inside, weights, used, found, left = set(part), self.weights, set(), [], MOST_REACHED
+        back = [(weights[one] - weights[other], one, other) for one in part if one < self.count
+                for other in self.linked[one] if other in inside and other < self.count and weights[other] < weights[one]]
+        for _, one, other in sorted(back):
+            if left > 0 and one not in used and other not in used:
+                circle, reached = self.path(other, one, inside)
+                left -= reached
+                found.append(circle)
+                used.update(circle)
+        return found
+
+    def path(self, begin, end, inside):
+        """The calls of a path among some nodes, as few as can be, and how many nodes were reached."""
+        came_from, row = {begin: None}, deque([begin])
+        while end not in came_from:
+            node = row.popleft()
+            for other in self.after(node):
+                if other in inside and other not in came_from:
+                    came_from[other] = node
+                    if self.is_call(other):
+                        row.append(other)
+                    else:
+                        row.appendleft(other)
+        found = [end]
+        while came_from[found[-1]] is not None:
+            found.append(came_from[found[-1]])
+        return [node for node in found if self.is_call(node)], len(came_from)
 
 
 class Parts:

@@ -1,6 +1,7 @@
 """The orders of all keys: for each an order of its calls that explains their replies."""
 from bisect import bisect_left, bisect_right
 from collections import namedtuple
+from itertools import accumulate
 
 from formats import shown
 from judging.events import FLUSH, GET, Unknown
@@ -113,11 +114,19 @@ class Keys:
     def overlapping(self, key, begin, end):
         """The calls on a key that overlap a time."""
         events = self.events[key]
+        latest, begins = self.reach_of(key)
+        return [event for event in events[bisect_left(latest, begin) : bisect_right(begins, end)] if event.end >= begin]
+
+    def near(self, key, some, count):
+        """These calls on a key, those between them by their begins, and so many more on both sides."""
+        begins = [event.begin for event in some]
+        _, all_begins = self.reach_of(key)
+        return self.events[key][max(0, bisect_left(all_begins, min(begins)) - count) :
+                                bisect_right(all_begins, max(begins)) + count]
+
+    def reach_of(self, key):
+        """Of the calls on a key, by their begins: the latest end so far, and the begins."""
         if key not in self.reach:
-            latest, some = 0, []
-            for event in events:
-                latest = max(latest, event.end)
-                some.append(latest)
-            self.reach[key] = some, [event.begin for event in events]
-        some, begins = self.reach[key]
-        return [event for event in events[bisect_left(some, begin) : bisect_right(begins, end)] if event.end >= begin]
+            latest = list(accumulate((event.end for event in self.events[key]), max))
+            self.reach[key] = latest, [event.begin for event in self.events[key]]
+        return self.reach[key]
