@@ -11,8 +11,8 @@ from collections import deque
 
 from judging.events import FOREVER
 
-# a part of more nodes is mended by short circles in it, which are looked for as long as so many nodes are gone through
-MOST_NODES, MOST_REACHED = 150, 300000
+# a part of more nodes is mended by short circles in it: of how many nodes, at most, found among how many
+MOST_NODES, MOST_LENGTH, MOST_REACHED = 150, 12, 500
 
 
 class Graph:
@@ -124,22 +124,38 @@ class Graph:
         return found
 
     def short_circles(self, part):
-        """Circles in a strongly connected part, without a node in common. Each circle has a link from a call to one that
-        probably ended before it: around each such link there is one, with as few calls as can be."""
-        inside, weights, used, found, left = set(part), self.weights, set(), [], MOST_REACHED
+        """Short circles in a strongly connected part, without a node in common. Where none is short, one with a link from a
+        call to another that probably ended before it, with as few calls as can be: each circle has such a link."""
+        inside, weights, found = set(part), self.weights, []
+        for node in sorted(part, key=self.weight):
+            if node in inside and node < self.count:
+                circle = self.short_circle(node, inside)
+                found += [circle] * bool(circle)
+                inside.difference_update(circle)
+        if found:
+            return found
         back = [(weights[one] - weights[other], one, other) for one in part if one < self.count
                 for other in self.linked[one] if other in inside and other < self.count and weights[other] < weights[one]]
-        for _, one, other in sorted(back):
-            if left > 0 and one not in used and other not in used:
-                circle, reached = self.path(other, one, inside)
-                left -= reached
-                found.append(circle)
-                used.update(circle)
-        return found
+        return [self.path(other, one, inside) for _, one, other in sorted(back)[:1]]
+
+    def short_circle(self, begin, inside):
+        """A shortest circle through a node among some nodes; nothing where none is short."""
+        came_from, row, length = {}, [begin], 0
+        while row and len(came_from) < MOST_REACHED and length < MOST_LENGTH:
+            following, length = [], length + 1
+            for node in row:
+                for other in self.after(node):
+                    if other == begin:
+                        return [begin, *back_from(node, came_from, begin)]
+                    if other in inside and other not in came_from:
+                        came_from[other] = node
+                        following.append(other)
+            row = following
+        return []
 
     def path(self, begin, end, inside):
-        """The calls of a path among some nodes, as few as can be, and how many nodes were reached."""
-        came_from, row = {begin: None}, deque([begin])
+        """The calls of a path among some nodes, as few as can be."""
+        came_from, row = {begin: begin}, deque([begin])
         while end not in came_from:
             node = row.popleft()
             for other in self.after(node):
@@ -149,10 +165,16 @@ class Graph:
                         row.append(other)
                     else:
                         row.appendleft(other)
-        found = [end]
-        while came_from[found[-1]] is not None:
-            found.append(came_from[found[-1]])
-        return [node for node in found if self.is_call(node)], len(came_from)
+        return [begin, *[node for node in back_from(end, came_from, begin) if self.is_call(node)]]
+
+
+def back_from(node, came_from, begin):
+    """The nodes from a node back to where a search began, without that."""
+    found = []
+    while node != begin:
+        found.append(node)
+        node = came_from[node]
+    return found
 
 
 class Parts:
