@@ -7,6 +7,7 @@ What needs the program, tcpdump or memcached is left out, with a line, where the
 """
 import contextlib
 import os
+import random
 import re
 import shutil
 import signal
@@ -18,6 +19,7 @@ import time
 from traffic import NAME, TOP, all_of, connected, memcached, module_of, same, take
 import packets
 from formats import Close, Part, capture, close, read_capture, read_replies, segment, sessions
+from meaning import framed
 from packets import expected, frame_of, said
 
 PROGRAM = os.path.realpath(sys.argv[1] if len(sys.argv) > 1 else os.path.join(TOP, "crates/zygos/out/zygos"))
@@ -162,10 +164,12 @@ def ends():
     wanted = [(first, b"get a\r\nget b\r\nset c 0 0 1 noreply\r\n"), (second, b"get d\r\n"), (first, b""),
               (first, b"z\r\nget"), (second, b""), (first, b" e\r\n"), (first, b""), (first, b""), None,
               (first, b"get f\r\n"), (first, b"")]
-    made = capture(max(first, second) + 1, [close(first) if record is None else segment(*record) for record in wanted], 2)
+    records = [close(first) if record is None else segment(*record) for record in wanted]
+    made = capture(max(first, second) + 1, records, 2)
     given = timed(*enumerate(frames))
     same("ends", made, run("--in-order", "-", "--ends", given=given).stdout)
-    same("streams with ends", *(streams(run("--in-order", "-", *words, given=given).stdout) for words in ((), ("--ends",))))
+    same("streams with ends", *(streams(run("--in-order", "-", *words, given=given).stdout)
+                                for words in ((), ("--ends",))))
     lost = timed(*((at, frame) for at, frame in enumerate(frames) if at != 6))
     same("ends after a lost answer", made.replace(segment(first, b"") * 2, b"").replace(segment(first, b""), b"", 1),
          run("--in-order", "-", "--ends", given=lost).stdout)
@@ -209,6 +213,136 @@ def answers_to_lost_requests():
              (ran.returncode, read_replies(Part("replies", ran.stdout)).outputs[number].text))
 
 
+def acknowledging(frame, number):
+    """A frame that expects the byte of this number next."""
+    return frame[:42] + struct.pack(">I", number % 2**32) + frame[46:]
+
+
+class Talk:
+    """The frames of a client that waits for its answers, with a server."""
+
+    def __init__(self, draw, flow):
+        self.draw, self.flow, self.frames = draw, flow, []
+        self.sent, self.back = draw.choice([100, 2**32 - 500]), draw.choice([500, 2**32 - 300])
+        self.frames += [frame_of(b"", self.sent - 1, 2, flow),
+                        acknowledging(answer_of(b"", self.back - 1, flow, 18), self.sent)]
+
+    def pieces(self, text):
+        at = self.draw.choice([0, 0, self.draw.randrange(len(text) - 1), text.index(b"\n") + 1])
+        return [piece for piece in (text[:at], text[at:]) if piece]
+
+    def ask(self, request, answer):
+        for piece in self.pieces(request):
+            self.frames.append(acknowledging(frame_of(piece, self.sent, 24, self.flow), self.back))
+            self.sent += len(piece)
+        for piece in self.pieces(answer) if answer else ():
+            self.frames.append(acknowledging(answer_of(piece, self.back, self.flow), self.sent))
+            self.back += len(piece)
+        if self.draw.random() < 0.3:
+            self.frames.append(acknowledging(frame_of(b"", self.sent, 16, self.flow), self.back))
+
+
+def drawn_talk(draw):
+    """Frames of a client, some of them lost, and for each command its answer."""
+    talk, answers = Talk(draw, CLIENTS[0]), {}
+    for number in range(60):
+        key, kind = b"k%d" % number, draw.randrange(6)
+        request, answer = b"get %s\r\n" % key, b"VALUE %s 0 6\r\nget a\n\r\nEND\r\n" % key
+        if kind == 0:
+            request, answer = b"set %s 0 0 7\r\nget b\r\n\r\n" % key, b"STORED\r\n"
+        elif kind == 1:
+            request, answer = b"set %s 0 0 1 noreply\r\nx\r\n" % key, b""
+        answers[request] = answer
+        talk.ask(request, answer)
+    lost = draw.choice([0.01, 0.05, 0.2])
+    kept = [frame for frame in talk.frames[2:] if draw.random() > lost]
+    return talk.frames[:2] + [frame for one in kept for frame in [one] * draw.choice([1] * 9 + [2])], answers
+
+
+def resumed():
+    """With --resume sessions begin anew after losses, and each answer is that of its command. Only where a value begins
+    as a command does, in a packet of its own, and the packet before was lost, it may be taken for one."""
+    begun = kept = wrong = 0
+    for number in range(150):
+        frames, answers = drawn_talk(random.Random(number))
+        reading, _, _ = TOOL.look(packets.file_of(*frames), "-", 11211, resumes=True)
+        once = set()
+        for session in reading.flows.sessions[number_of(CLIENTS[0])]:
+            requests = [frame for _, frame in framed(session.requests.text())]
+            begun, kept = begun + session.is_resumed, kept + len(requests)
+            if requests[:1] == [b"get b\r\n"]:
+                wrong += 1
+                continue
+            same(f"talk {number}: each request once", True, once.isdisjoint(requests))
+            once.update(requests)
+            wanted = b"".join(answers.get(request, b"?") for request in requests)
+            same(f"talk {number}: the answers of a session", True, wanted.startswith(TOOL.answered(session)))
+    same("sessions are begun anew", True, begun > 500 and kept > 0.8 * 60 * 150 and wrong < 0.02 * begun)
+
+
+def drawn_pipeline(draw):
+    """Frames of a client that has up to four commands on their way, some of the frames lost, and for each its answer."""
+    talk, answers, asked, told = Talk(draw, CLIENTS[0]), {}, 0, 0
+    hits = [b"VALUE k%d 0 6\r\nget a\n\r\n" % number if draw.random() < 0.7 else b"" for number in range(80)]
+    texts = [(b"get k%d\r\n" % number, hit + b"END\r\n") for number, hit in enumerate(hits)]
+    while told < 80:
+        if asked < 80 and (asked == told or asked < told + 4 and draw.random() < 0.5):
+            talk.ask(texts[asked][0], b"")
+            asked += 1
+        else:
+            talk.frames.append(acknowledging(answer_of(texts[told][1], talk.back, talk.flow), talk.sent))
+            talk.back += len(texts[told][1])
+            told += 1
+    return talk.frames[:2] + [frame for frame in talk.frames[2:] if draw.random() > 0.04], dict(texts)
+
+
+def pipelines():
+    """With --resume, answers to requests before a session began anew are passed over. Only where a session has but a few
+    answers, and hardly a key in them, these may be of other requests."""
+    early = begun = wrong = 0
+    for number in range(150):
+        frames, answers = drawn_pipeline(random.Random(number))
+        reading, _, _ = TOOL.look(packets.file_of(*frames), "-", 11211, resumes=True)
+        for session in reading.flows.sessions[number_of(CLIENTS[0])]:
+            requests = [frame for _, frame in framed(session.requests.text())]
+            wanted = b"".join(answers.get(request, b"?") for request in requests)
+            got = TOOL.answered(session)
+            begun, early = begun + session.is_resumed, early + (session.early > 0)
+            if not wanted.startswith(got):
+                same(f"pipeline {number}: answers of other requests", True, got.count(b"END") < 4)
+                wrong += 1
+    same("answers are passed over, and seldom wrong ones left", (True, True), (early > 50, 0.05 * begun > wrong))
+
+
+def resume():
+    """What is said, and written, of a session that begins anew: after a lost request, and after a lost answer."""
+    draw = random.Random(0)
+    draw.choice, draw.random = lambda some: some[0], lambda: 1
+    talk, number = Talk(draw, CLIENTS[0]), number_of(CLIENTS[0])
+    for key in b"abcde":
+        talk.ask(b"get %c\r\n" % key, b"VALUE %c 0 1\r\nx\r\nEND\r\n" % key)
+    told = [b"VALUE %c 0 1\r\nx\r\nEND\r\n" % key for key in b"abcde"]
+    cut = "cut after byte {}, sequence number {}: {} bytes lost, 0 bytes after that left out"
+    for name, lost, sent, back, lines in (
+        ("request", 4, [b"get a\r\n", b"get c\r\nget d\r\nget e\r\n"], [told[0], b"".join(told[2:])],
+         ["  session 0: " + cut.format(7, 107, 7) + ", about 0 requests", "  1 stream cut, 0 bytes left out",
+          "  session 1: it begins anew, after a loss", "  1 session begun anew after a loss"]),
+        ("answer", 5, [b"get a\r\nget b\r\n", b"get c\r\nget d\r\nget e\r\n"], [told[0], b"".join(told[2:])],
+         ["  session 0: 1 request without a whole reply", "  1 request without a whole reply",
+          "  session 0: the server's side: " + cut.format(21, 521, 21)]),
+    ):
+        given = packets.file_of(*(frame for at, frame in enumerate(talk.frames) if at != lost))
+        ran = run("--resume", "--in-order", "-", given=given)
+        same(f"the capture without a {name}", (1, {(number, at): text for at, text in enumerate(sent)}),
+             (ran.returncode, streams(ran.stdout)[2]))
+        said = ran.stderr.decode().split("\n")
+        same(f"what is said without a {name}", [], [line for line in lines if line not in said])
+        outputs = read_replies(Part("replies", run("--resume", "--replies", "-", given=given).stdout)).outputs
+        same(f"the replies without a {name}", back, [output.text for output in outputs if output.connection == number])
+    given = packets.file_of(*talk.frames)
+    same("nothing lost", *(run("--in-order", "-", *words, given=given).stdout for words in ((), ("--resume",))))
+
+
 def nothing_written():
     """A file that is refused, or has nothing for the port, writes nothing."""
     for given in (packets.file_of(frame_of(b"a"), frame_of(b"x", kind=b"\x81\x00")), packets.file_of()):
@@ -222,6 +356,16 @@ def nothing_written():
 def served(text, *words):
     """What the program writes for these words and this input."""
     return subprocess.run([PROGRAM, *words], input=text, stdout=subprocess.PIPE, timeout=300, check=False).stdout
+
+
+def settle(path):
+    """Waits until a file of packets has some, and has not grown for a second."""
+    size = 0
+    for _ in range(60):
+        time.sleep(1)
+        before, size = size, os.path.getsize(path)
+        if before == size > 24:
+            break
 
 
 @contextlib.contextmanager
@@ -238,7 +382,8 @@ def dumped(path, port):
         if not is_recording:
             print(f"{NAME}: tcpdump may not record: no recording")
         yield is_recording
-        time.sleep(1)
+        if is_recording:
+            settle(path)
         dump.send_signal(signal.SIGINT)
         dump.stderr.read()
 
@@ -279,4 +424,5 @@ def real():
 
 
 if __name__ == "__main__":
-    all_of(messages, words, model, order, ends, answers, answers_to_lost_requests, nothing_written, real)
+    all_of(messages, words, model, order, ends, answers, answers_to_lost_requests, resumed, pipelines, resume, nothing_written,
+           real)

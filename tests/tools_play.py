@@ -9,7 +9,8 @@ import signal
 import subprocess
 import sys
 
-from traffic import NAME, TOP, Recorder, Server, all_of, at_once, fail, files_of, free_port, memcached, same, talk, until
+from traffic import (NAME, TOP, Recorder, Server, all_of, at_once, connected, fail, files_of, free_port, memcached,
+                     same, take, talk, until)
 from formats import Part, capture, close, pieces, read_replies, replies, segment, sessions
 
 PROGRAM = os.path.realpath(sys.argv[1] if len(sys.argv) > 1 else os.path.join(TOP, "crates/zygos/out/zygos"))
@@ -122,8 +123,8 @@ def tabs():
 
 
 def swaps(first):
-    """Commands of a client that compares and swaps, each with its answer, for a server whose uniques begin after `first`.
-    The last two name a unique of no item, and one that the key had before."""
+    """Commands of a client that compares and swaps, each with its answer, for a server whose uniques begin after
+    `first`. The last two name a unique of no item, and one that the key had before."""
     return [(b"set a 0 0 1\r\nx\r\n", b"STORED\r\n"), (b"set b 0 0 1\r\nx\r\n", b"STORED\r\n"),
             (b"gets a b\r\n", b"VALUE a 0 1 %d\r\nx\r\nVALUE b 0 1 %d\r\nx\r\nEND\r\n" % (first + 1, first + 2)),
             (b"cas a 0 0 1 %d\r\ny\r\n" % (first + 1), b"STORED\r\n"), (b"mg b c\r\n", b"HD c%d\r\n" % (first + 2)),
@@ -139,18 +140,19 @@ def uniques():
     with open("recorded", "wb") as file:
         file.write(replies([told]))
     for name, size in (("by command", None), ("in pieces", 7), ("byte by byte", 1)):
-        texts = [text for text, _ in swaps(77)] if size is None else [asked[at : at + size] for at in range(0, len(asked), size)]
-        given = capture(1, [segment(0, text) for text in texts])
+        given = capture(1, [segment(0, text) for text, _ in swaps(77)] if size is None else pieces(0, asked, size))
         for words in ((), ("--in-order",)):
             with Server(unique=1000) as server:
                 same(f"uniques, {name}", (replies([answered]), "tools/play: 1 connections, 10 commands answered\n"
                      "tools/play: 2 uniques translated, 2 sent as they are\n"),
                      played(f"uniques, {name}", server, given, "--recorded", "recorded", *words))
     given = capture(1, [segment(0, text) for text, _ in swaps(77)])
+    says("replies of another recording", "recorded: replies of 1 connections, and the capture has 2: give those of"
+         " its recording", "-", "--server", "127.0.0.1:1", "--recorded", "recorded", given=capture(2, []))
     with Server(unique=1000) as server:
         stored = answered.replace(b"EXISTS\r\n", b"STORED\r\n", 1)
         same("uniques without a recording", (replies([stored]), "tools/play: 1 connections, 10 commands answered\n"
-             "tools/play: 4 uniques translated, 0 sent as they are\n"), played("uniques without a recording", server, given))
+             "tools/play: 4 uniques translated, 0 sent as they are\n"), played("no recording", server, given))
     with Server(unique=1000) as server:
         same("uniques as they are", (4, True), (lambda text, said: (text.count(b"EX"), "uniques" not in said))(
             *played("uniques as they are", server, given, "--as-is")))
@@ -160,23 +162,42 @@ def uniques():
 
 def uniques_of_others():
     """A `cas` names a unique that another connection, or another session, was shown; those of its own come first."""
-    sent = [(0, b"set a 0 0 1\r\nx\r\n"), (0, b"gets a\r\n"), (1, b"cas a 0 0 1 8\r\ny\r\n"), (1, b"gets a\r\n"), (1, None),
-            (1, b"cas a 0 0 1 9\r\nz\r\nquit\r\n"), (0, b"cas a 0 0 1 9\r\nz\r\n")]
-    given = capture(2, [close(c) if text is None else segment(c, text) for c, text in sent], 2)
-    shows = b"VALUE a 0 1 %d\r\n%s\r\nEND\r\n"
-    outputs = [[[b"STORED\r\n" + shows % (u, b"x") + b"EXISTS\r\n"], [b"STORED\r\n" + shows % (u + 1, b"y"), b"STORED\r\n"]]
-               for u in (8, 501)]
+    shows = b"VALUE a 0 1 %d\r\nx\r\nEND\r\n"
+    store, look, swap = b"set a 0 0 1\r\nx\r\n", b"gets a\r\n", b"cas a 0 0 1 %d\r\nx\r\n"
+    # the number of the connection, what is sent, and what is answered in the recording and here
+    steps = [(0, store, b"STORED\r\n", b"STORED\r\n"), (0, look, shows % 8, shows % 501),
+             (1, swap % 8, b"STORED\r\n", b"STORED\r\n"), (1, look, shows % 9, shows % 502), (1, None, b"", b""),
+             (1, store, b"STORED\r\n", b"STORED\r\n"), (1, look, shows % 8, shows % 503),
+             (0, swap % 8, b"EXISTS\r\n", b"EXISTS\r\n"), (1, swap % 8, b"STORED\r\n", b"STORED\r\n")]
+    given = capture(2, [segment(c, text) if text else close(c) for c, text, _, _ in steps], 2)
+    files = []
+    for at in (2, 3):
+        second = [one[at] for one in steps if one[0] == 1]
+        files.append(sessions([[b"".join(one[at] for one in steps if one[0] == 0)],
+                               [b"".join(second[:2]), b"".join(second[3:])]]))
     with open("recorded", "wb") as file:
-        file.write(sessions(outputs[0]))
-    for words in (("--recorded", "recorded"), ()):
-        with Server(unique=500) as server:
-            same(f"uniques of others {words}", sessions(outputs[1]),
-                 played("uniques of others", server, given, "--in-order", *words)[0])
+        file.write(files[0])
+    with Server(unique=500) as server:
+        same("uniques of others", files[1], played("uniques of others", server, given, "--in-order", "--recorded",
+                                                   "recorded")[0])
+
+
+def held_back():
+    """A line that may name a unique waits for its end; at the end of a session it is sent as it is."""
+    for text in (b"mn\r\ncas a 0 0 1 7", b"mn\r\nc", b"mn\r\n ms a 1 C5"):
+        with Server() as server:
+            recorder = Recorder(server.place)
+            given = capture(1, pieces(0, text, 1))
+            ran = run("play", "-", "--server", recorder.place, "--wait", "0.3", given=given)
+            recorder.end()
+            same(f"what is sent of {text}", {(0, 0): text}, files_of()[0])
+            same(f"what is answered to {text}", replies([b"MN\r\n"]), ran.stdout)
 
 
 def interrupted():
     """Ctrl-C ends it, and what came back is written."""
-    given = capture(2, [segment(0, b"mn\r\n"), segment(0, b"hush\r\n"), segment(1, b"hush\r\n"), close(1), segment(1, b"mn\r\n")], 2)
+    given = capture(2, [segment(0, b"mn\r\n"), segment(0, b"hush\r\n"), segment(1, b"hush\r\n"), close(1),
+                        segment(1, b"mn\r\n")], 2)
     with open("my.cap", "wb") as file:
         file.write(given)
     with Server() as server:
@@ -197,14 +218,16 @@ def faulty_servers():
           capture(2, [segment(0, b"mn\r\n"), segment(0, b"hush\r\n"), segment(0, b"mn\r\n"),
                       segment(1, b"wait 0.1\r\n")]),
           "--wait", "0.3", status=1, said="tools/play: 2 connections, 3 commands answered\n"
-          "tools/play: 1 commands were not answered\n")
+          "tools/play: 1 commands were not answered\n"
+          "tools/play: 1 of them after 0.3 seconds without any answer; --wait waits longer\n")
     plays("a quit", replies([b"MN\r\n"]), capture(1, [segment(0, b"mn\r\nquit\r\nmn\r\n"), segment(0, b"mn\r\n")]),
           said="tools/play: 1 connections, 1 commands answered\n")
     plays("a server that closes", replies([b"MN\r\n", b"MN\r\n"]),
           capture(2, [segment(0, b"mn\r\nquitting\r\nmn\r\n"), segment(1, b"mn\r\n")]), status=1,
           said="tools/play: connection 0: closed by the server\ntools/play: 2 connections, 2 commands answered\n"
           "tools/play: 2 commands were not answered\ntools/play: 1 sessions ended too early\n"
-          "tools/play: 1 of them the server closed: if it allows fewer connections, --connections 50 has no more at a time\n")
+          "tools/play: 1 of them the server closed: if it allows fewer connections, --connections 50 has no more at a"
+          " time\n")
 
 
 def other_sockets():
@@ -229,6 +252,8 @@ def words():
     says("no server", usage, "-", status=2)
     says("no capture", usage, "--server", place, status=2)
     says("an unknown word", "no such option: --what; --help lists them", "--what", status=2)
+    says("uniques in two ways", "--recorded is a replies file, for uniques that are not sent --as-is; --help says more",
+         "-", "--server", place, "--recorded", "x", "--as-is", status=2)
     says("no time", "--wait takes a number of seconds, not x", "--wait", "x", status=2)
     says("no file", "none: No such file or directory", "none", "--server", place)
     one = capture(1, [segment(0, b"mn\r\n")])
@@ -260,6 +285,36 @@ def alike(name, one, other):
         file.write(one)
     ran = run("compare", "one", "-", given=other)
     same(name, (0, b"same"), (ran.returncode, ran.stdout[:4]))
+
+
+def swapped(place):
+    """A client of a memcached learns uniques and names them; gives whether each `cas` stored."""
+    stored = []
+    with connected(place) as one:
+        for number in range(20):
+            one.sendall(b"set k%d 0 0 1\r\nx\r\ngets k%d\r\n" % (number, number))
+            text = b""
+            while not text.endswith(b"END\r\n"):
+                text += one.recv(1000)
+            one.sendall(b"cas k%d 0 0 1 %s\r\ny\r\n" % (number, re.search(rb"1 ([0-9]+)\r\n", text)[1]))
+            stored.append(take(one, 8) == b"STORED\r\n")
+    return all(stored)
+
+
+def uniques_of_memcached():
+    """A memcached is recorded whose uniques differ from those of another one, to which the capture is played."""
+    with memcached() as place:
+        if place is None:
+            return
+        talk(place, b"set a 0 0 1\r\nx\r\n" * 7)
+        recorder = Recorder(place)
+        same("swaps of a memcached", True, swapped(recorder.place))
+        recorder.end()
+    for words in (("--recorded", "my.replies"), ()):
+        with memcached() as place:
+            ran = run("play", "my.cap", "--server", place, *words)
+        same(f"swaps that are played {words}", (0, 40, True), (ran.returncode, ran.stdout.count(b"STORED"),
+             b"20 uniques translated, 0 sent as they are" in ran.stderr))
 
 
 def against_memcached():
@@ -295,5 +350,5 @@ def against_memcached():
 
 if __name__ == "__main__":
     all_of(words, orders, in_order, later_sessions, many, large, quiet, tabs, uniques, uniques_of_others,
-           interrupted, faulty_servers, other_sockets, closed_pipe,
-           against_memcached)
+           held_back, interrupted, faulty_servers, other_sockets, closed_pipe,
+           uniques_of_memcached, against_memcached)

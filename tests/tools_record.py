@@ -19,6 +19,7 @@ import time
 from traffic import (TOP, Recorder, Server, all_of, at_once, big, connected, fail, files_of, has_size, memcached,
                      rest_of, same, take, talk, until)
 from formats import Part, capture_start, close, read_capture, segment
+from screen import Progress
 
 SET, GET = b"set %d 0 0 5\r\nvalue\r\n", b"get %d\r\n"
 ASKED = b"set a 0 0 1\r\nx\r\nget a\r\n"
@@ -124,8 +125,8 @@ def later_sessions():
         first.close()
         status, said = recorder.end()
         said = re.sub("[0-9]+ connections were", "some were", said)
-        same("its lines", (1, "tools/record: 2 connections are open, the most of a recording: others are passed on and not"
-                           " recorded\ntools/record: some were passed on and not recorded\n"
+        same("its lines", (1, "tools/record: 2 connections are open, the most of a recording: others are passed on and"
+                           " not recorded\ntools/record: some were passed on and not recorded\n"
                            + recorded(3, 4, 8 + len(ASKED), 8 + len(ANSWERED))), (status, said))
         same("its files", ({(0, 0): b"mn\r\n", (1, 0): b"mn\r\n", (1, 1): ASKED},
                            {(0, 0): b"MN\r\n", (1, 0): b"MN\r\n", (1, 1): ANSWERED}), files_of())
@@ -136,8 +137,9 @@ def ends_of_answers():
     with Server() as server:
         recorder = Recorder(server.place, "--ends")
         with connected(recorder.place) as one, connected(recorder.place) as other:
-            texts = ((one, b"wait 0.2\r\n", b""), (other, ASKED[:5], b""), (other, ASKED[5:], ANSWERED), (one, b"", b"OK\r\n"),
-                     (one, b"set b 0 0 1 noreply\r\nx\r\nmg c v q\r\nmg b v q\r\nmn\r\n", b"VA 1\r\nx\r\nMN\r\n"))
+            texts = ((one, b"wait 0.2\r\n", b""), (other, ASKED[:5], b""), (other, ASKED[5:], ANSWERED),
+                     (one, b"", b"OK\r\n"), (one, b"set b 0 0 1 noreply\r\nx\r\nmg c v q\r\nmg b v q\r\nmn\r\n",
+                                               b"VA 1\r\nx\r\nMN\r\n"))
             for client, sent, back in texts:
                 client.sendall(sent)
                 same(f"the answers to {sent}", back, take(client, len(back)))
@@ -153,7 +155,8 @@ def ends_of_answers():
         wanted = [record for (client, asked, _), count in zip(texts, ends)
                   for record in [*([(number[client], asked)] if asked else []), *[(number[client], b"")] * count]]
         with open("my.cap", "rb") as file:
-            same("where answers end", wanted, [tuple(one) for one in read_capture(Part("capture", file.read())).records])
+            read = read_capture(Part("capture", file.read()))
+        same("where answers end", wanted, [tuple(record) for record in read.records])
 
 
 def few_files():
@@ -162,7 +165,7 @@ def few_files():
         recorder = Recorder(server.place, "--connections", "30",
                             preexec_fn=lambda: resource.setrlimit(resource.RLIMIT_NOFILE, (80, 80)))
         at_once([lambda: same("a client that waits", b"OK\r\n", talk(recorder.place, b"wait 0.05\r\n"))] * 30)
-        same("few files", (0, "tools/record: no more files may be open: clients wait\n"
+        same("few files", (0, "tools/record: no more files may be open (ulimit -n): clients wait\n"
                            + recorded(30, 30, 330, 120)), recorder.end(None))
 
 
@@ -280,7 +283,8 @@ def server_restarts():
     with Server(("127.0.0.1", port)):
         same("a client after it is back", ANSWERED, talk(recorder.place, ASKED))
         status, said = recorder.end()
-    same("the lines of a restart", (0, f"tools/record: {name}: Connection refused: clients are turned away\n"
+    same("the lines of a restart", (0, f"tools/record: {name}: Connection refused: clients are turned away until"
+                                    " it is there; --server names it\n"
                                     f"tools/record: {name}: connected again; clients turned away: 1\n"
                                     + recorded(2, 4, 2 * len(ASKED), 2 * len(ANSWERED))), (status, said))
     same("the recording of a restart", ({(0, 0): ASKED, (1, 0): ASKED}, {(0, 0): ANSWERED, (1, 0): ANSWERED}),
@@ -351,6 +355,9 @@ def killed():
     says("a start over it", "my.replies.spool: left by a recording that did not end; complete that with --repair",
          "my.cap", "my.replies")
     kept = {name: open(name, "rb").read() for name in os.listdir(".")}
+    ran = subprocess.run([os.path.join(TOP, "tools/top"), "my.cap"], capture_output=True, timeout=300, check=False)
+    same("what a tool says of its capture", f"tools/top: my.cap: capture: truncated at {len(kept['my.cap'])}; if it was"
+         " left by a recording that was killed, tools/record --repair completes it\n", ran.stderr.decode())
     both = {(0, 0): ASKED, (1, 0): ASKED}, {(0, 0): ANSWERED, (1, 0): ANSWERED}
     for cut, spoiled, tail in ((0, both, ""), (3, cut_of(both, 0, 3), f", {len(ASKED) - 3} of the {len(ASKED)} bytes of"
                                                                       " the last segment")):
@@ -373,8 +380,9 @@ def killed():
 
 def unanswered():
     """How many commands --repair finds without an answer, over connections that close."""
-    asked = [segment(0, b"get a\r\nget b\r\nset c 0 0 1 noreply\r\nx\r\n"), segment(1, b"mg a v q\r\nmg b v q\r\nmn\r\nget"),
-             close(0), segment(0, b"get d\r\nget e\r\n"), segment(1, b""), close(0), segment(2, b"\x80\nget a\r\n"),
+    asked = [segment(0, b"get a\r\nget b\r\nset c 0 0 1 noreply\r\nx\r\n"),
+             segment(1, b"mg a v q\r\nmg b v q\r\nmn\r\nget"), close(0), segment(0, b"get d\r\nget e\r\n"),
+             segment(1, b""), close(0), segment(2, b"\x80\nget a\r\n"),
              segment(3, b"mg a v\r\nmg b v\r\nset a 0 0 1\r\n"), segment(0, b"get f\r\nquit\r\nget g\r\n")]
     told = [segment(1, b"VA 1\r\nx"), segment(0, b"END\r\nVALUE b 0 1\r\nx\r\n"), segment(1, b"\r\nMN\r\n"), close(0),
             segment(0, b"END\r\nEND\r\nERROR\r\n"), close(0), segment(3, b"EN\r\n")]
@@ -421,16 +429,16 @@ def full():
     """The most that a capture has, and no more space for files: all is passed on, and what there is is written."""
     more = ": all is passed on, and nothing more recorded; Ctrl-C ends it, and completes the files"
     with Server() as server:
-        most = 12 + 9 + len(ASKED) + 9 + 10 + 1
-        recorder = Recorder(server.place, "--ends", tool=patched(f"recording.MOST_CAPTURE = {most} + 2 * 9"))
+        most = 12 + 9 + len(ASKED) + 2 * 9 + 9 + 10 + 9 + 4 + 1  # also for a short segment that comes later
+        recorder = Recorder(server.place, "--ends", tool=patched(f"recording.MOST_CAPTURE = {most}"))
         with connected(recorder.place) as one:
             for sent, back in ((ASKED, ANSWERED), (b"wait 0.3\r\n", b""), (b"mn\r\nmn\r\n", b"OK\r\nMN\r\nMN\r\n"),
-                               (ASKED, ANSWERED)):
+                               (b"mn\r\n", b"MN\r\n"), (ASKED, ANSWERED)):
                 one.sendall(sent)
                 same("what is passed on of a connection that was recorded", back, take(one, len(back)))
                 time.sleep(0.1)
             same("a connection that is not recorded", ANSWERED, talk(recorder.place, ASKED))
-        same("a full capture", (1, f"tools/record: my.cap: a capture has at most {most + 18} bytes{more}\n"
+        same("a full capture", (1, f"tools/record: my.cap: a capture has at most {most} bytes{more}\n"
                                    "tools/record: 1 connections were passed on and not recorded\n"
                                 + recorded(1, 3, len(ASKED) + 10, len(ANSWERED) + 4)), recorder.end())
         same("its files", ({(0, 0): ASKED + b"wait 0.3\r\n"}, {(0, 0): ANSWERED + b"OK\r\n"}), files_of())
@@ -461,8 +469,8 @@ def before_it_begins():
         file.write(b"old")
     with Server() as server:
         listen = server.place
-        says("a place that is taken", f"{listen}: Address already in use", "--over", "--listen", listen, "my.cap",
-             "my.replies")
+        says("a place that is taken", f"{listen}: Address already in use; --listen names another place", "--over",
+             "--listen", listen, "my.cap", "my.replies")
         if not listen.startswith("[127"):
             fail("the place of a server", listen)
     says("a name without an address", "nowhere.invalid:1: no address has this name", "--over", "--server",
@@ -507,6 +515,41 @@ def terminal():
         os.close(below)
 
 
+class Terminal:
+    """A terminal, by the lines that are shown on it."""
+
+    def __init__(self):
+        self.is_terminal, self.lines = True, []
+
+    def show(self, line):
+        self.lines.append(line)
+
+
+def joining():
+    """What is said while the replies are joined: on a terminal each second, elsewhere once, if they are many."""
+    with Server() as server:
+        recorder = Recorder(server.place, tool=patched("import screen; screen.MUCH = 0"))
+        talk(recorder.place, ASKED)
+        same("many replies", (0, "tools/record: joining 0 MB of replies\n" + recorded(1, 2, len(ASKED), len(ANSWERED))),
+             recorder.end())
+    shown = Terminal()
+    progress = Progress(shown, "joining", 10)
+    for seconds in (-1, 1, -1):
+        progress.next = time.monotonic() + seconds
+        progress(3)
+    same("how far it is", ["joining: 30 %", "joining: 90 %"], shown.lines)
+
+
+def quits():
+    """A `quit` is no command, as for tools/top."""
+    with Server() as server:
+        recorder = Recorder(server.place)
+        talk(recorder.place, b"mn\r\nmn\r\nquit\r\n")
+        same("a quit", (0, recorded(1, 2, 14, 8)), recorder.end())
+    ran = subprocess.run([os.path.join(TOP, "tools/top"), "my.cap"], capture_output=True, timeout=300, check=False)
+    same("a quit, by top", b"capture: 2 commands, 1 connections, 0 keys\n", ran.stdout[:43])
+
+
 def real_memcached():
     with memcached() as place:
         if place is None:
@@ -524,6 +567,6 @@ def real_memcached():
 
 if __name__ == "__main__":
     all_of(before_it_begins, several_clients, no_client, two_hundred, other_sockets, ends_of_answers, later_sessions,
-           few_files,
-           standard_output, gives_up, half_closed, slow_reader, binary, server_restarts, signals,
-           ends_with_a_slow_reader, closed_errors, killed, unanswered, full, terminal, real_memcached)
+           few_files, standard_output, gives_up, half_closed, slow_reader, binary, server_restarts, signals,
+           ends_with_a_slow_reader, closed_errors, killed, unanswered, full, terminal, joining, quits,
+           real_memcached)

@@ -73,8 +73,8 @@ def free_port():
 
 class Server:
     """A small memcached: `set`, `get`, `gets`, `cas`, `mg` with `q` and `c`, `ms` with `C`, `mn` and `quit`; `big N` is
-    answered by an item of N bytes, `wait S` after S seconds, `hush` never, and `echo N` by the N bytes after it. The first
-    unique is that after `unique`. It is in a thread of its own."""
+    answered by an item of N bytes, `wait S` after S seconds, `hush` never, and `echo N` by the N bytes after it. The
+    first unique is that after `unique`. It is in a thread of its own."""
 
     def __init__(self, place=("127.0.0.1", 0), unique=0):
         self.items, self.uniques, self.unique, self.hushed = {}, {}, unique, 0
@@ -266,8 +266,8 @@ class Recorder:
 
     def __init__(self, server, *words, listen="127.0.0.1:0", files=("my.cap", "my.replies"), tool=("tools/record",),
                  **more):
-        given = [os.path.join(TOP, tool[0]), *tool[1:], "--over", "--listen", listen, "--server", server, *words, *files]
-        self.process = subprocess.Popen(given, stderr=subprocess.PIPE, **more)
+        given = ["--over", "--listen", listen, "--server", server, *words, *files]
+        self.process = subprocess.Popen([os.path.join(TOP, tool[0]), *tool[1:], *given], stderr=subprocess.PIPE, **more)
         self.first = self.process.stderr.readline().decode()
         self.place = self.first.rsplit(" ", 1)[-1].strip()
         self.said = None

@@ -145,7 +145,7 @@ def run(main, page):
             status = end_of.args[0]
         sys.stdout.flush()
     except Fault as fault:
-        stop(fault)
+        stop(f"{fault}{fault.hint}")
     except OSError as error:
         stop(f"{error.filename or 'standard output'}: {error.strerror}")
     sys.exit(status)

@@ -47,7 +47,9 @@ MOST_ENTRY, MOST_RECORD = 2 * MOST_VALUE + 1024, MOST_SEGMENT + 9
 
 
 class Fault(Exception):
-    """The first fault of a part, in the words of the program."""
+    """The first fault of a part, in the words of the program; `hint` says what may be done about it."""
+
+    hint = ""
 
 
 class Part:
@@ -57,12 +59,12 @@ class Part:
     time, and none at the end of the input; then only a window of the part is kept. `text` is the window, which begins
     at the place `begin` of the part, and `at` the index in it of the next byte. If `passed` is set, it is called with
     all bytes of the part that were read, in order and in pieces, the last of them by `pass_rest`. The words of a fault
-    are between `before` and `after`.
+    are between `before` and `after`; `hint` says what may be done about a part that ends too early.
     """
 
     def __init__(self, name, text=b"", more=None, before="", after=""):
         self.name, self.text, self.at, self.begin, self.more = name, text, 0, 0, more
-        self.before, self.after, self.passed = before, after, None
+        self.before, self.after, self.hint, self.passed = before, after, "", None
         self.most = MOST_CAPTURE if name == "capture" else MOST_FILE
 
     @property
@@ -97,7 +99,9 @@ class Part:
     def ran_out(self):
         """The fault of an input that ends too early, or has more bytes than a part may have."""
         end = self.begin + len(self.text)
-        return self.fault("too-long" if end > self.most else f"truncated at {end}")
+        fault = self.fault("too-long" if end > self.most else f"truncated at {end}")
+        fault.hint = self.hint
+        return fault
 
     def take(self, count):
         """The next `count` bytes."""
@@ -149,10 +153,17 @@ class Part:
 SEGMENT = struct.Struct(">BII")
 
 
+# the version and the count of connections of a capture that is being recorded
+GROWING = 2, MOST_CONNECTIONS
+
+
 def capture_head(part):
     """The version of a capture and its count of connections."""
     version = part.magic([b"ZYGCAP1\n", b"ZYGCAP2\n"], "bad-magic")
-    return version, part.within(4, 0, MOST_CONNECTIONS, "conn-count {number}")
+    count = part.within(4, 0, MOST_CONNECTIONS, "conn-count {number}")
+    if (version, count) == GROWING:
+        part.hint = "; if it was left by a recording that was killed, tools/record --repair completes it"
+    return version, count
 
 
 def capture_records(part, version, count):

@@ -5,10 +5,8 @@ was left while it grew is whole up to its last record, and can be completed.
 """
 import os
 
-from formats import (END, MOST_CONNECTIONS, MOST_FILE, SEGMENT, Fault, Part, Segment, capture_head, capture_records,
-                     capture_start, close)
-
-GROWING = 2, MOST_CONNECTIONS
+from formats import (END, GROWING, MOST_CONNECTIONS, MOST_FILE, SEGMENT, Fault, Part, Segment, capture_head,
+                     capture_records, capture_start, close)
 
 
 def write_at(file, text, place):
@@ -42,7 +40,7 @@ class Growing:
         self.size += length
 
     def cut(self, size):
-        """Takes back what was written after so many bytes."""
+        """Cuts it after `size` bytes."""
         os.ftruncate(self.file, size)
         os.lseek(self.file, size, os.SEEK_SET)
         self.size = size

@@ -10,13 +10,14 @@ CAN_BE_QUIET = (*STORAGE, b"incr", b"decr", b"delete", b"touch", b"flush_all", b
 # the commands whose flag `q` hides answers: how many words come before the flags, and which answers are hidden
 HIDDEN = {b"mg": (2, (b"EN",)), b"ms": (3, (b"HD",)), b"md": (2, (b"HD", b"NF")), b"ma": (2, (b"HD", b"NF"))}
 META_CODES = (b"HD", b"VA", b"EN", b"NS", b"EX", b"NF")
-CODES = (*META_CODES, b"ERROR", b"CLIENT_ERROR", b"SERVER_ERROR")
+ERRORS = (b"ERROR", b"CLIENT_ERROR", b"SERVER_ERROR")
+CODES = (*META_CODES, *ERRORS)
 # first bytes that are not those of text
 ODD = {0x80: "the binary protocol", 0x16: "TLS"}
 # the first words of lines after which an answer goes on
 LONG = (b"VALUE", b"STAT", b"ITEM")
-# the first words of lines that may show a unique, and how many words they have where they do not
-ITEMS = {b"VALUE": 4, b"VA": 2, b"HD": 1}
+# the first words of lines that name a key or may show a unique, and how many words they have where they do neither
+ITEMS = {b"VALUE": 1, b"VA": 2, b"HD": 1}
 # the commands that may name a unique
 NAMING = (b"cas", b"ms", b"md", b"ma")
 # what is kept of a line, in bytes
@@ -26,7 +27,7 @@ ALWAYS, PERHAPS, NEVER = "always", "perhaps", "never"
 
 # a command: its first word, when it is answered, the words of its line, and where it ends in the bytes that were fed
 Command = namedtuple("Command", "verb answered words end")
-# an answer: the first word of its last line, or VA, the words of its lines that may show a unique, and where it ends
+# an answer: the first word of its last line, or VA, the words of its lines with a key or a unique, and where it ends
 Answer = namedtuple("Answer", "word items end")
 
 
@@ -153,12 +154,12 @@ class Pending:
     def take(self, answer):
         """What was noted of the command that an answer belongs to; None where there is none."""
         waiting = self.commands
-        while waiting and waiting[0].command.answered == PERHAPS and not can_answer(answer.word, waiting[0].command.verb):
-            waiting.popleft()
-        if not waiting:
-            return None
-        self.sure -= waiting[0].command.answered == ALWAYS
-        return waiting.popleft()
+        while waiting:
+            sent = waiting.popleft()
+            if sent.command.answered == ALWAYS or can_answer(answer.word, sent.command.verb):
+                self.sure -= sent.command.answered == ALWAYS
+                return sent
+        return None
 
     def clear(self):
         """Waits no more for answers; gives how many were to come."""
@@ -190,12 +191,14 @@ class Pace:
         if self.is_new and text:
             self.is_new, self.is_text = False, text[0] not in ODD
         count = 0
-        for command in self.commands.feed(text) if self.is_text else ():
-            count += command.verb != b"quit"
-            is_meta = command.verb in HIDDEN
-            self.classic += command.answered == ALWAYS and not is_meta
-            self.meta += command.answered == ALWAYS and is_meta
-            self.has_quiet |= command.answered == PERHAPS
+        for verb, answered, _, _ in self.commands.feed(text) if self.is_text else ():
+            count += verb != b"quit"
+            if answered == PERHAPS:
+                self.has_quiet = True
+            elif answered == ALWAYS and verb in HIDDEN:
+                self.meta += 1
+            elif answered == ALWAYS:
+                self.classic += 1
         return count
 
     def heard(self, text):
@@ -208,10 +211,10 @@ class Pace:
 
     def take(self, answer):
         """Takes an answer: a faulty command of either kind may have an error line."""
-        if answer.word in CODES and self.meta or answer.word in META_CODES:
+        if answer.word in META_CODES or self.meta and answer.word in ERRORS:
             self.meta = max(0, self.meta - 1)
-        else:
-            self.classic = max(0, self.classic - 1)
+        elif self.classic:
+            self.classic -= 1
 
     def last(self, text):
         """These further bytes of the server, up to the end of the last answer that is waited for."""

@@ -2,6 +2,7 @@
 from collections import Counter
 
 import recorded
+from answers import Answers, groups
 from meaning import Framer, framed
 from pace import ODD, Pace
 from packet_faults import told
@@ -38,11 +39,33 @@ def cut_of(stream, sent=0):
     return where, left, sum(1 for _, text in rest for command, _ in framed(bytes(text)) if command.verb != "fault")
 
 
+def early_of(session):
+    """Which answers of a session that begins anew are left out, as text."""
+    if not session.early:
+        return ""
+    why = "fit none of its requests" if session.is_misfit else "are of earlier requests"
+    return f"; {several(session.early, 'byte')} of the server {why}, and are left out"
+
+
+def answered(session):
+    """What the server answered to the requests of a session; if these are cut, to those that are kept."""
+    text = session.answers.text()[session.early :] if session.answers else b""
+    if not lost_of(session.requests, session.sent):
+        return text
+    found = Answers(text)
+    for group in groups(session.requests.text()):
+        if len(group) > 1:
+            found.take_group(group)
+        else:
+            found.take()
+    return text[: found.at]
+
+
 class Report:
     """The lines on what was read, and its sums."""
 
     def __init__(self, reading):
-        self.lines, self.sums = [], Counter()
+        self.lines, self.sums, self.with_answers = [], Counter(), reading.with_answers
         if reading.first and reading.flows.sessions:
             self.lines.append("apart from what is refused:")
         for flow, number in sorted(reading.flows.numbers.items(), key=lambda one: one[1]):
@@ -70,20 +93,28 @@ class Report:
         stream, notes, framer, pace = session.requests, [], Framer(), Pace()
         text = stream.text()
         pace.sent(text)
+        if self.with_answers:
+            pace.heard(answered(session))
         if not pace.is_text:
             notes.append(f"warning: its first byte is {text[0]:#x}, as in {ODD[text[0]]}; "
                          "only text commands are served")
         count = sum(1 for _ in framer.feed(text))
-        if stream.syn is None:
+        if session.is_resumed:
+            notes.append("it begins anew, after a loss" + early_of(session))
+            self.sums.update(resumed=1)
+        elif stream.syn is None:
             notes.append("it began before the recording: its first bytes may be the rest of a request")
         if found := cut_of(stream, session.sent):
             notes.append(f"{found[0]}, about {several(found[2], 'request')}")
             self.sums.update(cut=1, left=found[1])
         if framer.size and not framer.has_quit:
             notes.append(f"it ends within a request, after {several(framer.size, 'byte')} of it")
-        if session.answers and (found := cut_of(session.answers)):
+        if session.answers and (found := cut_of(session.answers, session.heard)):
             notes.append(f"the server's side: {found[0]}")
             self.sums.update(cut=1, left=found[1])
+        if self.with_answers and pace.owed:
+            notes.append(f"{several(pace.owed, 'request')} without a whole reply")
+            self.sums.update(missing=pace.owed)
         self.sums.update(late=stream.late, again=stream.again)
         return count, notes
 
@@ -93,6 +124,10 @@ class Report:
         self.lines.append("all: " + ", ".join(several(sums[name], name) for name in names))
         if sums["cut"]:
             self.lines.append(f"  {several(sums['cut'], 'stream')} cut, {several(sums['left'], 'byte')} left out")
+        if sums["resumed"]:
+            self.lines.append(f"  {several(sums['resumed'], 'session')} begun anew after a loss")
+        if sums["missing"]:
+            self.lines.append(f"  {several(sums['missing'], 'request')} without a whole reply")
         if sums["late"] or sums["again"]:
             late = several(sums["late"], "packet")
             self.lines.append(f"  {late} came late and {sums['again']} again, without harm")
@@ -115,9 +150,12 @@ def refusal(reading, begin, name):
         return None
     none = f"no request goes to port {reading.port}"
     if reading.answering:
-        return f"{none}, and only what comes from it was recorded"
+        return f"{none}, and only what comes from it was recorded\n" \
+               f"  record both ways, as by the filter port {reading.port}"
     ports = ", ".join(f"{port} ({several(count, 'packet')})" for port, count in
                       (reading.asking or reading.ports).most_common(MOST_PORTS))
     if reading.asking:
         return f"{none}, but commands go to {ports}\n  name the port with --port"
-    return f"{none}, but other bytes go to {ports}" if ports else f"{none}, nor to any other"
+    if ports:
+        return f"{none}, but other bytes go to {ports}\n  name the port with --port"
+    return f"{none}, nor to any other\n  record on the interface by which clients come, as with -i lo or -i eth0"

@@ -81,7 +81,8 @@ def listening(one):
             found.append(bound(family, address))
             found[-1].listen(BACKLOG)
         except OSError as error:
-            fault = OSError(error.errno, os.strerror(error.errno), one.name)
+            what = "; --listen names another place" if error.errno == errno.EADDRINUSE else ""
+            fault = OSError(error.errno, os.strerror(error.errno) + what, one.name)
             if error.errno not in (errno.EADDRNOTAVAIL, errno.EAFNOSUPPORT):
                 break
     else:

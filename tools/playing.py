@@ -44,7 +44,7 @@ class Play:
         self.most, self.wait = options["--connections"], options["--wait"]
         self.spool, self.screen = spool, screen
         self.selector, self.later, self.begun = selectors.DefaultSelector(), [], 0
-        self.times, self.connected, self.missing, self.faults, self.closed = Times(), 0, 0, 0, 0
+        self.times, self.connected, self.missing, self.late, self.faults, self.closed = Times(), 0, 0, 0, 0, 0
         self.now = self.last = time.perf_counter()
 
     # ---- scripts
@@ -225,7 +225,8 @@ class Play:
         """Nothing came for long: all go on without the answers that they wait for."""
         self.last = self.now
         for player in list(self.active):
-            self.missing += player.pending.clear()
+            count = player.pending.clear()
+            self.missing, self.late = self.missing + count, self.late + count
             if player.is_connected and (player.waiting or player.is_ending):
                 self.over(player, f"nothing was taken for {self.wait} seconds" if player.waiting else None)
         for script in list(self.running):

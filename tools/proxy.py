@@ -66,7 +66,7 @@ class Proxy:
     def pause(self, one):
         """No client is taken for a while, since no more files may be open."""
         if not self.is_crowded:
-            self.screen.say("no more files may be open: clients wait")
+            self.screen.say("no more files may be open (ulimit -n): clients wait")
         self.is_crowded = True
         self.selector.unregister(one)
         self.later.append(functools.partial(self.selector.register, one, READ, self.accept))
@@ -111,7 +111,8 @@ class Proxy:
         self.dials.discard(dial)
         dial.client.close()
         if not self.turned_away:
-            self.screen.say(f"{self.server}: {os.strerror(fault)}: clients are turned away")
+            self.screen.say(f"{self.server}: {os.strerror(fault)}: clients are turned away until it is there;"
+                            " --server names it")
         self.turned_away += 1
 
     # ---- links

@@ -26,7 +26,7 @@ HASH_KEY = int("6d5a56da255b0ec24167253d43a38fb0d0ca2bcbae7b30b477cb2da38030f20c
 HASH_KEY_BITS = 320
 
 Record = namedtuple("Record", "at time frame")
-Packet = namedtuple("Packet", "flow sequence is_syn payload")
+Packet = namedtuple("Packet", "flow sequence is_syn payload expected", defaults=[None])
 # how much of the requests of a session, or of its answers, had come with a packet
 Arrival = namedtuple("Arrival", "time connection session is_answer size")
 
@@ -117,8 +117,9 @@ def packet_of(frame, at, begin, end):
     if payload < end and len(frame) < end:
         raise PacketFault(MISSING, at)
     sequence = int.from_bytes(frame[begin + 4 : begin + 8], "big")
+    expected = int.from_bytes(frame[begin + 8 : begin + 12], "big")
     flow = frame[26:34] + frame[begin : begin + 4]
-    return Packet(flow, sequence, frame[begin + 13] >> 1 & 1, frame[payload:end])
+    return Packet(flow, sequence, frame[begin + 13] >> 1 & 1, frame[payload:end], expected)
 
 
 def judge(frame, at, port):
@@ -167,6 +168,12 @@ class Stream:
             found.append(self.texts[span][begin - first : end - first])
             begin, span = self.stop(span), span + 1
         return b"".join(found)
+
+    def reach(self, offset):
+        """Notes that there were bytes up to an offset."""
+        if offset > self.end():
+            self.begins.append(offset)
+            self.texts.append(bytearray())
 
     def rest(self):
         """What comes after the stream: the offset and the bytes of each run between two gaps."""
@@ -226,7 +233,11 @@ class Answers(Stream):
     """What a server sends in a session: its length has no bound."""
 
     def offset(self, packet, at):
-        ahead = (packet.sequence + packet.is_syn - self.base - self.size()) % NUMBERS
+        return self.place(packet.sequence + packet.is_syn)
+
+    def place(self, number):
+        """The offset of the byte with a sequence number: the one that is nearest to the end of the stream."""
+        ahead = (number - self.base - self.size()) % NUMBERS
         return self.size() + (ahead if ahead < BEFORE else ahead - NUMBERS)
 
 
@@ -235,7 +246,10 @@ class Session:
 
     def __init__(self, packet):
         self.requests, self.answers = Stream(packet), None
-        self.sent = 0  # how many bytes were sent, as the numbers of packets without bytes show
+        # how many bytes were sent, and how many came back, as the numbers of other packets show
+        self.sent = self.heard = 0
+        self.is_resumed = self.is_answered = False  # it began anew after a loss; what came last is of the server
+        self.early, self.is_misfit = 0, False  # how many bytes answer earlier requests; no answer fits its request
 
     def ends_with(self, packet):
         """Whether a packet begins the next session."""
@@ -246,6 +260,19 @@ class Session:
         if self.answers is None or packet.is_syn and self.answers.syn != packet.sequence:
             self.answers = Answers(packet)
         self.answers.meet(packet, at)
+        self.is_answered |= bool(packet.payload)
+
+    def expects(self, number):
+        """Notes that the client has all bytes of the server up to the one with this sequence number."""
+        place = self.answers.place(number) if self.answers else 0
+        if place < self.heard + MOST_STREAM:
+            self.heard = max(self.heard, place)
+
+    def is_expected(self, number):
+        """Notes that the client has sent all bytes up to the one with this sequence number."""
+        offset = (number - self.requests.base) % NUMBERS
+        if offset < MOST_STREAM:
+            self.sent = max(self.sent, offset)
 
 
 # ---- flows
@@ -294,6 +321,9 @@ class Flows:
         last = len(self.sessions[number]) - 1
         session = self.sessions[number][last]
         return Arrival(time, number, last, is_answer, (session.answers if is_answer else session.requests).size())
+
+    def settle(self):
+        """All packets were met."""
 
     def count(self):
         return max(self.sessions, default=-1) + 1

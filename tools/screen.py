@@ -47,8 +47,8 @@ class Screen:
 
 
 class Progress:
-    """Work on a number of bytes. On a terminal a line a second says how much is done, and elsewhere one line that it has
-    begun, where it is much."""
+    """Work on a number of bytes. On a terminal a line a second says how much is done, and elsewhere one line that it
+    has begun, where it is much."""
 
     def __init__(self, screen, what, size):
         self.screen, self.what, self.size, self.done = screen, what, size, 0

@@ -14,7 +14,7 @@ NAMED_BY_WORD, NAMED_BY_FLAG = {b"cas": 5}, {b"ms": 3, b"md": 2, b"ma": 2}
 def shown(command, answer):
     """The uniques that an answer to a command shows, each after its key."""
     if command.verb in (b"gets", b"gats"):
-        return [(words[1], words[4]) for words in answer.items if words[0] == b"VALUE"]
+        return [(words[1], words[4]) for words in answer.items if len(words) > 4]
     if command.verb == b"mg":
         return [(command.words[1], word[1:]) for words in answer.items for word in words if word.startswith(b"c")]
     return []
