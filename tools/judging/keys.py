@@ -14,7 +14,7 @@ from model import shard_of
 # a call in the order of a key: whether it changed the key, whether the item was lost before it, and the state after it
 Placed = namedtuple("Placed", "event is_change was_lost state")
 # how many states are looked at where an item is guessed, and how many items are tried
-MOST_STATES, MOST_GUESSES = 20000, 50
+MOST_STATES, MOST_GUESSES = 20000, 30
 
 
 class Keys:
@@ -25,7 +25,7 @@ class Keys:
     `unsure` nothing can be refused.
     """
 
-    def __init__(self, events, shards, loses=False, is_warm=False, limit=200000, look=None, unsure=()):
+    def __init__(self, events, shards, loses=False, is_warm=False, limit=200000, look=lambda: None, unsure=()):
         self.unsure = set(unsure)
         self.states, self.shards, self.is_warm, self.limit, self.look = States(True, loses), shards, is_warm, limit, look
         self.events, self.first, self.found, self.shard_of = {}, {}, {}, {}
@@ -98,9 +98,11 @@ class Keys:
         needs = Needs(events, self.states, {key: ABSENT})
         lost = [item for at, (kind, _, item) in enumerate(needs.things) if kind == ITEM and item and not needs.make[at]]
         lost.sort(key=lambda item: len(self.states.values.pairs[item][1]))
-        counted = [number(0, b"%d" % value) for kind, _, value in needs.things if kind == NUMBER]
+        counted = [(needs.make[at] > 0, at, number(flags, b"%d" % value)) for at, (kind, _, value) in enumerate(needs.things)
+                   if kind == NUMBER for flags in self.states.flags]
+        counted = [item for _, _, item in sorted(counted)]
         seen = [event.item for event in events if event.kind == GET and event.item]
-        for item in dict.fromkeys([*lost[:1], ABSENT, *counted[:2], number(0, b""), *seen[:MOST_GUESSES]]):
+        for item in dict.fromkeys([*lost[:1], ABSENT, *counted[:MOST_GUESSES], number(0, b""), *seen[:MOST_GUESSES]]):
             try:
                 Search(events, (item, 0, 0), self.states.step, MOST_STATES, Needs(events, self.states, {key: item}), None,
                        None, self.look).run()
