@@ -3,10 +3,10 @@
 
 usage: tests/faulty.py PLACE [FAULT]     (HOST:PORT; it says so when it listens, and serves until it is ended)
 
-stale    one in ten reads is answered from a copy that is some milliseconds old, as a replica does
+stale      one in ten reads is answered from a copy that is some milliseconds old, as a replica does
 uncounted  incr and decr read, wait a moment and write, so that two at a time may count once
-dropped  one in fifty sets is answered STORED and forgotten
-mixed    the answers to commands that came together are sometimes sent in another order
+dropped    one in ten sets is answered STORED and forgotten
+mixed      the answers to commands that came together are sometimes sent in another order
 """
 import asyncio
 import os
@@ -45,7 +45,7 @@ class Server:
                 return Reply("hit", item.flags, item.unique, item.value) if item else Reply("miss")
             if call.name != "get":
                 self.copies.append((time.monotonic(), dict(items)))
-        if self.fault == "dropped" and call.name == "set" and draw.random() < 0.02:
+        if self.fault == "dropped" and call.name == "set" and draw.random() < 0.1:
             return Reply("stored")
         if self.fault == "uncounted" and call.name in ("incr", "decr") and call.key in items:
             item = items[call.key]

@@ -14,7 +14,11 @@ from judging.events import ADD, CAS, DELETE, FLUSH, REPLACE, SET
 
 
 class Contradiction(Exception):
-    """There is no such order."""
+    """There is no such order; `key` is the key that did not fit, if it is known."""
+
+    def __init__(self, key=None):
+        super().__init__(key)
+        self.key = key
 
 
 # what a call needs of its key: nothing, the item that it saw, any item, or none
@@ -206,29 +210,28 @@ class Fitting:
 
 
 def fit(fitting, limit, look=None):
-    """The order with all choices made."""
+    """The order with all choices made, of which up to `limit` may be wrong."""
     fitting.settle()
-    stack, tries, choices = [], 0, fitting.choices()
+    stack, wrong, choices = [], 0, fitting.choices()
     while choices is not None:
-        while choices:
-            tries += 1
-            if tries > limit:
-                raise Contradiction
-            if look:
-                look()
-            choice, tried = choices.pop(), fitting.copy()
-            try:
-                choice(tried)
-                tried.settle()
-            except Contradiction:
-                continue
-            stack.append((fitting, choices))
-            fitting, choices = tried, tried.choices()
-            break
-        else:
+        if look:
+            look()
+        if not choices:
             if not stack:
                 raise Contradiction
             fitting, choices = stack.pop()
+            continue
+        choice, tried = choices.pop(), fitting.copy()
+        try:
+            choice(tried)
+            tried.settle()
+        except Contradiction:
+            wrong += 1
+            if wrong > limit:
+                raise
+            continue
+        stack.append((fitting, choices))
+        fitting, choices = tried, tried.choices()
     return fitting
 
 

@@ -7,8 +7,12 @@ Where there is none, the calls of one connection (of a multiple get, or of comma
 each other in a circle.
 """
 import heapq
+from collections import deque
 
 from judging.events import FOREVER
+
+# a part of more nodes is mended by short circles in it: of how many nodes, at most, found among how many
+MOST_NODES, MOST_LENGTH, MOST_REACHED = 150, 12, 500
 
 
 class Graph:
@@ -109,12 +113,68 @@ class Graph:
                 if node >= self.base or self.kept[node]]
 
     def circles(self, left):
-        """The strongly connected parts of more than one node among these nodes (Tarjan)."""
-        parts = Parts(self, left)
+        """Circles among these nodes: the strongly connected parts of more than one node (Tarjan), and in place of a large
+        one some short circles in it."""
+        parts, found = Parts(self, left), []
         for node in left:
             if node not in parts.index:
                 parts.visit(node)
-        return parts.found
+        for part in parts.found:
+            found += [part] if len(part) <= MOST_NODES else self.short_circles(part) or [part]
+        return found
+
+    def short_circles(self, part):
+        """Short circles in a strongly connected part, without a node in common. Where none is short, one with a link from a
+        call to another that probably ended before it, with as few calls as can be: each circle has such a link."""
+        inside, weights, found = set(part), self.weights, []
+        for node in sorted(part, key=self.weight):
+            if node in inside and node < self.count:
+                circle = self.short_circle(node, inside)
+                found += [circle] * bool(circle)
+                inside.difference_update(circle)
+        if found:
+            return found
+        back = [(weights[one] - weights[other], one, other) for one in part if one < self.count
+                for other in self.linked[one] if other in inside and other < self.count and weights[other] < weights[one]]
+        return [self.path(other, one, inside) for _, one, other in sorted(back)[:1]]
+
+    def short_circle(self, begin, inside):
+        """A shortest circle through a node among some nodes; nothing where none is short."""
+        came_from, row, length = {}, [begin], 0
+        while row and len(came_from) < MOST_REACHED and length < MOST_LENGTH:
+            following, length = [], length + 1
+            for node in row:
+                for other in self.after(node):
+                    if other == begin:
+                        return [begin, *back_from(node, came_from, begin)]
+                    if other in inside and other not in came_from:
+                        came_from[other] = node
+                        following.append(other)
+            row = following
+        return []
+
+    def path(self, begin, end, inside):
+        """The calls of a path among some nodes, as few as can be."""
+        came_from, row = {begin: begin}, deque([begin])
+        while end not in came_from:
+            node = row.popleft()
+            for other in self.after(node):
+                if other in inside and other not in came_from:
+                    came_from[other] = node
+                    if self.is_call(other):
+                        row.append(other)
+                    else:
+                        row.appendleft(other)
+        return [begin, *[node for node in back_from(end, came_from, begin) if self.is_call(node)]]
+
+
+def back_from(node, came_from, begin):
+    """The nodes from a node back to where a search began, without that."""
+    found = []
+    while node != begin:
+        found.append(node)
+        node = came_from[node]
+    return found
 
 
 class Parts:

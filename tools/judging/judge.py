@@ -60,7 +60,7 @@ class Judge:
 
     def merge(self):
         """Makes one order of those of all keys, and mends these where they do not fit."""
-        graph = Graph(self.events)
+        graph, mending = Graph(self.events), Mending(self.events, self.keys, self.clock.look)
         for turn in range(MOST_TURNS):
             self.clock.set(f"one order of all, turn {turn + 1}")
             graph.link(self.keys.found, self.loss)
@@ -76,7 +76,7 @@ class Judge:
                 return
             circles = graph.circles(left)
             self.clock.set(f"one order of all, turn {turn + 1}, {len(circles)} circles")
-            Mending(self.events, self.keys, rising, self.clock.look).turn(circles, turn)
+            mending.turn(circles, rising)
         raise give_up(circles, self.events)
 
     def loss(self, event, key):

@@ -1,6 +1,7 @@
 """The orders of all keys: for each an order of its calls that explains their replies."""
 from bisect import bisect_left, bisect_right
 from collections import namedtuple
+from itertools import accumulate
 
 from formats import shown
 from judging.events import FLUSH, GET, Unknown
@@ -13,7 +14,7 @@ from model import shard_of
 # a call in the order of a key: whether it changed the key, whether the item was lost before it, and the state after it
 Placed = namedtuple("Placed", "event is_change was_lost state")
 # how many states are looked at where an item is guessed, and how many items are tried
-MOST_STATES, MOST_GUESSES = 20000, 50
+MOST_STATES, MOST_GUESSES = 20000, 30
 
 
 class Keys:
@@ -24,7 +25,7 @@ class Keys:
     `unsure` nothing can be refused.
     """
 
-    def __init__(self, events, shards, loses=False, is_warm=False, limit=200000, look=None, unsure=()):
+    def __init__(self, events, shards, loses=False, is_warm=False, limit=200000, look=lambda: None, unsure=()):
         self.unsure = set(unsure)
         self.states, self.shards, self.is_warm, self.limit, self.look = States(True, loses), shards, is_warm, limit, look
         self.events, self.first, self.found, self.shard_of = {}, {}, {}, {}
@@ -97,9 +98,11 @@ class Keys:
         needs = Needs(events, self.states, {key: ABSENT})
         lost = [item for at, (kind, _, item) in enumerate(needs.things) if kind == ITEM and item and not needs.make[at]]
         lost.sort(key=lambda item: len(self.states.values.pairs[item][1]))
-        counted = [number(0, b"%d" % value) for kind, _, value in needs.things if kind == NUMBER]
+        counted = [(needs.make[at] > 0, at, number(flags, b"%d" % value)) for at, (kind, _, value) in enumerate(needs.things)
+                   if kind == NUMBER for flags in self.states.flags]
+        counted = [item for _, _, item in sorted(counted)]
         seen = [event.item for event in events if event.kind == GET and event.item]
-        for item in dict.fromkeys([*lost[:1], ABSENT, *counted[:2], number(0, b""), *seen[:MOST_GUESSES]]):
+        for item in dict.fromkeys([*lost[:1], ABSENT, *counted[:MOST_GUESSES], number(0, b""), *seen[:MOST_GUESSES]]):
             try:
                 Search(events, (item, 0, 0), self.states.step, MOST_STATES, Needs(events, self.states, {key: item}), None,
                        None, self.look).run()
@@ -113,11 +116,19 @@ class Keys:
     def overlapping(self, key, begin, end):
         """The calls on a key that overlap a time."""
         events = self.events[key]
+        latest, begins = self.reach_of(key)
+        return [event for event in events[bisect_left(latest, begin) : bisect_right(begins, end)] if event.end >= begin]
+
+    def near(self, key, some, count):
+        """These calls on a key, those between them by their begins, and so many more on both sides."""
+        begins = [event.begin for event in some]
+        _, all_begins = self.reach_of(key)
+        return self.events[key][max(0, bisect_left(all_begins, min(begins)) - count) :
+                                bisect_right(all_begins, max(begins)) + count]
+
+    def reach_of(self, key):
+        """Of the calls on a key, by their begins: the latest end so far, and the begins."""
         if key not in self.reach:
-            latest, some = 0, []
-            for event in events:
-                latest = max(latest, event.end)
-                some.append(latest)
-            self.reach[key] = some, [event.begin for event in events]
-        some, begins = self.reach[key]
-        return [event for event in events[bisect_left(some, begin) : bisect_right(begins, end)] if event.end >= begin]
+            latest = list(accumulate((event.end for event in self.events[key]), max))
+            self.reach[key] = latest, [event.begin for event in self.events[key]]
+        return self.reach[key]

@@ -1,37 +1,51 @@
 """Mends the orders of the keys in circles, so that all calls have one order."""
 from formats import shown
-from judging.events import ADD, APPEND, CAS, DECR, INCR, PREPEND, REPLACE, Unknown
+from judging.events import ADD, APPEND, CAS, DECR, FOREVER, INCR, PREPEND, REPLACE, Unknown
 from judging.fitting import Contradiction, Fitting, Piece, fit
 from judging.keys import Placed
 from judging.needs import Needs
 from judging.search import GaveUp, Search, Stuck
 from judging.states import Lost
 
-# after how many turns circles that overlap in time are mended together, and keys are searched together; how many turns
-# there are; how many calls are fitted at a time, how many choices are made, and how many states are looked at
-FEW_TURNS, MANY_TURNS, MOST_TURNS, MOST_CALLS, MOST_CHOICES, MOST_STATES = 3, 12, 40, 1500, 20000, 20000
+# with how much effort circles that overlap in time are mended together, if they are few, and keys are searched together
+SOME, MOST_JOINED, MUCH = 2, 50, 8
+# how many turns there are; how many choices may be wrong, and how many states are looked at
+MOST_TURNS, MOST_CHOICES, MOST_STATES = 60, 300, 20000
+# how many calls are fitted at a time, with little effort and with more
+FEW_CALLS, MANY_CALLS = 300, 900
+# how many calls keys have at most that are searched together
+MOST_TOGETHER = 2000
+# how many more calls of a key that does not fit are fitted, on both sides, in one try after the other
+MORE_CALLS = (8, 32, 128, 0)
 # the kinds of calls whose makers may be chosen anew, by searching their keys again, in further tries
 SOFT = ((), (INCR, DECR), (INCR, DECR, APPEND, PREPEND))
 
 
 class Mending:
-    """Mends circles of a graph; `numbers` gives the stores that must keep the order of their uniques."""
+    """Mends circles of a graph; `numbers` has the stores that must keep the order of their uniques."""
 
-    def __init__(self, events, keys, numbers=(), look=None):
-        self.events, self.keys, self.found, self.numbers, self.look = events, keys, keys.found, numbers, look
-        self.places, self.together = {}, []
+    def __init__(self, events, keys, look=None):
+        self.events, self.keys, self.found, self.numbers, self.look = events, keys, keys.found, (), look
+        self.places, self.together, self.softness = {}, [], {}
+        self.effort, self.least = 0, FOREVER
 
-    def turn(self, circles, turn):
-        """Mends these circles, or searches their keys together where that was tried often."""
-        self.places = {}
-        done = sum(self.mend(calls, turn) for calls in self.near(circles, turn))
-        if not done and turn >= MANY_TURNS:
+    def turn(self, circles, numbers=()):
+        """Mends these circles, those of long times only where no other was mended. If the circles don't become fewer, more
+        is tried in the next turn, and at last their keys are searched together."""
+        size = sum(map(len, circles))
+        self.effort = max(0, self.effort - 1) if size < self.least else self.effort + 1
+        self.least, self.numbers = min(size, self.least), numbers
+        joined = self.joined(circles)
+        for is_long in (False, True):
+            if sum([self.mend(calls, is_long) for calls in joined]):
+                return
+        if self.effort >= MUCH:
             self.search_together(circles)
 
-    def near(self, circles, turn):
-        """The calls in circles; after some turns those of circles whose times overlap together."""
+    def joined(self, circles):
+        """The calls in circles; where some have been tried already, those of circles whose times overlap together."""
         found = [[self.events[node] for node in circle if node < len(self.events)] for circle in circles]
-        if turn < FEW_TURNS:
+        if self.effort < SOME or len(circles) > MOST_JOINED:
             return found
         found.sort(key=lambda calls: min(event.begin for event in calls))
         joined, end = [], -1
@@ -43,35 +57,72 @@ class Mending:
             end = max(end, max(event.end for event in calls))
         return joined
 
-    def window(self, calls, turn):
-        """The keys of calls in circles, and all calls on these keys that overlap them, by their numbers; after some turns
-        the calls on all keys of an ever longer time."""
-        begin, end = min(event.begin for event in calls), max(event.end for event in calls)
-        more = max(0, turn - FEW_TURNS) * (end - begin) // 2
-        begin, end = begin - more, end + more
-        names = {event.key for event in calls if event.key is not None} if turn < FEW_TURNS else self.keys.events
+    def windows(self, calls, is_long):
+        """The keys of calls in circles, and all calls on these keys that overlap them, by their numbers; where that was
+        tried, before that the same of all keys, for an ever longer time. Of a long time, the calls near to those in circles."""
+        begin, end, own = min(event.begin for event in calls), max(event.end for event in calls), {event.key for event in calls}
+        own.discard(None)
+        if is_long:
+            for count in (8 << self.effort, 2 << self.effort):
+                yield self.window(calls, own, lambda key: self.near(key, calls, count))
+            return
+        if self.effort >= SOME:
+            more = (self.effort - SOME) * (end - begin) // 2
+            yield self.window(calls, self.keys.events, lambda key: self.keys.overlapping(key, begin - more, end + more))
+        yield self.window(calls, own, lambda key: self.keys.overlapping(key, begin, end))
+
+    def near(self, key, calls, count):
+        """The calls on a key that begin, or come in its order, shortly before or after these."""
+        some, found, places = [event for event in calls if event.key == key], {}, self.places_of(key)
+        for event in some:
+            at = places.get(event.id)
+            near = self.keys.near(key, [event], count)
+            near += [one.event for one in self.found[key][max(0, at - count) : at + count]] if at is not None else []
+            found.update((one.id, one) for one in near)
+        return list(found.values())
+
+    def places_of(self, key):
+        """Where each call is in the order of a key."""
+        if key not in self.places:
+            self.places[key] = {one.event.id: at for at, one in enumerate(self.found[key])}
+        return self.places[key]
+
+    def window(self, calls, keys, calls_of):
+        """Some keys, and these calls and others on the keys, by their numbers."""
         window, found = {event.id: event for event in calls}, []
-        for key in sorted(names):
-            some = self.keys.overlapping(key, begin, end)
+        for key in sorted(keys):
+            some = calls_of(key)
             window.update((event.id, event) for event in some)
-            if some:
-                found.append(key)
+            found += [key] * bool(some)
         return found, window
 
-    def mend(self, calls, turn):
+    def mend(self, calls, is_long):
         """Fits the orders of the keys in a circle to each other. Gives whether that was done."""
-        names, window = self.window(calls, turn)
-        if len(window) > MOST_CALLS:
-            return False
-        for kinds in SOFT:
-            soft = [key for key in names if kinds and self.is_soft(key, kinds)]
-            if kinds and not soft:
+        most = MANY_CALLS if self.effort >= SOME else FEW_CALLS
+        for names, window in self.windows(calls, is_long):
+            if len(window) > most:
                 continue
+            for kinds in SOFT:
+                soft = [key for key in names if kinds and self.is_soft(key, kinds)]
+                if (soft or not kinds) and self.fit_wider(names, window, soft):
+                    return True
+        return False
+
+    def fit_wider(self, names, window, soft):
+        """Fits the orders of keys, the soft ones last. Where a soft one does not fit, more of its calls are fitted, and it
+        comes before the other soft ones."""
+        window = dict(window)
+        for count in MORE_CALLS:
             try:
                 self.fit(names, window, soft)
                 return True
-            except Contradiction:
-                continue
+            except Contradiction as fault:
+                key = fault.key
+            if key is None or len(window) > MANY_CALLS:
+                return False
+            soft = [key, *[other for other in soft if other != key]]
+            some = [event for event in window.values() if event.key == key]
+            window.update((event.id, event) for event in self.keys.near(key, some, count))
         return False
 
     def fit(self, names, window, soft):
@@ -85,26 +136,29 @@ class Mending:
             fitting.add(one, other)
         fitting = fit(fitting, MOST_CHOICES, self.look)
         for key in soft:
-            self.search_within(key, window, fitting)
-            pieces[key] = self.piece(key, window, fitting)
-            fitting = fit(fitting, MOST_CHOICES, self.look)
+            try:
+                self.search_within(key, window, fitting)
+                pieces[key] = self.piece(key, window, fitting)
+                fitting = fit(fitting, MOST_CHOICES, self.look)
+            except Contradiction:
+                raise Contradiction(key) from None
         for key, (first, last, runs) in pieces.items():
             self.put(key, fitting, first, last, runs)
 
     def is_soft(self, key, kinds):
         """Whether another one may have made what a call on this key saw: if there are such kinds of calls, or calls
         that may change something without an answer."""
-        return any(event.kind in kinds or event.want is None and event.kind in (CAS, ADD, REPLACE, APPEND, PREPEND)
-                   for event in self.keys.events[key])
+        if (key, kinds) not in self.softness:
+            self.softness[key, kinds] = any(
+                event.kind in kinds or event.want is None and event.kind in (CAS, ADD, REPLACE, APPEND, PREPEND)
+                for event in self.keys.events[key])
+        return self.softness[key, kinds]
 
     # ---- pieces of a key's order
 
     def bounds(self, key, window):
         """Where the piece of a key's order is that has the calls of a window, and what saw the last of them."""
-        placed = self.found[key]
-        if key not in self.places:
-            self.places[key] = {one.event.id: at for at, one in enumerate(placed)}
-        places = self.places[key]
+        placed, places = self.found[key], self.places_of(key)
         ours = [places[number] for number in window if number in places]
         first, last = min(ours), max(ours) + 1
         while last < len(placed):  # and those behind them that saw the last change, and the next one
@@ -150,7 +204,7 @@ class Mending:
             state = layer[state]
         states.reverse()
         placed[first:last] = [Placed(*one[:3], state) for one, state in zip(new, states)]
-        self.places.pop(key, None)
+        self.places[key].update((placed[at].event.id, at) for at in range(first, last))
 
     def layer(self, states, one):
         """The states after a call, each with one before it."""
@@ -190,7 +244,7 @@ class Mending:
         self.exchange(key, first, last, [Placed(events[one.place], *one[1:]) for one in order])
 
     def search_together(self, circles):
-        """Searches the keys of circles together, where they cannot be fitted."""
+        """Searches the keys of circles together, where they cannot be fitted and have few calls."""
         for circle in circles:
             names = {self.events[node].key for node in circle if node < len(self.events)} - {None}
             for group in [group for group in self.together if group & names]:
@@ -198,7 +252,10 @@ class Mending:
                 names |= group
             self.together.append(names)
         for names in self.together:
-            self.keys.search(sorted(names))
+            if sum(len(self.keys.events[key]) for key in names) <= MOST_TOGETHER:
+                self.keys.search(sorted(names))
+                for key in names:
+                    self.places.pop(key, None)
 
 
 def give_up(circles, events):

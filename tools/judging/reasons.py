@@ -7,7 +7,7 @@ forgotten. So the calls that are left have no order either, and that can be seen
 import copy
 
 from formats import shown
-from judging.events import DECR, FLUSH, FOREVER, GET, INCR, APPEND, PREPEND, No, Unknown
+from judging.events import FLUSH, FOREVER, GET, No, Unknown
 from judging.needs import ITEM, Needs
 from judging.search import GaveUp, Search, Stuck
 from judging.states import NOTHING_KNOWN, ANYTHING
@@ -27,11 +27,13 @@ class Reason:
     def verdict(self):
         """What is said of these calls."""
         what = "key " + shown(self.names[0]) if len(self.names) == 1 else "keys " + ", ".join(map(shown, self.names))
-        if self.keys.is_warm and any(event.want is None and event.kind in (INCR, DECR, APPEND, PREPEND) for event in self.all):
-            return Unknown(f"{what}: which item was there at first was not found, as calls without answers changed it")
+        if self.keys.is_warm:
+            self.is_known = False
+            if not self.is_stuck(self.all):
+                return Unknown(f"{what}: which item was there at first was not found")
         if self.keys.unsure.intersection(self.names):
             return Unknown(f"{what}: a retrieval names a key twice and has one item of it: which was found is not known")
-        lost = self.never_made()
+        lost = self.is_known and self.never_made()
         if lost:
             return No(f"{what}: no command stores what this one answers", lines=[lost.told()])
         if not self.shrink():
@@ -71,11 +73,12 @@ class Reason:
             begin = NOTHING_KNOWN if self.slots is None else (NOTHING_KNOWN,) * len(self.names)
             first = dict.fromkeys(self.names, ANYTHING)
         try:
+            self.keys.look()
             Search(events, begin, self.step, MOST_STATES, Needs(events, self.keys.states, first), self.slots).run()
         except Stuck:
             return True
-        except GaveUp:
-            pass
+        except (GaveUp, Unknown):  # there is no time left to find fewer
+            return False
         return False
 
     def cut_behind(self):

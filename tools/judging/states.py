@@ -36,7 +36,7 @@ class States:
     """The steps of calls on a key. With `loses` the server may lose an item before any call."""
 
     def __init__(self, pads=True, loses=False):
-        self.values, self.loses, self.flags = Values(pads), loses, [0]
+        self.values, self.loses, self.flags, self.of_number = Values(pads), loses, [0], {}
 
     def learn(self, events):
         """Numbers the values of events."""
@@ -45,10 +45,13 @@ class States:
             if event.kind == GET:
                 if event.want == "hit" and event.flags is not None and event.value is not None:
                     event.item = number(event.flags, event.value)
+                    flags.add(event.flags)
             elif event.kind in (SET, ADD, REPLACE, CAS):
                 event.item = number(event.call.flags, event.call.value)
                 flags.add(event.call.flags)
         self.flags = sorted(flags)
+        for item in range(1, len(self.values.pairs)):
+            self.of_number.setdefault(self.values.numeric(item), []).append(item)
 
     def step(self, state, event):
         found = STEPS[event.kind](self, state, event) if state[0] >= 0 else self.step_anything(state, event)
@@ -141,7 +144,8 @@ class States:
         if kind in (REPLACE, CAS):
             found += [(event.item, 0, 0)] * stores + [state] * (kind == CAS and want in ("exists", None))
         elif want == "number":
-            found += [(self.values.number(flags, b"%d" % event.number), 0, 0) for flags in self.flags]
+            items = [self.values.number(flags, b"%d" % event.number) for flags in self.flags]
+            found += [(item, 0, 0) for item in dict.fromkeys(items + self.of_number.get(event.number, []))]
         elif want in ("no number", "stored", "too large", None):
             found.append(state)
         return tuple(found)
