@@ -294,12 +294,18 @@ fn alone(answer: Answer, bytes: usize) -> Case {
 
 #[test]
 fn a_step_that_may_wait_comes_when_all_is_done(rt: HostRuntime) {
-    must(&rt, most_waiting(&rt, rt.alloc(), alone(Answer::Always, ALL)) == 0);
+    must(
+        &rt,
+        most_waiting(&rt, rt.alloc(), alone(Answer::Always, ALL)) == 0,
+    );
 }
 
 #[test]
 fn a_read_comes_when_all_is_done(rt: HostRuntime) {
-    must(&rt, most_waiting(&rt, rt.alloc(), alone(Answer::AsFed, 1)) == 0);
+    must(
+        &rt,
+        most_waiting(&rt, rt.alloc(), alone(Answer::AsFed, 1)) == 0,
+    );
 }
 
 #[test]
