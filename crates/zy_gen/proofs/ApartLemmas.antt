@@ -53,7 +53,7 @@ commands_are conn bytes texts few whole own =
     commands_of_splits bytes texts [] (record { whole = whole ∙ sym (append-nil (joined texts)); each = texts_frame conn texts few own; partial = nothing_begins })
 
 module _ (number connections commands conn : ℕ) (is : IsTraffic number connections commands) (within : conn < connections) where
-  pub records : List Record
+  unfoldable pub records : List Record
   records = traffic_records number connections commands
 
   few : conn < 4096
