@@ -3,10 +3,10 @@ import time
 
 from judging import times
 from judging.certificate import Certificate, added
-from judging.events import Unknown
+from judging.events import Unknown, brief
 from judging.graph import Graph
 from judging.keys import Keys
-from judging.mending import MOST_TURNS, Mending, give_up
+from judging.mending import MOST_TURNS, Mending, keys_in
 from judging.numbering import Stores, numbered
 from judging.reading import Recording
 from judging.seeing import Seeing
@@ -27,7 +27,7 @@ class Clock:
     def look(self):
         now = time.monotonic()
         if self.seconds is not None and now - self.begun > self.seconds:
-            raise Unknown(f"{self.what}: given up after {self.seconds} seconds")
+            raise Unknown(f"{self.what}; given up after {self.seconds} seconds")
         if self.show and now - self.shown >= 1:
             self.shown = now
             self.show(f"{now - self.begun:.0f} s: {self.what}")
@@ -53,7 +53,7 @@ class Judge:
         """Finds an order, or raises No or Unknown."""
         names = sorted(self.keys.events)
         for at, key in enumerate(names):
-            self.clock.set(f"key {at + 1} of {len(names)}, {len(self.keys.events[key])} calls")
+            self.clock.set(f"key {brief(key)}, {at + 1} of {len(names)}, {len(self.keys.events[key])} calls")
             self.keys.search([key])
         self.merge()
         self.check_times()
@@ -75,9 +75,9 @@ class Judge:
                 self.order = graph.ordered(order)
                 return
             circles = graph.circles(left)
-            self.clock.set(f"one order of all, turn {turn + 1}, {len(circles)} circles")
+            self.clock.set(f"{keys_in(circles, self.events)}: their orders are fitted to each other, turn {turn + 1}")
             mending.turn(circles, rising)
-        raise give_up(circles, self.events)
+        raise Unknown(keys_in(circles, self.events) + ": their orders were not fitted to each other")
 
     def loss(self, event, key):
         """The loss of an item before a call."""

@@ -69,8 +69,8 @@ class Keys:
         first = {key: self.first_of(key) for key in keys}
         try:
             order = Search(events, begin, step, self.limit, Needs(events, self.states, first), slots, None, self.look).run()
-        except Stuck:
-            raise Reason(self, keys, events).verdict() from None
+        except Stuck as stuck:
+            raise Reason(self, keys, events, stuck.at).verdict() from None
         except GaveUp:
             names = f"key {shown(keys[0])}" if len(keys) == 1 else "keys " + ", ".join(map(shown, keys[:5]))
             raise Unknown(f"{names}: more than {self.limit} states were looked at") from None

@@ -1,6 +1,5 @@
 """Mends the orders of the keys in circles, so that all calls have one order."""
-from formats import shown
-from judging.events import ADD, APPEND, CAS, DECR, FOREVER, INCR, PREPEND, REPLACE, Unknown
+from judging.events import ADD, APPEND, CAS, DECR, FOREVER, INCR, PREPEND, REPLACE, brief
 from judging.fitting import Contradiction, Fitting, Piece, fit
 from judging.keys import Placed
 from judging.needs import Needs
@@ -15,6 +14,8 @@ MOST_TURNS, MOST_CHOICES, MOST_STATES = 60, 300, 20000
 FEW_CALLS, MANY_CALLS = 300, 900
 # how many calls keys have at most that are searched together
 MOST_TOGETHER = 2000
+# how many keys are named
+MOST_NAMED = 5
 # how many more calls of a key that does not fit are fitted, on both sides, in one try after the other
 MORE_CALLS = (8, 32, 128, 0)
 # the kinds of calls whose makers may be chosen anew, by searching their keys again, in further tries
@@ -258,8 +259,8 @@ class Mending:
                     self.places.pop(key, None)
 
 
-def give_up(circles, events):
-    """What is said where circles are left."""
+def keys_in(circles, events):
+    """The keys of circles, to be printed."""
     names = sorted({events[node].key for circle in circles for node in circle if node < len(events)} - {None})
-    more = f" and {len(names) - 5} more" if len(names) > 5 else ""
-    return Unknown("keys " + ", ".join(map(shown, names[:5])) + f"{more}: their orders do not fit each other")
+    more = f" and {len(names) - MOST_NAMED} more" if len(names) > MOST_NAMED else ""
+    return ("keys " if len(names) > 1 else "key ") + ", ".join(map(brief, names[:MOST_NAMED])) + more

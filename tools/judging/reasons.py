@@ -5,6 +5,7 @@ that no order gets past may not have been made, reads may always be left out, an
 forgotten. So the calls that are left have no order either, and that can be seen by going through them by hand.
 """
 import copy
+from bisect import bisect_left
 
 from formats import shown
 from judging.events import FLUSH, FOREVER, GET, No, Unknown
@@ -14,15 +15,18 @@ from judging.states import NOTHING_KNOWN, ANYTHING
 
 # how many searches are made, how many states each looks at, and how many calls are printed
 MOST_SEARCHES, MOST_STATES, MOST_PRINTED = 300, 3000, 12
+# how many begins and ends of calls are looked at first, on both sides of a time
+FIRST_TIMES = 32
 
 
 class Reason:
-    """The calls on some keys that no order explains; `is_known` says whether the items at first count."""
+    """The calls on some keys that no order explains, up to about the time `at`; `is_known` says whether the items at
+    first count."""
 
-    def __init__(self, keys, names, events):
+    def __init__(self, keys, names, events, at):
         self.keys, self.names, self.all, self.events, self.is_known = keys, names, events, events, True
         self.step, self.begin, self.slots = keys.model_of(names)
-        self.searches = 0
+        self.searches, self.at = 0, at
 
     def verdict(self):
         """What is said of these calls."""
@@ -55,14 +59,31 @@ class Reason:
 
     def shrink(self):
         """Leaves out calls as long as the others have no order. Gives whether the calls that are left surely have none."""
-        self.cut_behind()
-        if not self.is_stuck(self.events):
-            self.events = self.all
+        if not self.cut_around():
             return False
+        self.cut_behind()
         self.cut_before()
         self.drop_reads()
         self.forget()
         return True
+
+    def cut_around(self):
+        """Cuts out the calls near the time where the search was stuck, an ever longer time. Gives whether they have no
+        order."""
+        times = sorted({time for event in self.all for time in (event.begin, event.end)})
+        at, count = bisect_left(times, self.at), FIRST_TIMES
+        while True:
+            last, is_all = times[min(at + count, len(times) - 1)], at <= count
+            self.events, is_known = self.until(last, self.all), self.is_known and is_all
+            if not is_all:
+                self.events = self.since(times[at - count])
+            if self.is_stuck(self.events, is_known):
+                self.is_known = is_known
+                return True
+            if is_all and last == times[-1]:
+                self.events = self.all
+                return False
+            count *= 4
 
     def is_stuck(self, events, is_known=None):
         """Whether these calls surely have no order."""
@@ -83,19 +104,19 @@ class Reason:
 
     def cut_behind(self):
         """Cuts off what comes after the first time at which there is no order any more."""
-        times = sorted({event.end for event in self.all})
+        times, events = sorted({event.end for event in self.events}), self.events
         least, most = 0, len(times) - 1
         while least < most:
             middle = (least + most) // 2
-            if self.is_stuck(self.until(times[middle])):
+            if self.is_stuck(self.until(times[middle], events)):
                 most = middle
             else:
                 least = middle + 1
-        self.events = self.until(times[most])
+        self.events = self.until(times[most], events)
 
-    def until(self, time):
+    def until(self, time, events):
         """The calls up to a time, where those that had not ended may have been made or not."""
-        return [event if event.end <= time else loosened(event, None) for event in self.all
+        return [event if event.end <= time else loosened(event, None) for event in events
                 if event.begin < time and not (event.kind == GET and event.end > time)]
 
     def cut_before(self):
