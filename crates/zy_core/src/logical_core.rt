@@ -1,5 +1,5 @@
 //! One logical core. (A file `core.rt` would be a module with the name of a library.)
-ghost use Rattle.std.specs.Prelude.{◌≡◌, ◌↔◌, ◌+◌, ◌<◌, ◌^◌, ◌==◌, ◌&&◌, not, true, false, [], length, Some, slice_get, OnOk, OnErr, IfOk};
+ghost use Rattle.std.specs.Prelude.{◌≡◌, ◌↔◌, ◌+◌, ◌<◌, ◌^◌, ◌==◌, ◌&&◌, not, ℕ, true, false, [], length, Some, slice_get, OnOk, OnErr, IfOk};
 ghost use Rattle.zy_home.specs.Home.{HomeStands, all_here, is_settled};
 ghost use Rattle.zy_steal.specs.Steal.{AreIdle, seats_of};
 ghost use Rattle.zy_control.specs.declared.view.Role.TheVariants as roles;
