@@ -202,9 +202,10 @@ def main(words):
         with open(name, "rb") as file:
             texts.append(file.read())
     for lie, outputs in planted(*texts, *map(int, words[2:] or ["1"])):
-        begin = time.perf_counter()
+        begin = time.process_time()
         word, lines = verdict(texts[0], outputs)
-        print(f"-- {lie.kind}: {word}, {time.perf_counter() - begin:.1f} s, {len(lines)} lines", *lines[:5], sep="\n   ", flush=True)
+        took = time.process_time() - begin
+        print(f"-- {lie.kind}: {word}, {took:.1f} s of processor time, {len(lines)} lines", *lines[:5], sep="\n   ", flush=True)
 
 
 if __name__ == "__main__":

@@ -5,7 +5,7 @@ translated, and each case is counted:
 
 | Counted as | What |
 |---|---|
-| uniques | the number that the server showed of an item, in its answers and in the commands that give it; on each key one to one |
+| uniques | the numbers that the server showed of items, in answers and in commands that give them; on each key one to one |
 | version | the text of `version` |
 | error lines | the text of the answer to a line that is faulty here and there |
 | padded values | a number that became shorter, which keeps its length in memcached, with spaces |

@@ -4,6 +4,7 @@ A call needs an item (or that there is none), a unique, or a number to count fro
 that is left can make it again in time, no other call may take its place yet.
 """
 from bisect import bisect_left, bisect_right
+from itertools import accumulate
 
 from judging.events import (ADD, APPEND, CAS, DECR, DELETE, FLUSH, FOREVER, GET, INCR, PREPEND, REPLACE, SET)
 from judging.states import ABSENT, ANYTHING
@@ -75,11 +76,25 @@ class Needs:
             self.make[number] += 1
             self.next_maker[number] = min(rank, self.next_maker[number])
 
-    def first_lost(self, items):
-        """The earliest end of the calls that need an item which is not there and nobody makes; None where there is none."""
-        lost = [number for number, (kind, key, item) in enumerate(self.things)
-                if kind == ITEM and not self.make[number] and items[key] not in (item, ANYTHING)]
-        return min((self.events[place].end for number in lost for place in self.seers[number]), default=None)
+    def first_missed(self):
+        """The earliest end of the calls that need an item which cannot have been there; None where there is none: nobody
+        makes it before they end, or each time it had surely gone again before they began."""
+        sure = {key: Sure(self.events, key) for key in self.first}
+        ends = [self.events[place].end for number, (kind, key, item) in enumerate(self.things)
+                if kind == ITEM and self.first[key] != ANYTHING
+                for place in self.missed(number, sure[key], self.first[key] == item)]
+        return min(ends, default=None)
+
+    def missed(self, number, sure, is_first):
+        """The calls that need an item which cannot have been there; `is_first` says whether it was there at first."""
+        begins = [self.events[place].begin for place in self.makers[number]]
+        until = list(accumulate((sure.until(self.events[place].end) for place in self.makers[number]), max))
+        first = sure.until(-1) if is_first else -1
+        for place in self.seers[number]:
+            event = self.events[place]
+            at = bisect_left(begins, event.end)
+            if max(first, until[at - 1] if at else -1) < event.begin:
+                yield place
 
     def are_lost(self, key, old, new):
         """Whether a key's change from one state to another, by a call that is carried out, takes away what is needed."""
@@ -191,7 +206,7 @@ class Makers:
             if value is not None:
                 by_number.setdefault(value, []).append(thing)
                 seers += [(self.events[place].begin, self.events[place].end, thing) for place in self.needs.seers[number]]
-        near = Near(seers, [event for event in self.events if event.key == key])
+        near = Near(seers, Sure(self.events, key))
         for place in places:
             event = self.events[place]
             for thing in by_number.get(event.number, ()) if event.want == "number" else near.to(event):
@@ -240,25 +255,38 @@ def ends_of(value, sizes, table):
                 yield place, value[size:]
 
 
+class Sure:
+    """The calls that surely changed a key, by their begins."""
+
+    def __init__(self, events, key):
+        sure = sorted((event.begin, event.end) for event in events if is_sure(event) and event.key in (key, None))
+        self.begins = [begin for begin, _ in sure]
+        self.ends = list(accumulate((end for _, end in reversed(sure)), min))
+        self.ends.reverse()
+
+    def until(self, time):
+        """When what was there at a time had surely gone: the earliest end of the calls that began after it."""
+        at = bisect_right(self.begins, time)
+        return self.ends[at] if at < len(self.ends) else FOREVER
+
+
+def is_sure(event):
+    """Whether a call surely changed its key."""
+    is_change = event.kind in (SET, FLUSH) or event.kind != GET and event.want in ("stored", "number", "deleted")
+    return is_change and not event.optional and event.end < FOREVER
+
+
 class Near:
     """Which things that are needed a call without an answer may have made: those that are needed before the next call
     ends that surely changed the key afterwards. `seers` are begins and ends of calls, each with the thing that it needs."""
 
-    def __init__(self, seers, events):
-        self.seers = sorted(seers, key=lambda one: one[0])
+    def __init__(self, seers, sure):
+        self.seers, self.sure = sorted(seers, key=lambda one: one[0]), sure
         self.begins = [one[0] for one in self.seers]
         self.longest = max([end - begin for begin, end, _ in seers if end < FOREVER], default=0)
-        sure = sorted((event.begin, event.end) for event in events if event.end < FOREVER and not event.optional and
-                      event.kind != GET and (event.kind == SET or event.want in ("stored", "number", "deleted")))
-        self.sure, self.until, last = [begin for begin, _ in sure], [], FOREVER
-        for _, end in reversed(sure):
-            last = min(last, end)
-            self.until.append(last)
-        self.until.reverse()
 
     def to(self, event):
-        after = bisect_right(self.sure, event.end)
-        until, found = self.until[after] if after < len(self.until) else FOREVER, set()
+        until, found = self.sure.until(event.end), set()
         for place in range(bisect_left(self.begins, event.begin - self.longest), len(self.seers)):
             begin, end, thing = self.seers[place]
             if begin > until:

@@ -68,12 +68,10 @@ class Search:
             self.go_on()
 
     def look_first(self):
-        """Sees that nothing is needed that is not there and that nobody makes."""
-        if self.needs:
-            keys = self.slots or {event.key: None for event in self.events if event.key is not None}
-            lost = self.needs.first_lost({key: reached(self.state, slot)[0] for key, slot in keys.items()})
-            if lost is not None:
-                raise Stuck(lost)
+        """Sees that nothing is needed that cannot have been there."""
+        missed = self.needs.first_missed() if self.needs else None
+        if missed is not None:
+            raise Stuck(missed)
 
     def go_over(self):
         """Carries out the calls that can be next and change nothing. Gives the others that can be next, each with its place
