@@ -358,6 +358,16 @@ def served(text, *words):
     return subprocess.run([PROGRAM, *words], input=text, stdout=subprocess.PIPE, timeout=300, check=False).stdout
 
 
+def settle(path):
+    """Waits until a file of packets has some, and has not grown for a second."""
+    size = 0
+    for _ in range(60):
+        time.sleep(1)
+        before, size = size, os.path.getsize(path)
+        if before == size > 24:
+            break
+
+
 @contextlib.contextmanager
 def dumped(path, port):
     """Records the packets of a port; whether that is done."""
@@ -372,7 +382,8 @@ def dumped(path, port):
         if not is_recording:
             print(f"{NAME}: tcpdump may not record: no recording")
         yield is_recording
-        time.sleep(1)
+        if is_recording:
+            settle(path)
         dump.send_signal(signal.SIGINT)
         dump.stderr.read()
 
