@@ -170,7 +170,7 @@ def in_order(read):
 
 def drawn_captures():
     """Of drawn captures: the answers in the order of arrival, by the plain model."""
-    for number in range(80):
+    for number in range(25):
         given = drawn.drawn_capture(random.Random(number), 4)
         read = read_capture(Part("capture", given))
         same(f"drawn capture {number}", (read.version, in_order(read)),
