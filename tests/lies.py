@@ -13,6 +13,7 @@ import os
 import random
 import sys
 import time
+from bisect import bisect_right
 from collections import Counter, namedtuple
 
 sys.dont_write_bytecode = True
@@ -98,11 +99,14 @@ class Liar:
 
     def early(self):
         """A read sees what is stored after it."""
-        stores = sorted((store for store in self.seen if store.begin), key=lambda store: store.begin)
-        for event, maker, _ in self.reads:
-            later = [store for store in stores if store.key == event.key and store.begin > event.end]
-            if later:
-                yield self.sees(event, later[0])
+        stores = {}
+        for store in sorted(self.seen, key=lambda store: store.begin):
+            stores.setdefault(store.key, []).append(store)
+        begins = {key: [store.begin for store in some] for key, some in stores.items()}
+        for event, _, _ in self.reads:
+            later = bisect_right(begins[event.key], event.end)
+            if later < len(begins[event.key]):
+                yield self.sees(event, stores[event.key][later])
 
     def dropped(self):
         """A set changes nothing."""
