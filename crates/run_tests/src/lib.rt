@@ -1,6 +1,9 @@
-//! Tests of whole runs: reads and writes that fail, gates, and the real streams.
+//! Tests of whole runs: reads and writes that fail, gates, cores that the caller drives, and the real
+//! streams.
 #![tactic(auto)]
 
+#[cfg(test)]
+mod callers_cores;
 #[cfg(test)]
 mod failing;
 #[cfg(test)]

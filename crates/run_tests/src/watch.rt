@@ -60,6 +60,15 @@ impl Watch {
         }
     }
 
+    /// How often it was passed.
+    pub(crate) fn passed(&self) -> u64 {
+        let mut sum = 0u64;
+        for place in 0..PLACES {
+            sum = sum.saturating_add(self.count(place));
+        }
+        sum
+    }
+
     /// Whether it was passed, for each core and connection, as often as these holds say.
     pub(crate) fn is_told_by(&self, holds: &[Hold]) -> bool {
         for place in 0..PLACES {
