@@ -178,13 +178,14 @@ class Pace:
     def __init__(self):
         self.is_new = self.is_text = True
         self.commands, self.answers = Commands(), Answers()
-        self.classic = self.meta = 0
+        self.waiting = deque()  # of each command that waits for its answer, in their order, whether it is a meta command
+        self.meta = 0
         self.has_quiet = False
 
     @property
     def owed(self):
         """How many commands wait for their answer."""
-        return self.classic + (0 if self.has_quiet else self.meta)
+        return len(self.waiting) - (self.meta if self.has_quiet else 0)
 
     def sent(self, text):
         """How many commands end in these further bytes of the client; a `quit` is none."""
@@ -195,10 +196,9 @@ class Pace:
             count += verb != b"quit"
             if answered == PERHAPS:
                 self.has_quiet = True
-            elif answered == ALWAYS and verb in HIDDEN:
-                self.meta += 1
             elif answered == ALWAYS:
-                self.classic += 1
+                self.waiting.append(verb in HIDDEN)
+                self.meta += verb in HIDDEN
         return count
 
     def heard(self, text):
@@ -210,11 +210,13 @@ class Pace:
         return count
 
     def take(self, answer):
-        """Takes an answer: a faulty command of either kind may have an error line."""
-        if answer.word in META_CODES or self.meta and answer.word in ERRORS:
-            self.meta = max(0, self.meta - 1)
-        elif self.classic:
-            self.classic -= 1
+        """Takes an answer. An error line is that of the first command that waits; with flags `q`, of a meta command."""
+        is_meta = answer.word in META_CODES
+        if answer.word in ERRORS and self.waiting:
+            is_meta = self.meta > 0 if self.has_quiet else self.waiting[0]
+        if is_meta in self.waiting:
+            self.waiting.remove(is_meta)
+            self.meta -= is_meta
 
     def last(self, text):
         """These further bytes of the server, up to the end of the last answer that is waited for."""
