@@ -11,6 +11,7 @@ import sys
 
 from traffic import (NAME, TOP, Recorder, Server, all_of, at_once, connected, fail, files_of, free_port, memcached,
                      same, take, talk, until)
+from pace import Pace
 from formats import Part, capture, close, pieces, read_replies, replies, segment, sessions
 
 PROGRAM = os.path.realpath(sys.argv[1] if len(sys.argv) > 1 else os.path.join(TOP, "crates/zygos/out/zygos"))
@@ -348,7 +349,20 @@ def against_memcached():
     same("the outputs of generated traffic", 50, count)
 
 
+def error_lines():
+    """An error line is counted for the first command that waits, be it a meta command or not."""
+    for sent, heard in ((b"foo\r\nmg a v\r\nget a\r\n", (b"ERROR\r\n", b"EN\r\n", b"END\r\n")),
+                        (b"get a\r\nmg\r\nmg a v\r\n", (b"END\r\n", b"CLIENT_ERROR bad\r\n", b"EN\r\n"))):
+        pace = Pace()
+        pace.sent(sent)
+        owed = [pace.owed]
+        for text in heard:
+            pace.heard(text)
+            owed.append(pace.owed)
+        same("the commands that wait", [3, 2, 1, 0], owed)
+
+
 if __name__ == "__main__":
-    all_of(words, orders, in_order, later_sessions, many, large, quiet, tabs, uniques, uniques_of_others,
+    all_of(words, error_lines, orders, in_order, later_sessions, many, large, quiet, tabs, uniques, uniques_of_others,
            held_back, interrupted, faulty_servers, other_sockets, closed_pipe,
            uniques_of_memcached, against_memcached)
