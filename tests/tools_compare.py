@@ -250,9 +250,14 @@ def shared_causes():
     caused("a shared value that nobody stores", [b"get a\r\n", store], [OTHER, b"STORED\r\n"], [b"END\r\n", b"STORED\r\n"],
            "get 1" + BEFORE)
     caused("one in place of a value that is stored", [b"get a\r\n", store], [OTHER, b"STORED\r\n"], [ITEM, b"STORED\r\n"],
-           "get 1: may come of items that the capture does not store, or of " + after)
-    caused("a value that may be counted", [b"get a\r\n", store + b"append a 0 0 1\r\ny\r\n"], [OTHER, b"STORED\r\n" * 2],
-           [b"END\r\n", b"STORED\r\n" * 2], "get 1" + ORDER.format("connections 0 and 1 both call the key a"))
+           "get 1: may come of items that the capture does not store, which tools/warm puts into it, or of " + after)
+    for name, more, answer, shown, cause in (
+        ("is joined", b"append a 0 0 1\r\ny\r\n", b"STORED\r\n", OTHER, ": may come of " + after),
+        ("is counted", b"incr a 1\r\n", b"8\r\n", item_of(b"7"), ": may come of " + after),
+        ("is not counted", b"incr a 1\r\n", b"8\r\n", OTHER, BEFORE),
+    ):
+        caused(f"a value that {name}", [b"get a\r\n", store + more], [shown, b"STORED\r\n" + answer],
+               [b"END\r\n", b"STORED\r\n" + answer], "get 1" + cause)
 
 
 def long_answers():

@@ -12,7 +12,7 @@ class Callers:
     def __init__(self, streams):
         """Of streams by connection and session; `timed` are keys that get an exptime, `counted` those with a counter."""
         self.of_key, self.second, self.stored, self.flush, self.connections = {}, {}, set(), None, set()
-        self.timed, self.counted, self.streams, self.values, self.changed = set(), set(), streams, None, set()
+        self.timed, self.counted, self.streams, self.values, self.joined = set(), set(), streams, None, set()
         number, last = 0, None
         for connection, session in sorted(streams):
             number, last = number if connection == last else 0, connection
@@ -49,25 +49,25 @@ class Callers:
             for stream in self.streams.values():
                 for command, frame in framed(stream):
                     self.look(command, frame)
-        return key in self.changed or hash((key, value)) in self.values
+        is_counted = key in self.counted and value.rstrip(b" ").isdigit()
+        return is_counted or key in self.joined or hash((key, value)) in self.values
 
     def look(self, command, frame):
-        """What a command stores under shared keys: a value, or one that it makes of what is there."""
+        """What a command stores under shared keys: a value, or one that it joins to what is there."""
         name = command.call or command.verb
         for key in keys_of(command, line_of(frame)):
             if key in self.second:
                 if name in STORING:
                     self.values.add(hash((key, command.value)))
-                elif name in CHANGING or name == "fault" and not frame.startswith(TOUCHING):
-                    self.changed.add(key)
+                elif name in JOINING or name == "fault" and not frame.startswith(TOUCHING):
+                    self.joined.add(key)
 
 
 # the first words of lines that may make an item on some server, and of faulty ones that give an item another exptime
 MAKING = (b"set", b"add", b"ms", b"ma")
 TOUCHING = (b"touch", b"gat", b"gats")
-# the names of calls that store a value, and that make one of what is there
-COUNTING = ("incr", "decr")
-STORING, CHANGING = ("set", "add", "replace", "cas"), ("append", "prepend", *COUNTING)
+# the names of calls that store a value, and of those that make one of what is there
+STORING, JOINING, COUNTING = ("set", "add", "replace", "cas"), ("append", "prepend"), ("incr", "decr")
 
 
 def keys_of(command, line):
