@@ -21,12 +21,16 @@ from steps import BOTH, ENDED, LEFT, by_answers, by_commands
 
 FIRST = os.path.join(TOP, "examples/first.replies")
 ITEM, OTHER = b"VALUE a 0 1\r\nx\r\nEND\r\n", b"VALUE a 0 1\r\ny\r\nEND\r\n"
-SERVERS = ": of the servers, if both began empty and had no other clients: one connection alone calls each key"
+SERVERS = (": of the servers, if both began with the same items and no client bypassed the recorder: one connection alone"
+           " calls each key (the last section of docs/PROFILE.md)")
 BEFORE = ": items that the capture does not store: from before it, or of others; tools/warm puts them into it"
 UNIQUES = ": a `cas` names a unique, which is each server's own, and what follows from it"
 EXPIRY = ": items with an exptime, which may have passed on one side; in zygos exptimes have no effect"
 REFUSED = ": lines that zygos does not serve (docs/PROFILE.md), and what follows from them"
-ORDER = ": may come of the order in which connections are served, for {}; tools/inline takes the order of arrival"
+PADDED = ": a number became shorter, and memcached pads it with spaces, and what follows from it"
+AFTER = ("the order in which connections are served, for {}; tools/inline takes the order of arrival; what is left after it:"
+         " tools/judge --warm --may-forget")
+ORDER = ": may come of " + AFTER
 STEP = "  out of step from here by one answer; those after it are compared in step again"
 
 
@@ -88,7 +92,7 @@ def one_answer_each():
     value = b"VA 13 f0\r\nEND\r\nHD\r\nEN\r\n\r\n"
     differ("after stats and mg v", replies([stats + value + b"END\r\n"]), replies([stats + value + b"OK\r\n"]),
            "connection 0, session 0, answer 2, command 3: get THIS", "  a: END", "  b: OK",
-           "get 1" + SERVERS, sent=sent)
+           "  why: servers", "get 1" + SERVERS, sent=sent)
     differ("of stats", replies([stats]), replies([stats.replace(b"2", b"3")]), "connection 0, session 0, answer 0",
            r"  a: STAT cmd_get 1\x0d\x0aSTAT cmd_set 2\x0d\x0aEND", r"  b: STAT cmd_get 1\x0d\x0aSTAT cmd_set 3\x0d\x0aEND")
 
@@ -102,10 +106,12 @@ def all_differences():
     sent = capture(2, pieces(0, quiet(b"a", b"b") + b"version\r\nget a\r\nget b\r\n") + pieces(1, quiet(b"c", b"d") + b"get c\r\nincr d 1\r\n"))
     one = replies([b"VERSION 1\r\nEND\r\nEND\r\n", b"END\r\n7\r\n"])
     other = replies([b"VERSION 2\r\nEND\r\n" + ITEM, OTHER + b"8\r\n"])
-    version = ["connection 0, session 0, answer 0, command 2: version", "  a: VERSION 1", "  b: VERSION 2"]
+    version = ["connection 0, session 0, answer 0, command 2: version", "  a: VERSION 1", "  b: VERSION 2",
+               "  why: servers"]
     rest = ["connection 0, session 0, answer 2, command 4: get b", "  a: END", r"  b: VALUE a 0 1\x0d\x0ax\x0d\x0aEND",
-            "connection 1, session 0, answer 0, command 2: get c", "  a: END", r"  b: VALUE a 0 1\x0d\x0ay\x0d\x0aEND",
-            "connection 1, session 0, answer 1, command 3: incr d 1", "  a: 7", "  b: 8"]
+            "  why: servers", "connection 1, session 0, answer 0, command 2: get c", "  a: END",
+            r"  b: VALUE a 0 1\x0d\x0ay\x0d\x0aEND", "  why: servers",
+            "connection 1, session 0, answer 1, command 3: incr d 1", "  a: 7", "  b: 8", "  why: servers"]
     differ("the first of several", one, other, *version, "4 differences: get 2, version 1, incr 1; --all prints them",
            "get 2, version 1, incr 1" + SERVERS, sent=sent)
     differ("all of them", one, other, *version, *rest, "4 differences: get 2, version 1, incr 1",
@@ -116,7 +122,7 @@ def all_differences():
          compared(one, other, "--except=version,get,incr", sent=sent))
     same("left out without a capture", (0, ["same: connections 1, sessions 1, answers 1; left out: version 1"]),
          compared(replies([b"VERSION 1\r\n"]), replies([b"VERSION 2\r\n"]), "--except", "version,stats"))
-    differ("without a capture", one, other, "connection 0, session 0, answer 0", *version[1:],
+    differ("without a capture", one, other, "connection 0, session 0, answer 0", *version[1:3],
            "4 differences; --all prints them")
     beyond = capture(1, pieces(0, b"get a\r\nge"))
     differ("an answer that no command has", replies([b"END\r\n"]), replies([b"END\r\nERROR\r\n"]),
@@ -131,11 +137,12 @@ def silent_commands():
     one = b"END\r\nVA 1\r\nx\r\nMN\r\nEND\r\n"
     differ("one of two silent commands", replies([one]), replies([one.replace(b"x\r\nMN", b"y\r\nMN")]),
            "connection 0, session 0, answer 1, commands 1 to 3: mg a v q", r"  a: VA 1\x0d\x0ax\x0d\x0aMN",
-           r"  b: VA 1\x0d\x0ay\x0d\x0aMN", "mg 1" + BEFORE, sent=sent)
+           r"  b: VA 1\x0d\x0ay\x0d\x0aMN", "  why: from before", "mg 1" + BEFORE, sent=sent)
     sent = capture(1, pieces(0, quiet(b"b", b"c") + b"mg a v q\r\nmg b v q\r\nmn\r\nget c\r\n"))
     differ("after silent commands", replies([one[5:]]), replies([b"MN\r\nOK\r\n"]),
            "connection 0, session 0, answer 0, commands 2 to 4: mg a v q", r"  a: VA 1\x0d\x0ax\x0d\x0aMN", "  b: MN",
-           "connection 0, session 0, answer 2, command 5: get c", "  a: END", "  b: OK", "2 differences: mg 1, get 1",
+           "  why: flag q", "connection 0, session 0, answer 2, command 5: get c", "  a: END", "  b: OK", "  why: servers",
+           "2 differences: mg 1, get 1",
            "mg 1: commands with the flag q, of which it is not known which one differs", "get 1" + SERVERS, sent=sent,
            words=("--all",))
 
@@ -212,6 +219,55 @@ def shared_keys():
                    [b"STORED\r\n" + OTHER + b"STORED\r\nEND\r\n", b"END\r\n"],
                    "get 1" + ORDER.format("connections 0 and 1 both call the key b"), "get 1" + SERVERS)
     same("the first of each", 2, sum(line.startswith("connection") for line in lines[:-3]))
+
+
+def item_of(value, key=b"a"):
+    return b"VALUE %s 0 %d\r\n%s\r\nEND\r\n" % (key, len(value), value)
+
+
+def shared_causes():
+    """In a key that several connections call, what else differed there, or may have, is named before the order."""
+    after, store = AFTER.format("connections 0 and 1 both call the key a"), b"set a 0 0 1\r\nx\r\n"
+    gets, cas = b"VALUE a 0 1 %d\r\nx\r\nEND\r\n", store + b"gets a\r\ncas a 0 0 1 7\r\ny\r\n"
+    one, other = b"STORED\r\n" + gets % 7 + b"STORED\r\n", b"STORED\r\n" + gets % 4 + b"EXISTS\r\n"
+    for name, sent, ones, others in (
+        ("before", [cas, b"get a\r\n"], [one, OTHER], [other, ITEM]),
+        ("after", [b"get a\r\n", cas], [OTHER, one], [ITEM, other]),
+    ):
+        lines = caused(f"the cas of a connection {name}", sent, ones, others, "cas 1" + UNIQUES,
+                       "get 1: may come of a `cas` of the same key, which names a unique, or of " + after, words=("--all",))
+        same(f"why, {name}", ["  why: cas", "  why: cas or order"], sorted(line for line in lines if "why: " in line))
+    caused("an exptime of a shared key", [b"set a 0 1 1\r\nx\r\nget a\r\n", b"get a\r\n"], [b"STORED\r\nEND\r\n", b"END\r\n"],
+           [b"STORED\r\n" + ITEM, ITEM], "get 2: may come of an exptime of the same key, or of " + after)
+    caused("a touch of a shared key", [store + b"touch a 1\r\n", b"get a\r\n"], [b"STORED\r\nTOUCHED\r\n", b"END\r\n"],
+           [b"STORED\r\nERROR\r\n", ITEM], "touch 1" + REFUSED,
+           "get 1: may come of an exptime of the same key, or of a line that zygos does not serve, or of " + after)
+    caused("a shared number that became shorter", [b"set a 0 0 3\r\n100\r\ndecr a 1\r\n", b"get a\r\n"],
+           [b"STORED\r\n99\r\n", item_of(b"99 ")], [b"STORED\r\n99\r\n", item_of(b"99")], "get 1" + PADDED)
+    caused("one of a connection, and what follows", [b"set a 0 0 3\r\n100\r\ndecr a 1\r\nget a\r\nappend a 0 0 1\r\nx\r\nget a\r\n"],
+           [b"STORED\r\n99\r\n" + item_of(b"99 ") + b"STORED\r\n" + item_of(b"99 x")],
+           [b"STORED\r\n99\r\n" + item_of(b"99") + b"STORED\r\n" + item_of(b"99x")], "get 2" + PADDED)
+    caused("a shared value that nobody stores", [b"get a\r\n", store], [OTHER, b"STORED\r\n"], [b"END\r\n", b"STORED\r\n"],
+           "get 1" + BEFORE)
+    caused("one in place of a value that is stored", [b"get a\r\n", store], [OTHER, b"STORED\r\n"], [ITEM, b"STORED\r\n"],
+           "get 1: may come of items that the capture does not store, which tools/warm puts into it, or of " + after)
+    for name, more, answer, shown, cause in (
+        ("is joined", b"append a 0 0 1\r\ny\r\n", b"STORED\r\n", OTHER, ": may come of " + after),
+        ("is counted", b"incr a 1\r\n", b"8\r\n", item_of(b"7"), ": may come of " + after),
+        ("is not counted", b"incr a 1\r\n", b"8\r\n", OTHER, BEFORE),
+    ):
+        caused(f"a value that {name}", [b"get a\r\n", store + more], [shown, b"STORED\r\n" + answer],
+               [b"END\r\n", b"STORED\r\n" + answer], "get 1" + cause)
+
+
+def long_answers():
+    """A long answer is cut off on the right of its first difference, and on the left not within a key."""
+    keys = [b"key%02d" % at for at in range(20)]
+    sent = capture(1, pieces(0, b"get %s\r\n" % b" ".join(keys)))
+    whole = b"".join(b"VALUE %s 0 4\r\n%04d\r\n" % (key, at) for at, key in enumerate(keys)) + b"END\r\n"
+    for at, begin in ((1, "VALUE key00 0 4"), (15, "..VALUE key15 0 4")):
+        lines = compared(replies([whole]), replies([whole.replace(b"%04d" % at, b"abcd")]), sent=sent)[1]
+        same(f"the item {at}", (f"  a: {begin}", f"  b: {begin}"), tuple(line[: len(begin) + 5] for line in lines[1:3]))
 
 
 def steps():
@@ -340,7 +396,7 @@ def edited_outputs():
                         fail(name, f"{len(differ)} differences")
                     for exchange in differ:
                         if exchange.kind == BOTH and exchange.group:
-                            same(f"a cause: {name}", True, causes.differed(exchange) in CAUSES)
+                            same(f"a cause: {name}", True, causes.differed(exchange).cause in CAUSES)
 
 
 def texts_of(made, connection, session):
@@ -373,4 +429,5 @@ def large():
 
 if __name__ == "__main__":
     carry_out(first_differences, one_answer_each, all_differences, silent_commands, not_recorded, items_from_before,
-              shared_keys, steps, many_steps, uniques, odd_keys, other_causes, drawn_captures, edited_outputs, large)
+              shared_keys, shared_causes, long_answers, steps, many_steps, uniques, odd_keys, other_causes,
+              drawn_captures, edited_outputs, large)

@@ -136,6 +136,13 @@ def orders():
     wanted = {(0, 0): b"STORED\r\nSTORED\r\n", (1, 0): b"VALUE a 0 1\r\ny\r\nEND\r\nVA 1\r\ny\r\nMN\r\nEND\r\n", (2, 0): b""}
     same("answers by connection", (1, wanted), cut_of("turns", given, served(joined(given))))
     prints("nothing", capture(1, []), "inline", "-", given=capture(0, []))
+    for name, words, line in (
+        ("swapped files", ("recorded", "sent"), "recorded: not a capture"), ("no capture", ("recorded",), "recorded: not a capture"),
+    ):
+        with tempfile.TemporaryDirectory() as folder:
+            paths = written(folder, sent=given, recorded=replies([b""] * 3))
+            ran = run("inline", *(paths.get(word, word) for word in words))
+        same(name, (1, b"", f"tools/inline: {line}\n"), (ran.returncode, ran.stdout, ran.stderr.decode().replace(folder + "/", "")))
     output = served(joined(given))
     for name, other, line in (
         ("too few answers", replies([b"STORED\r\n"]), "no answer to command 1 of sent in its order: these are not zygos's"
@@ -205,22 +212,44 @@ def near_orders():
         ("a set that nobody sees", [(0, store % b"x"), (1, store % b"y"), (2, b"get a\r\n"), (0, b"mn\r\n"), (2, b"get a\r\n")],
          [b"STORED\r\nMN\r\n", b"STORED\r\n", item % b"y" * 2]),
         ("noreply", [(0, b"set a 0 0 1 noreply\r\nx\r\n"), (1, b"get a\r\n")], [b"", b"END\r\n"]),
+        ("a set after a number", [(0, store % b"1"), (0, b"incr a 1\r\n"), (1, store % b"5"), (2, b"get a\r\n")],
+         [b"STORED\r\n2\r\n", b"STORED\r\n", item % b"5"]),
+        ("a set that comes later, after a delete", [(0, b"delete a\r\n"), (2, b"get a\r\n"), (1, store % b"5")],
+         [b"NOT_FOUND\r\n", b"STORED\r\n", item % b"5"]),
+        ("a set that comes later, after an add", [(0, b"add a 0 0 1\r\nx\r\n"), (2, b"get a\r\n"), (1, store % b"5")],
+         [b"STORED\r\n", b"STORED\r\n", item % b"5"]),
     ):
         same(name, texts, near(name, turns, texts))
     same("not beyond the next command of a connection", [b"STORED\r\nMN\r\n", item % b"x"],
          near("beyond", [(0, store % b"x"), (0, b"mn\r\n"), (1, b"get a\r\n")], [b"STORED\r\nMN\r\n", b"END\r\n"]))
 
 
+STORING = (b"get %s\r\n", b"set %s 0 0 4\r\n%04d\r\n")
+ALL = (*STORING, b"add %s 0 0 4\r\n%04d\r\n", b"append %s 0 0 4\r\n%04d\r\n", b"incr %s %d\r\n", b"delete %s\r\n")
+
+
 def drawn_orders():
     """Clients that wait for answers, and a server that takes their commands in another order: nearly all answers are
     those of the server in an order near that of arrival, and many are not in that of arrival."""
-    draw, clients, shard, turns, waiting = random.Random(1), 40, Shard(0, 1), [], {}
+    count, found, arrival = differing("drawn orders", random.Random(1), 40, 4000, STORING)
+    if found > count / 20 or arrival < count / 5:
+        fail("drawn orders", f"{found} and {arrival} of {count} answers differ")
+    for number in range(12):
+        name = f"drawn orders of all commands, {number}"
+        count, found, arrival = differing(name, random.Random(number), 3 + number % 8, 60, ALL)
+        if found > arrival:
+            fail(name, f"{found} of {count} answers differ, and {arrival} in the order of arrival")
+
+
+def differing(name, draw, clients, most, lines):
+    """How many commands drawn clients send, and how many answers differ in an order near that of arrival, and in that."""
+    shard, turns, waiting = Shard(0, 1), [], {}
     texts, differ = [b""] * clients, [0, 0]
-    for number in range(4000):
+    for number in range(most):
         idle = [client for client in range(clients) if client not in waiting]
         if idle and (draw.randrange(3) or not waiting):
-            client, key = draw.choice(idle), b"k%d" % draw.randrange(5)
-            line = b"get %s\r\n" % key if draw.randrange(2) else b"set %s 0 0 4\r\n%04d\r\n" % (key, number)
+            client, line = draw.choice(idle), draw.choice(lines)
+            line %= (b"k%d" % draw.randrange(5), number)[: line.count(b"%")]
             turns.append((client, line))
             waiting[client] = line
         else:
@@ -230,12 +259,11 @@ def drawn_orders():
     for client, line in waiting.items():
         [command] = commands_of(line)
         texts[client] += text_of(command, [shard.reply(call) for _, call in calls(1, command)])
-    found = near("drawn orders", turns, texts), in_order(read_capture(Part("capture", capture(
+    found = near(name, turns, texts), in_order(read_capture(Part("capture", capture(
         clients, [segment(*turn) for turn in turns]))))
     for at, of_all in enumerate((found[0], [found[1][client, 0] for client in range(clients)])):
         differ[at] = sum(one != other for pair in zip(of_all, texts) for one, other in zip(*map(answers, pair)))
-    if differ[0] > len(turns) / 20 or differ[1] < len(turns) / 5:
-        fail("drawn orders", f"{differ} of {len(turns)} answers differ")
+    return len(turns), *differ
 
 
 # ---- a memcached, and the program

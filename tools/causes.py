@@ -1,17 +1,24 @@
 """Why two servers differ in their answers to the commands of a capture.
 
 Of each key it is kept what the capture did to it so far, and the cause of an earlier difference in it: what follows
-from that has the same cause.
+from that has the same cause. A difference in a key that several connections call may come of their order; what
+differences of all connections show of the key is another cause that it may have.
 """
-from answers import items
-from apart import stored_by
-from meaning import framed, line_of, words_of
+from collections import namedtuple
+
+from answers import items, line_end
+from apart import keys_of, stored_by, timed_by
+from meaning import framed, line_of
 
 # the causes, from the one that says least of the servers to the one that says most; a difference in several keys has
 # the last one that there is
-BEFORE, UNIQUES, EXPIRY, REFUSED, ORDER, QUIET, SERVERS = (
-    "before", "uniques", "expiry", "refused", "order", "quiet", "servers")
-CAUSES = (BEFORE, UNIQUES, EXPIRY, REFUSED, ORDER, QUIET, SERVERS)
+BEFORE, UNIQUES, EXPIRY, PADDED, REFUSED, ORDER, QUIET, SERVERS = (
+    "before", "uniques", "expiry", "padded", "refused", "order", "quiet", "servers")
+CAUSES = (BEFORE, UNIQUES, EXPIRY, PADDED, REFUSED, ORDER, QUIET, SERVERS)
+# the cause of a difference; where it is the order, the keys in which answers differ, and why they depend on the order
+Blame = namedtuple("Blame", "cause keys why", defaults=[(), None])
+# what two answers show of a key: whether there is an item, and its value; None where they do not show it
+Seen = namedtuple("Seen", "there values")
 
 # the first words of answers that say that there is an item, and of those that say that there is none
 THERE = {
@@ -23,8 +30,6 @@ THERE_META = {
     "add": ([b"NS"], [b"HD"]), "cas": ([b"HD", b"EX"], [b"NF"]), "get": ([b"HD", b"VA"], [b"EN"]),
     "delete": ([b"HD"], [b"NF"]), **dict.fromkeys(("replace", "append", "prepend"), ([b"HD"], [b"NS"])),
 }
-# the first words of faulty lines that give an item another exptime
-TOUCHING = (b"touch", b"gat", b"gats")
 
 
 def is_there(command, answer):
@@ -44,6 +49,16 @@ def found(answer):
     return {words[0]: (words[1:3], value) for words, value in items(answer) if words}
 
 
+def value_of(answer):
+    """The value that an answer to `mg` shows; None where it shows none."""
+    return answer[line_end(answer, 0) : -2] if answer.startswith(b"VA ") else None
+
+
+def is_padded(one, other):
+    """Whether two values are a number and the same one with spaces after it."""
+    return None not in (one, other) and one != other and one.rstrip(b" ") == other.rstrip(b" ") and one.rstrip(b" ").isdigit()
+
+
 class Key:
     """What a connection did to a key so far."""
 
@@ -57,13 +72,19 @@ class Causes:
     """The causes of differences, of one connection after the other, and of its sessions in order."""
 
     def __init__(self, callers):
-        self.callers, self.keys, self.connection, self.why = callers, {}, None, None
+        self.callers, self.keys, self.connection = callers, {}, None
         self.commands, self.at = iter(()), 0
+        # what differences of all connections showed of a key, which is the cause of others in it too
+        self.shown = {}
 
     def key(self, name):
         if name not in self.keys:
             self.keys[name] = Key()
         return self.keys[name]
+
+    def show(self, name, cause):
+        self.shown.setdefault(name, set()).add(cause)
+        return cause
 
     # ---- what commands do
 
@@ -87,19 +108,11 @@ class Causes:
         """What a command may do to its keys."""
         for name in stored_by(command, frame):
             key = self.key(name)
-            key.is_stored = True
-            key.has_exptime = command.verb == "fault" or command.numbers.get("exptime", 0) != 0
-        if command.verb == "fault" and frame.startswith(TOUCHING):
-            for name in words_of(line_of(frame))[1:]:
-                self.key(name).has_exptime = True
+            key.is_stored, key.has_exptime = True, False
+        for name in timed_by(command, frame):
+            self.key(name).has_exptime = True
 
     # ---- causes
-
-    def is_of_order(self, command):
-        """Whether the answer to a command may depend on the order of connections; the first reason is kept."""
-        why = self.callers.order(command)
-        self.why = self.why or why
-        return why is not None
 
     def agreed(self, exchange):
         """Both answers are the same: then the keys of some commands are the same again."""
@@ -109,55 +122,68 @@ class Causes:
                     self.key(name).cause = None
 
     def differed(self, exchange):
-        """The cause of a difference."""
+        """The cause of a difference, so far."""
         self.pass_over(exchange.first)
         one, other = exchange.one[1] or b"", exchange.other[1] or b""
-        if len(exchange.group) > 1:
-            return self.of_several([command for _, _, command in exchange.group])
-        _, line, command = exchange.group[0]
-        return self.of_command(command, line, one, other)
+        commands = [command for _, _, command in exchange.group]
+        if len(commands) > 1:
+            cause, names = self.of_several(commands)
+        else:
+            cause, names = self.of_command(commands[0], exchange.line, one, other)
+        if cause != ORDER:
+            return Blame(cause)
+        return Blame(cause, tuple(names), next(filter(None, map(self.callers.order, commands))))
+
+    def all_of(self, blame):
+        """The causes that a difference may have, once all differences are known."""
+        if blame.cause != ORDER:
+            return (blame.cause,)
+        shown = set().union(*(self.shown.get(name, ()) for name in blame.keys))
+        return tuple(cause for cause in CAUSES if cause in shown or cause == ORDER)
 
     def of_several(self, commands):
-        """The cause where it is not known which of several commands was answered how."""
-        names = {name for command in commands for name in command.keys}
-        causes = {self.key(name).cause for name in names} - {None}
-        is_new = names and not any(name in self.callers.stored if name in self.callers.second else
-                                   self.key(name).is_stored for name in names)
+        """The cause where it is not known which of several commands was answered how, and their keys."""
+        names = list(dict.fromkeys(name for command in commands for name in command.keys))
+        shared = [name for name in names if name in self.callers.second]
+        causes = {self.key(name).cause for name in names if name not in shared} - {None}
+        is_new = names and not any(name in self.callers.stored if name in shared else self.key(name).is_stored
+                                   for name in names)
         cause = BEFORE if is_new else QUIET
-        if causes and not is_new:
+        if causes and not is_new and not shared:
             cause = max(causes, key=CAUSES.index)
-        elif any(map(self.is_of_order, commands)) and not is_new:
+        elif any(map(self.callers.order, commands)) and not is_new:
             cause = ORDER
         for name in names:
             self.key(name).cause = cause
-        return cause
+        return cause, names
 
     def of_command(self, command, line, one, other):
+        """The cause where a command was answered like this, and the keys in which the order may be the cause."""
         if command.verb == "fault":
-            for name in words_of(line)[1:2]:
-                self.key(name).cause = REFUSED
-            return REFUSED
-        causes = []
-        for name, there in self.seen(command, one, other).items():
-            cause = self.of_key(command, name, there, (one, other))
-            self.key(name).cause = cause
-            causes.append(cause)
+            for name in keys_of(command, line):
+                self.key(name).cause = self.show(name, REFUSED)
+            return REFUSED, ()
+        causes = {}
+        for name, seen in self.seen(command, one, other).items():
+            causes[name] = self.key(name).cause = self.of_key(command, name, seen, (one, other))
         if causes:
-            return max(causes, key=CAUSES.index)
-        return ORDER if self.is_of_order(command) else SERVERS
+            return max(causes.values(), key=CAUSES.index), [name for name in causes if causes[name] == ORDER]
+        return ORDER if self.callers.order(command) else SERVERS, ()
 
     @staticmethod
     def seen(command, one, other):
-        """The keys in which two answers differ, each with whether each answer says that there is an item."""
+        """The keys in which two answers differ, each with what they show of it."""
         if command.verb not in ("get", "gets"):
-            return dict.fromkeys(command.keys, (is_there(command, one), is_there(command, other)))
+            there = is_there(command, one), is_there(command, other)
+            return dict.fromkeys(command.keys, Seen(there, (value_of(one), value_of(other))))
         ones, others = found(one), found(other)
-        return {name: (name in ones, name in others) for name in command.keys if ones.get(name) != others.get(name)}
+        return {name: Seen((name in ones, name in others), tuple(items.get(name, (None, None))[1] for items in (ones, others)))
+                for name in command.keys if ones.get(name) != others.get(name)}
 
-    def of_key(self, command, name, there, answers):
+    def of_key(self, command, name, seen, answers):
         """The cause of a difference in one key."""
         key, is_shared = self.key(name), name in self.callers.second
-        differs = None not in there and there[0] != there[1]
+        differs = None not in seen.there and seen.there[0] != seen.there[1]
         if differs and not (name in self.callers.stored if is_shared else key.is_stored):
             return BEFORE
         if key.cause and not is_shared:
@@ -165,7 +191,15 @@ class Causes:
         if "cas" in (command.verb, command.call):
             is_stored = [text.startswith((b"STORED", b"HD")) for text in answers]
             if any(is_stored) and any(text.startswith(b"EX") for text in answers):
-                return UNIQUES
-        if self.is_of_order(command):
+                return self.show(name, UNIQUES)
+        if name in self.callers.counted and is_padded(*seen.values):
+            return self.show(name, PADDED)
+        if is_shared and any(value is not None and not self.callers.may_store(name, value) for value in seen.values):
+            self.show(name, BEFORE)
+            if differs:
+                return BEFORE
+        if self.callers.order(command):
+            if differs and (name in self.callers.timed if is_shared else key.has_exptime):
+                self.show(name, EXPIRY)
             return ORDER
         return EXPIRY if differs and key.has_exptime else SERVERS

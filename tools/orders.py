@@ -4,11 +4,14 @@ A server takes the commands of several connections in an order of its own. Each 
 and, if its client waits for answers, before the next one of its connection came. So it may change places with those
 that came in between. A `get` whose recorded answer is what its key has goes at once. One that shows what a later `set`
 stores waits for that, and a `set` waits as long as it can. A `set` that no `get` shows any more goes right before
-another one.
+another one. If such an order explains fewer answers than that of arrival, which the plain model says, that is taken.
 """
-from collections import Counter
+from collections import Counter, deque
 
-UNKNOWN, STORED = object(), b"STORED\r\n"
+from model import Shard, calls, text_of
+from steps import alike
+
+UNKNOWN, STORED, MISS = object(), b"STORED\r\n", b"END\r\n"
 
 
 class Waiting:
@@ -21,12 +24,24 @@ class Waiting:
         self.is_set = arrival.command.verb == "set"
 
 
+def text_after(command):
+    """What a `get` answers that follows a command that stored its value."""
+    flags, value = command.numbers["flags"], command.value
+    return b"VALUE %s %d %d\r\n%s\r\nEND\r\n" % (command.keys[0], flags, len(value), value)
+
+
 def shown(command, answer):
     """What a `get` answers that follows a `set`, or that this is; None for any other command."""
     if command.verb == "set" and command.value is not None and answer in (STORED, None):
-        flags, value = command.numbers["flags"], command.value
-        return b"VALUE %s %d %d\r\n%s\r\nEND\r\n" % (command.keys[0], flags, len(value), value)
+        return text_after(command)
     return answer if command.verb == "get" and len(command.keys) == 1 else None
+
+
+def left_by(command, answer):
+    """What a `get` answers that follows a command of another kind."""
+    if "delete" in (command.verb, command.call):
+        return MISS
+    return text_after(command) if command.verb == "add" and answer == STORED else UNKNOWN
 
 
 class Order:
@@ -43,7 +58,7 @@ class Order:
             self.force(before)
         text = shown(arrival.command, answer)
         if text is None:
-            self.other(arrival)
+            self.other(arrival, answer)
             return
         one = Waiting(arrival, text, len(self.places))
         self.by_connection[arrival.connection] = one
@@ -60,7 +75,7 @@ class Order:
 
     def item(self, key):
         """What a `get` of a key would answer now."""
-        return self.items.get(key, UNKNOWN if self.is_unknown else b"END\r\n")
+        return self.items.get(key, UNKNOWN if self.is_unknown else MISS)
 
     def leave(self, one):
         """A command waits no more."""
@@ -79,16 +94,24 @@ class Order:
         self.places.append([one.arrival])
 
     def settle(self, key):
-        """Each `get` goes that shows what there is."""
+        """Each `get` goes that shows what there is; where that is not known, after the `set` that it shows, if one waits."""
         for one in list(self.waiting[key]):
-            if not one.is_set and (self.item(key) is UNKNOWN or self.item(key) == one.text):
-                self.go(one)
+            if one.is_set or self.item(key) not in (UNKNOWN, one.text):
+                continue
+            source = self.source(one) if self.item(key) is UNKNOWN else None
+            if source:
+                self.go(source)
+            self.go(one)
+
+    def source(self, one):
+        """The first waiting `set` of what a `get` shows."""
+        return next((other for other in self.waiting[one.key] if other.is_set and other.text == one.text), None)
 
     def force(self, one):
         """A command goes now at the latest."""
         source = None
         if not one.is_set:
-            source = next((other for other in self.waiting[one.key] if other.is_set and other.text == one.text), None)
+            source = self.source(one)
         elif not self.wanted[one.key, one.text] and self.last_set.get(one.key, -1) >= one.since:
             self.leave(one)
             self.places[self.last_set[one.key]].insert(0, one.arrival)
@@ -107,7 +130,7 @@ class Order:
                 self.go(other)
                 self.settle(one.key)
 
-    def other(self, arrival):
+    def other(self, arrival, answer):
         """A command of another kind goes where it came, after all that wait for its keys."""
         command = arrival.command
         is_wide = command.verb in ("flush_all", "stats", "fault")
@@ -119,15 +142,33 @@ class Order:
             self.items, self.is_unknown, self.last_set = {}, True, {}
         elif command.verb not in ("get", "gets", "mg", "stats"):
             for key in command.keys:
-                self.items[key] = UNKNOWN
+                self.items[key] = left_by(command, answer)
                 self.last_set.pop(key, None)
+
+
+def explained(arrivals, answered):
+    """How many commands in this order are answered as it was recorded."""
+    shard, left, count = Shard(0, 1), {}, 0
+    for arrival, answer in answered:
+        left.setdefault(arrival.connection, deque()).append(answer)
+    for arrival in arrivals:
+        command, answer = arrival.command, left[arrival.connection].popleft()
+        found = [shard.answer(call) for _, call in calls(1, command) if call.name != "tally"]
+        count += answer is not None and command.verb != "stats" and alike(answer, text_of(command, found))
+    return count
 
 
 def ordered(answered):
     """The commands in such an order, of a list of pairs: a command that came, and its recorded answer."""
+    by_arrival = [arrival for arrival, _ in answered]
+    return max(near(answered), by_arrival, key=lambda order: explained(order, answered))
+
+
+def near(answered):
+    """An order near that of arrival."""
     wanted = Counter((arrival.command.keys[0], answer) for arrival, answer in answered
                      if arrival.command.verb == "get" and answer is not None and shown(arrival.command, answer))
     order = Order(wanted)
     for one in answered:
         order.add(*one)
-    return order.all()
+    return list(order.all())

@@ -7,6 +7,7 @@ forgotten. So the calls that are left have no order either, and that can be seen
 import copy
 from bisect import bisect_left
 
+from apart import TOUCHING
 from formats import shown
 from judging.events import FLUSH, FOREVER, GET, No, Unknown
 from judging.needs import ITEM, Needs
@@ -17,6 +18,11 @@ from judging.states import ABSENT, ANYTHING, NOTHING_KNOWN
 MOST_SEARCHES, MOST_STATES, MOST_PRINTED = 300, 3000, 12
 # how many begins and ends of calls are looked at first, on both sides of a time
 FIRST_TIMES = 32
+
+
+def has_exptime(asked):
+    """Whether a command gives an item an exptime, on a memcached."""
+    return bool(asked.command.numbers.get("exptime", 0)) or asked.original.startswith(TOUCHING)
 
 
 class Reason:
@@ -39,11 +45,21 @@ class Reason:
             return Unknown(f"{what}: a retrieval names a key twice and has one item of it: which was found is not known")
         lost = self.is_known and self.never_made()
         if lost:
-            return No(f"{what}: no command stores what this one answers", lines=[lost.told()])
+            return No(f"{what}: no command stores what this one answers, and the store began empty{self.advice()}",
+                      lines=[lost.told()])
         if not self.shrink():
-            return No(f"{what}: no order of the {len(self.all)} calls explains their answers", lines=self.lines())
-        came = "after no others" if self.is_known else "whatever came before"
-        return No(f"{what}: no order of these commands explains their answers, {came}", lines=self.lines())
+            came = ", from an empty store" if self.is_known else ""
+            return No(f"{what}: no order of the {len(self.all)} calls explains their answers{came}{self.advice()}",
+                      lines=self.lines())
+        came = "from an empty store" if self.is_known else "whatever came before"
+        return No(f"{what}: no order of these commands explains their answers, {came}{self.advice()}", lines=self.lines())
+
+    def advice(self):
+        """The words that may be missing."""
+        advice = "; if the server held items before the recording, add --warm" if self.is_known else ""
+        if not self.keys.states.loses and any(has_exptime(event.asked) for event in self.all):
+            advice += "; the key has an exptime: --may-forget lets items go"
+        return advice
 
     def never_made(self):
         """A call that saw what nobody makes."""
