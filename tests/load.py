@@ -4,7 +4,18 @@
 usage: tests/load.py PLACE [--clients N] [--commands N] [--keys N] [--in-flight N] [--seed N] [--kinds 'KIND ..']
 
 Each client sends one command or up to `in-flight` at a time, and waits for the answers. Some keys are asked for much
-more often than others. The kinds are those of tests/thought.py.
+more often than others. A last line says how many clients there were and how many commands.
+
+The kinds are names of commands, parted by spaces, of which each client draws one after the other; one that is named twice
+comes twice as often. They are get, gets, set, add, append, prepend, cas, incr, decr, delete, touch, gat, gats, mg, ms, md,
+stats, version and verbosity as memcached has them, and
+
+  mget                  a get of one to four keys
+  setq, incrq, touchq   with noreply
+  number                a set to a number
+  quiet                 up to three meta commands with the flag q, and an mn
+  flush                 flush_all
+  fault                 a line that is no command
 """
 import argparse
 import asyncio
@@ -16,7 +27,7 @@ import sys
 sys.dont_write_bytecode = True
 sys.path.insert(0, os.path.join(os.path.dirname(os.path.dirname(os.path.realpath(__file__))), "tools"))
 from pace import ALWAYS, Answers, Commands
-from thought import Client
+from thought import KINDS, Client
 
 FLEET = "get get get get get get get mget mget set set add delete"
 SHOWN = re.compile(rb"VALUE ([^ ]+) [0-9]+ [0-9]+ ([0-9]+)\r\n")
@@ -58,13 +69,20 @@ async def load(place, words):
 
 
 def main():
-    parser = argparse.ArgumentParser(usage=__doc__.strip().split("\n")[2][7:])
-    parser.add_argument("place")
-    for name, usual in (("clients", 20), ("commands", 500), ("keys", 100), ("in-flight", 1), ("seed", 1)):
-        parser.add_argument("--" + name, type=int, default=usual)
-    parser.add_argument("--kinds", default=FLEET)
+    about, usage, more = __doc__.strip().split("\n\n", 2)
+    parser = argparse.ArgumentParser(usage=usage[7:], description=f"{about}\n\n{more}",
+                                     formatter_class=argparse.RawDescriptionHelpFormatter)
+    parser.add_argument("place", metavar="PLACE", help="HOST:PORT of the server or of the recorder")
+    for name, usual, what in (("clients", 20, "at the same time"), ("commands", 500, "of each client"), ("keys", 100, "of all"),
+                              ("in-flight", 1, "commands of a client, at most"), ("seed", 1, "of what is drawn")):
+        parser.add_argument("--" + name, metavar="N", type=int, default=usual, help=f"{what} ({usual})")
+    parser.add_argument("--kinds", metavar="'KIND ..'", default=FLEET, help=f"('{FLEET}')")
     words = parser.parse_args()
+    for kind in words.kinds.split():
+        if kind not in KINDS:
+            parser.error(f"no such kind: {kind}")
     asyncio.run(load(words.place, words))
+    print(f"{words.clients} clients, {words.clients * words.commands} commands")
 
 
 if __name__ == "__main__":

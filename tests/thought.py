@@ -102,6 +102,8 @@ SENT = {
     "touchq": b"touch %(key)b 0 noreply\r\n", "gat": b"gat 0 %(key)b\r\n", "stats": b"stats\r\n",
     "version": b"version\r\n", "verbosity": b"verbosity 0\r\n", "fault": b"no such command\r\n", "flush": b"flush_all\r\n",
 }
+# all kinds of commands
+KINDS = {*SENT, "mget", "set", "setq", "add", "append", "prepend", "number", "cas", "quiet"}
 
 
 class Draw:

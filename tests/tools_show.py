@@ -53,8 +53,8 @@ def choices():
     first, other, last = b"connection 1: 14 bytes\n  set k 0 0 3\n  a  (no \\r)\n", b"connection 0: 9 bytes\n  get k j\n", \
         b"connection 1: 9 bytes\n  get j k\n"
     second = b"connection 1: 11 bytes\n  bc\n  get j\nconnection 1: closed\n"
-    keyed = [b"connection 0, command 0: 9 bytes\n  get k j\n", b"connection 1, command 0: 18 bytes\n  set k 0 0 3\n  abc\n",
-             b"connection 1, command 2: 9 bytes\n  get j k\n"]
+    keyed = [b"connection 0, command 0, sent 1: 9 bytes\n  get k j\n", b"connection 1, command 0, sent 2: 18 bytes\n  set k 0 0 3\n  abc\n",
+             b"connection 1, command 2, sent 4: 9 bytes\n  get j k\n"]
     for words, wanted in (((), [first, other, second, last]), (("--connection", "1"), [first, second, last]),
                           (("--first", "2"), [first, other]), (("--key", "k"), keyed),
                           (("--key", "k", "--connection", "1"), keyed[1:]), (("--key", "k", "--first", "1"), keyed[:1])):

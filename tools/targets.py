@@ -30,6 +30,12 @@ def naming(name):
         raise OSError(error.errno, error.strerror, error.filename or name) from None
 
 
+def refuse_full(name):
+    """Refuses to write over a file in which there is something."""
+    if os.path.isfile(name) and os.path.getsize(name):
+        raise OSError(errno.EEXIST, "there is something in this file; --over writes over it", name)
+
+
 class Target:
     """A file that is written. `file` can be read and written at any place: it is the file itself or, for standard
     output, pipes and devices, a temporary one whose bytes are passed on at the end. A file in which there is something
@@ -40,8 +46,8 @@ class Target:
         if name == "-":
             self.out = sys.stdout.fileno()
         elif self.is_made or stat.S_ISREG(os.stat(name).st_mode):
-            if not self.is_made and os.path.getsize(name) and not is_over:
-                raise OSError(errno.EEXIST, "there is something in this file; --over writes over it", name)
+            if not is_over:
+                refuse_full(name)
             self.file = os.open(name, os.O_RDWR | os.O_CREAT, 0o666)
         else:
             self.out = os.open(name, os.O_WRONLY)

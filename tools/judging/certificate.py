@@ -19,7 +19,7 @@ from collections import Counter
 from formats import END, JOURNAL_START, Call, Output, capture_start, close, entry, hold, pieces, replies_file, MOST_HOLD
 from meaning import Command
 from model import Shard, text_of
-from judging.events import CAS, FOREVER, GET, LOSS, Asked, Event, Unknown
+from judging.events import CAS, FOREVER, GET, LOSS, Asked, Event, Unknown, brief, first_line
 from judging.seeing import items_of
 
 LINE_END = re.compile(rb"\r?\n")
@@ -64,9 +64,9 @@ class Certificate:
     def name(self, key, unique, ours):
         """A unique of the server is that of this item of ours."""
         if (key, unique) in self.unnamed:
-            raise Unknown(f"key {key!r}: the unique {unique} is given by a command before it is shown")
+            raise Unknown(f"key {brief(key)}: the unique {unique} is given by a command before it is shown")
         if self.names.setdefault((key, unique), ours) != ours or self.taken.setdefault((key, ours), unique) != unique:
-            raise Unknown(f"key {key!r}: the unique {unique} is shown of two items, or an item with two uniques")
+            raise Unknown(f"key {brief(key)}: the unique {unique} is shown of two items, or an item with two uniques")
         self.counts["uniques"] += unique != ours
 
     def renamed(self, event, item):
@@ -167,7 +167,7 @@ class Certificate:
             [re.sub(rb"^VA [0-9]+", b"VA", head) for head in heads[1:]]
 
     def untranslated(self, asked, ours):
-        return Unknown(f"zygos answers {ours[:80]!r} in the order that was found", asked)
+        return Unknown(f"zygos answers {first_line(ours)} in the order that was found", asked)
 
     # ---- files
 

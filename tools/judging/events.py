@@ -69,12 +69,13 @@ class Asked:
         return cut(text, MOST_LINE)
 
     def when(self):
-        answered = f", answered {self.end // 2}" if self.end < FOREVER else ""
-        return f"sent {self.begin // 2}{answered}"
+        word = "ended by" if self.answer is None else "answered"
+        ended = f", {word} {self.end // 2}" if self.end < FOREVER else ""
+        return f"sent {self.begin // 2}{ended}"
 
     def told(self):
         """The command with its answer, to be printed."""
-        answer = "no answer" if self.answer is None else brief(self.answer.partition(b"\n")[0].rstrip())
+        answer = "no answer" if self.answer is None else first_line(self.answer)
         return f"  {self.name()}, {self.when()}: {self.line()} -> {answer}"
 
 
@@ -119,3 +120,13 @@ def cut(text, most):
 
 def brief(value):
     return cut(shown(value), MOST_VALUE)
+
+
+def first_line(answer):
+    """The first line of an answer, to be printed."""
+    return brief(answer.partition(b"\n")[0].rstrip())
+
+
+def counted(count, name):
+    """So many of what the name names."""
+    return f"{count} {name}" + ("" if count == 1 else "s")

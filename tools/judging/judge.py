@@ -3,7 +3,7 @@ import time
 
 from judging import times
 from judging.certificate import Certificate, added
-from judging.events import Unknown, brief
+from judging.events import Unknown, brief, counted
 from judging.graph import Graph
 from judging.keys import Keys
 from judging.mending import MOST_TURNS, Mending, keys_in
@@ -24,10 +24,14 @@ class Clock:
         self.what = what
         self.look()
 
+    def no_limit(self):
+        """From here on nothing is given up."""
+        self.seconds = None
+
     def look(self):
         now = time.monotonic()
         if self.seconds is not None and now - self.begun > self.seconds:
-            raise Unknown(f"{self.what}; given up after {self.seconds} seconds")
+            raise Unknown(f"{self.what}; given up after {counted(self.seconds, 'second')}; give --seconds more")
         if self.show and now - self.shown >= 1:
             self.shown = now
             self.show(f"{now - self.begun:.0f} s: {self.what}")
@@ -40,6 +44,8 @@ class Judge:
         self.clock, self.shards = clock or Clock(), shards
         self.recording = Recording(capture, outputs)
         self.recording.pair()
+        if not any(self.recording.asked.values()):
+            raise Unknown("no command was recorded")
         self.kind = times.set_times(self.recording, kind)
         self.clock.set("reading answers")
         seeing = Seeing(self.recording, shards)
@@ -77,7 +83,7 @@ class Judge:
             circles = graph.circles(left)
             self.clock.set(f"{keys_in(circles, self.events)}: their orders are fitted to each other, turn {turn + 1}")
             mending.turn(circles, rising)
-        raise Unknown(keys_in(circles, self.events) + ": their orders were not fitted to each other")
+        raise Unknown(keys_in(circles, self.events) + f": their orders were not fitted to each other in {MOST_TURNS} turns")
 
     def loss(self, event, key):
         """The loss of an item before a call."""
@@ -93,6 +99,7 @@ class Judge:
 
     def certificate(self):
         """The files for the order that was found."""
+        self.clock.no_limit()
         self.clock.set("writing")
         order, count, extra = list(self.order), self.recording.count, []
         values = self.keys.states.values
@@ -118,4 +125,4 @@ class Judge:
             for asked in some:
                 if asked.is_lost and asked.events and asked not in made:
                     asked.is_dropped = True
-                    self.recording.notes[f"{asked.command.verb} left out, unanswered"] += 1
+                    self.recording.notes[f"unanswered {asked.command.verb} left out"] += 1

@@ -4,7 +4,7 @@ from collections import namedtuple
 from itertools import accumulate
 
 from formats import shown
-from judging.events import FLUSH, GET, Unknown
+from judging.events import FLUSH, GET, Unknown, counted
 from judging.needs import ITEM, NUMBER, Needs
 from judging.reasons import Reason
 from judging.search import GaveUp, Search, Stuck
@@ -73,7 +73,7 @@ class Keys:
             raise Reason(self, keys, events, stuck.at).verdict() from None
         except GaveUp:
             names = f"key {shown(keys[0])}" if len(keys) == 1 else "keys " + ", ".join(map(shown, keys[:5]))
-            raise Unknown(f"{names}: more than {self.limit} states were looked at") from None
+            raise Unknown(f"{names}: given up after {counted(self.limit, 'state')}; give --states more") from None
         for key in keys:
             slot = slots and slots[key]
             self.found[key] = [

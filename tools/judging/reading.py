@@ -8,13 +8,13 @@ from collections import Counter, defaultdict
 from answers import answers
 from formats import Part, Segment, capture_head, capture_records
 from meaning import Command, Framer
-from judging.events import Asked, No, Unknown
+from judging.events import Asked, No, Unknown, first_line
 
 # which answers of a meta command with the flag `q` are not hidden, by its call
 NOT_HIDDEN = {"get": (b"HD", b"VA"), "set": (), "cas": (b"EX", b"NF"), "delete": (b"NF",)}
 STORING = (b"NS",)
 
-STATS = "stats"
+STATS, ONE_RECORDING = "stats", "are both files of one recording?"
 
 
 class Recording:
@@ -78,7 +78,8 @@ class Recording:
             self.pair_session(asked, whole_answers(text, self.notes), key)
         if any(self.outputs.values()):
             connection, session = min(key for key, text in self.outputs.items() if text)
-            raise Unknown(f"the replies have an output of connection {connection}, session {session}, and the capture hasn't")
+            raise Unknown(f"the replies have an output of connection {connection}, session {session}, and the capture hasn't; "
+                          + ONE_RECORDING)
 
     def pair_session(self, asked, found, key):
         """Gives the commands of a session these answers, one after the other."""
@@ -99,7 +100,7 @@ class Recording:
             if command.verb == "fault":
                 self.outside.add(key)
         if at < len(found):
-            why = f"connection {key[0]}, session {key[1]}: answer {at} is to no command: {found[at][:60]!r}"
+            why = f"connection {key[0]}, session {key[1]}: answer {at} is to no command: {first_line(found[at])}; {ONE_RECORDING}"
             raise (Unknown if key in self.outside else No)(why)
 
 

@@ -12,7 +12,7 @@ from formats import shown
 from judging.events import FLUSH, FOREVER, GET, No, Unknown
 from judging.needs import ITEM, Needs
 from judging.search import GaveUp, Search, Stuck
-from judging.states import NOTHING_KNOWN, ANYTHING
+from judging.states import ABSENT, ANYTHING, NOTHING_KNOWN
 
 # how many searches are made, how many states each looks at, and how many calls are printed
 MOST_SEARCHES, MOST_STATES, MOST_PRINTED = 300, 3000, 12
@@ -183,26 +183,43 @@ class Reason:
 
     def lines(self):
         sure = [event for event in self.events if not (event.optional and event.want is None)]
-        lines = []
+        lines, origins = [], Origins(self, sure[:MOST_PRINTED])
         for event in sure[:MOST_PRINTED]:
-            lines.append(event.told())
-            maker = self.maker_of(event)
-            if maker:
-                lines.append("  stored before by" + maker.told()[1:])
+            lines += [event.told(), *origins.lines(event)]
         if len(sure) > MOST_PRINTED:
             lines.append(f"  and {len(sure) - MOST_PRINTED} more")
         if len(self.events) > len(sure):
             lines.append(f"  {len(self.events) - len(sure)} others that may have been made then, or not, do not help")
         return lines
 
-    def maker_of(self, event):
-        """The last call before all these that stored what a read of these saw."""
-        if self.is_known or event.kind != GET or not event.item:
-            return None
-        inside = {(one.asked, one.part) for one in self.events}
-        made = [one for one in self.all if one.item == event.item and one.kind != GET and one.key == event.key and
-                (one.asked, one.part) not in inside and one.begin < event.end]
-        return made[-1] if made else None
+
+class Origins:
+    """Who may have stored what reads saw, or have deleted what they missed, of all calls on the keys of a reason; of those
+    that are `printed` with it nothing more is said."""
+
+    def __init__(self, reason, printed):
+        self.all, self.printed = reason.all, {(event.asked, event.part) for event in printed}
+        self.needs = Needs(reason.all, reason.keys.states, {name: reason.keys.first_of(name) for name in reason.names})
+
+    def lines(self, event):
+        """A line about what a read saw, if there is something to be said."""
+        number = self.needs.numbers.get((ITEM, event.key, event.item if event.want == "hit" else ABSENT))
+        if event.kind != GET or event.want is None or number is None:
+            return
+        made = [self.all[place] for place in self.needs.makers[number]]
+        name, done = ("stores", "stored") if event.want == "hit" else ("deletes", "deleted")
+        if not made:
+            yield f"  no command {name} it"
+        elif not all((one.asked, one.part) in self.printed for one in made):
+            yield f"  {done} {self.who(made, event.end)}"
+
+    def who(self, made, end):
+        """These calls, by one of them: the last that began before a time."""
+        before = [one for one in made if one.begin < end]
+        told = (before[-1] if before else made[0]).told().lstrip()
+        if len(made) == 1:
+            return f"only by {told}"
+        return f"by {len(made)} commands, {'the last before it' if before else 'all later, the first'}: {told}"
 
 
 def loosened(event, want):

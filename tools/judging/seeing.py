@@ -44,7 +44,7 @@ class Seeing:
         verb = asked.command.verb
         if asked.is_dropped or asked.is_lost and verb in READING:
             name = "touch" if verb == "mg" and asked.command.quiet else verb
-            self.recording.notes[f"{name} left out" + (", unanswered" if asked.is_lost else "")] += 1
+            self.recording.notes["unanswered " * asked.is_lost + f"{name} left out"] += 1
             asked.is_dropped = True
         elif verb in MUTE or verb in ("version", "fault"):
             self.expect(asked)
