@@ -1,4 +1,5 @@
 """The orders of all keys: for each an order of its calls that explains their replies."""
+import copy
 from bisect import bisect_left, bisect_right
 from collections import namedtuple
 from itertools import accumulate
@@ -29,9 +30,16 @@ class Keys:
         self.unsure = set(unsure)
         self.states, self.shards, self.is_warm, self.limit, self.look = States(True, loses), shards, is_warm, limit, look
         self.events, self.first, self.found, self.shard_of = {}, {}, {}, {}
-        self.reach = {}
+        self.reach, self.all = {}, events
         self.states.learn(events)
         self.split(events)
+
+    def with_joins(self):
+        """The same keys, where padded numbers to which values were joined are numbers."""
+        other = copy.copy(self)
+        other.states, other.first = States(True, self.states.loses, True), {}
+        other.states.learn(self.all)
+        return other
 
     def split(self, events):
         flushes = {}

@@ -9,7 +9,7 @@ from bisect import bisect_left
 
 from apart import TOUCHING
 from formats import shown
-from judging.events import FLUSH, FOREVER, GET, No, Unknown
+from judging.events import APPEND, DECR, FLUSH, FOREVER, GET, INCR, PREPEND, No, Unknown
 from judging.needs import ITEM, Needs
 from judging.search import GaveUp, Search, Stuck
 from judging.states import ABSENT, ANYTHING, NOTHING_KNOWN
@@ -23,6 +23,18 @@ FIRST_TIMES = 32
 def has_exptime(asked):
     """Whether a command gives an item an exptime, on a memcached."""
     return bool(asked.command.numbers.get("exptime", 0)) or asked.original.startswith(TOUCHING)
+
+
+def may_pad(event):
+    """Whether a call may have made a number shorter, which then keeps its length in memcached, with spaces."""
+    if event.kind not in (INCR, DECR) or event.want not in ("number", None):
+        return False
+    if event.want is None:
+        return event.kind == DECR
+    number, amount = event.number, event.call.number
+    if event.kind == INCR:
+        return number < amount
+    return number == 0 or len(str(number + amount)) > len(str(number))
 
 
 class Reason:
@@ -43,6 +55,8 @@ class Reason:
                 return Unknown(f"{what}: which item was there at first was not found")
         if self.keys.unsure.intersection(self.names):
             return Unknown(f"{what}: a retrieval names a key twice and has one item of it: which was found is not known")
+        if any(self.may_join_a_pad(name) for name in self.names) and self.has_order_with_joins():
+            return Unknown(f"{what}: a value may have been joined to a padded number, which memcached goes on counting")
         lost = self.is_known and self.never_made()
         if lost:
             return No(f"{what}: no command stores what this one answers, and the store began empty{self.advice()}",
@@ -53,6 +67,21 @@ class Reason:
                       lines=self.lines())
         came = "from an empty store" if self.is_known else "whatever came before"
         return No(f"{what}: no order of these commands explains their answers, {came}{self.advice()}", lines=self.lines())
+
+    def has_order_with_joins(self):
+        """Whether there may be an order where padded numbers to which values were joined are numbers."""
+        other = Reason(self.keys.with_joins(), self.names, self.all, self.at)
+        other.is_known = self.is_known
+        return not (self.is_known and other.never_made()) and not other.is_stuck(self.all)
+
+    def may_join_a_pad(self, name):
+        """Whether a number of the key may have got a pad, then a joined value, and then was counted again: of such a value
+        memcached counts what comes before the first space."""
+        events = self.keys.events[name] if self.keys.states.values.pads else []
+        pads = [event for event in events if may_pad(event)]
+        joins = [event for event in events if event.kind in (APPEND, PREPEND) and event.want in ("stored", None)]
+        after = [event.begin for event in joins if any(pad.begin <= event.end for pad in pads)]
+        return any(event.end >= min(after) and event not in pads[:1] for event in events if event.kind in (INCR, DECR)) if after else False
 
     def advice(self):
         """The words that may be missing."""

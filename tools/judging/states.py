@@ -33,10 +33,10 @@ def top(state):
 
 
 class States:
-    """The steps of calls on a key. With `loses` the server may lose an item before any call."""
+    """The steps of calls on a key. With `loses` the server may lose an item before any call; `joins` is that of Values."""
 
-    def __init__(self, pads=True, loses=False):
-        self.values, self.loses, self.flags, self.of_number = Values(pads), loses, [0], {}
+    def __init__(self, pads=True, loses=False, joins=False):
+        self.values, self.loses, self.flags, self.of_number = Values(pads, joins), loses, [0], {}
 
     def learn(self, events):
         """Numbers the values of events."""

@@ -5,15 +5,17 @@ from formats import MOST_VALUE
 from judging.events import APPEND, INCR
 
 DIGITS, PADDED = re.compile(rb"([0-9]{1,20})"), re.compile(rb"([0-9]{1,20}) *")
+# what memcached counts: what comes after the first space does not matter
+BEGUN = re.compile(rb"([0-9]{1,20})(?:[ \t\n\v\f\r].*)?", re.DOTALL)
 
 
 class Values:
     """Flags and values by number, from 1 on. With `pads` a number that became shorter may keep its length, with spaces
-    behind it, as memcached's do."""
+    after it, as memcached's do. With `joins` a padded number to which a value was joined is a number too, as there."""
 
-    def __init__(self, pads=True):
+    def __init__(self, pads=True, joins=False):
         self.numbers, self.pairs, self.joins, self.counts, self.digits = {}, [None], {}, {}, {}
-        self.pads, self.pattern = pads, PADDED if pads else DIGITS
+        self.pads, self.pattern = pads, BEGUN if joins else PADDED if pads else DIGITS
 
     def number(self, flags, value):
         pair = flags, value
