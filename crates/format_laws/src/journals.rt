@@ -1,5 +1,6 @@
 //! Laws of journals.
-ghost use Rattle.std.specs.Prelude.{◌≡◌, ℕ, ◌+◌, ◌-◌, ◌*◌, ◌^◌, ◌<◌, ◌≤◌, List, [], ◌∷◌, length, ◌↔◌, ◌++◌, codes, Some, ⊤};
+ghost use Rattle.std.specs.Prelude.{◌≡◌, ℕ, ◌+◌, ◌-◌, ◌*◌, ◌^◌, ◌<◌, ◌≤◌, List, [], ◌∷◌, length};
+ghost use Rattle.std.specs.Prelude.{◌↔◌, ◌++◌, codes, Some, ⊤};
 ghost use Rattle.std.specs.List.{AllByRecursion, concat};
 ghost use Rattle.zy_base.specs.Code.{last_call_code, last_reply_code};
 ghost use Rattle.zy_base.specs.declared.entry.Entry.{Entry};

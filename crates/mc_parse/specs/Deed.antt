@@ -1,5 +1,5 @@
--- What a command does on the shards (docs/PROFILE.md, "Calls"). Its calls, its keys, their bounds and their number go by
--- this alone.
+-- What a command does on the shards (docs/PROFILE.md, "Calls"). Its calls, its keys, their bounds and their number
+-- go by this alone.
 use Rattle.std.specs.Prelude.{ℕ, Bool, true, false, List}
 use Rattle.zy_base.specs.declared.call.Call.{Call}
 use Rattle.zy_base.specs.declared.call.Call.TheVariants.{Get as GetCall, Set as SetCall, Add as AddCall}

@@ -1,5 +1,5 @@
--- What answers a command, before it is text (docs/PROFILE.md, "Answers"). The text, its size and what it shows go by this
--- alone.
+-- What answers a command, before it is text (docs/PROFILE.md, "Answers"). The text, its size and what it shows go by
+-- this alone.
 use Rattle.std.specs.Prelude.{ℕ, Bool, false, List}
 use Rattle.mc_parse.specs.declared.error_line.ErrorLine.{ErrorLine}
 use Rattle.mc_parse.specs.declared.command.Command.{Command}

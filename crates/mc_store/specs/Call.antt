@@ -56,8 +56,8 @@ IfUnfetched (Err e) holds = ⊤
 
 -- a get of the key was made on the shard: one reply is appended to the replies, of a kind that a get may have, and the
 -- entry with it and the stamp to the calls
-pub record HasFetched (tag : Tag) (shard : ℕ) (key : List ℕ) (replies replies' : List CallReply) (calls calls' : List Entry)
-    (stamp : ℕ) : Type 0 where
+pub record HasFetched (tag : Tag) (shard : ℕ) (key : List ℕ) (replies replies' : List CallReply)
+    (calls calls' : List Entry) (stamp : ℕ) : Type 0 where
   pub reply : CallReply
   pub kind : MayAnswer (Get key) reply
   pub replied : replies' ≡ replies ++ reply ∷ []
