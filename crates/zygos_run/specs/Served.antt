@@ -11,8 +11,8 @@ use Rattle.zygos_run.specs.Ends.{OfTask, CarriesOut}
 
 -- ---- bytes that are reported
 
--- the command that has this answer was asked for and carried out on all bytes that the source reported, if it reads
--- any, and all of its text was written: of `run`, by the first row of `task_of`, `IsWritten` of these bytes
+-- the command that has this answer was asked for and carried out on all bytes that the source reported, if it reads any,
+-- and all of its text was written: of `run`, by the first row of `task_of`, `IsWritten` of these bytes
 abbrev pub HeadlineHolds : Option Request → Seen → Answer → Type 0
 HeadlineHolds request call answer = CarriesOut request answer (OfTold call.source) (WasWritten call.sink)
 
