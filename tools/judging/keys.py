@@ -128,7 +128,7 @@ class Keys:
         return [event for event in events[bisect_left(latest, begin) : bisect_right(begins, end)] if event.end >= begin]
 
     def near(self, key, some, count):
-        """These calls on a key, those between them by their begins, and so many more on both sides."""
+        """These calls on a key, those between them by their begins, and `count` more on both sides."""
         begins = [event.begin for event in some]
         _, all_begins = self.reach_of(key)
         return self.events[key][max(0, bisect_left(all_begins, min(begins)) - count) :

@@ -62,7 +62,7 @@ before (Bytes Value) d = head d ++ (to_value d ++ to_be_bytes w32 d.size)
 before (Bytes FoundValue) d = head d ++ (call_text (call_in d) ++ hit_code ∷ (to_be_bytes w32 d.found_flags ++ (to_be_bytes w64 d.found_unique ++ to_be_bytes w32 d.size)))
 before due d = []
 
--- the bytes up to the place where this is expected, which are so many
+-- the first `at` bytes, up to the place where this is expected
 abbrev pub bytes_of : Due → ReadState → ℕ → List ℕ
 bytes_of (Byte Magic) s at = take at magic
 bytes_of Nothing s at = front s.entries s.holds ++ 69 ∷ []
@@ -163,7 +163,7 @@ Known (Bytes Value) past d hs = HeadKnown past d hs × KeyKnown d × FlagsKnown 
 Known (Bytes FoundValue) past d hs = FoundKnown past d hs × (d.size ≤ value_limit)
 Known due past d hs = ⊤
 
--- what is known of what is expected, before which there are so many bytes
+-- what is known of what is expected after `at` bytes
 abbrev pub FieldKnown : Due → ReadState → ℕ → Type 0
 FieldKnown (Byte Magic) s at = (at < 8) × (s.entries ≡ []) × (s.holds ≡ [])
 FieldKnown (Bytes field) s at = 0 < s.draft.size

@@ -233,7 +233,7 @@ journal_judged Nothing s at bytes = Wrong (Form at)
 
 -- ---- the fields
 
--- the shape of the field that is expected, of which a key or a value has so many bytes
+-- the shape of the field that is expected, where a key or a value has `size` bytes
 abbrev pub journal_shape : Due → ℕ → Shape
 journal_shape (Number field) size = Shapes.Four
 journal_shape (Long field) size = Shapes.Eight

@@ -60,8 +60,8 @@ ringing core p = passed p.bells p.core (change_at rings core p.views)
 abbrev pub ringing_from : ℕ → Rooted → Rooted
 ringing_from core r = rooted r.bells r.given (change_at rings core r.views)
 
--- the token of the pass's core was taken, in a rest before which the core had made so many steps on the control words,
--- if the rest was given its pass on them
+-- the token of the pass's core was taken; before that rest the core had made `steps` steps on the control words, if the
+-- rest was given its pass on them
 abbrev pub resting : Option ℕ → Passed → Passed
 resting steps p = passed p.bells p.core (change_at (takes steps) p.core p.views)
 

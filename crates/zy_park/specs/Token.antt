@@ -20,7 +20,7 @@ unrung = view 0 0 false None
 abbrev pub rings : View → View
 rings v = view (v.rung + 1) v.taken true v.rested_at
 
--- the seat has taken the token, which was no longer there after that step, in a rest of a core that had made so many
+-- the seat has taken the token, which was no longer there after that step; before that rest its core had made `steps`
 -- steps on the control words, if the rest was given its pass on them
 abbrev pub takes : Option ℕ → View → View
 takes steps v = view v.rung (v.taken + 1) false steps

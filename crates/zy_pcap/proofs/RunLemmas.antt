@@ -85,7 +85,7 @@ pub stops_at : (f : ℕ → Option ℕ) (at n m : ℕ) → length (longest_from 
 stops_at f at n m all none =
     parts_from f at n m all ∙ ap (λ (l : List ℕ). longest_from f at n ++ l) (none_from f (at + n) m none) ∙ append-nil (longest_from f at n)
 
--- as many as there are, are there; and the next one is not, where there might be more
+-- the longest run of at most its own length is the same run
 self_by : (f : ℕ → Option ℕ) (at n : ℕ) (byte : Option ℕ) → f at ≡ byte → longest_from f (at + 1) (length (longest_from f (at + 1) n)) ≡ longest_from f (at + 1) n
     → longest_from f at (length (longest_from f at (suc n))) ≡ longest_from f at (suc n)
 self_by f at n None is rest = rw (step_none f at n is) refl
@@ -165,7 +165,7 @@ nothing_there f at n most some none =
 
 -- ---- a segment
 
--- what a segment of so many bytes at most takes of the bytes up to an end, and what it leaves
+-- what a segment of at most `limit` bytes takes of the bytes up to an end, and what it leaves
 pub record Segment (f : ℕ → Option ℕ) (at n limit size : ℕ) : Type 0 where
   pub all : length (longest_from f at size) ≡ size
   pub takes : take limit (longest_from f at n) ≡ longest_from f at size

@@ -157,7 +157,7 @@ impl KeptStream {
     }
 
     // The number of bytes that are there from an offset on, up to the first one that is not, and at
-    // most so many.
+    // most `most`.
     pub(crate) fn run_size(&self, at: u32, most: u32) -> u32
         requires within { at + most ≤ 2 ^ 31 }
         ensures value { result ≡ length (longest_from (byte_held self.now) at most) }

@@ -30,7 +30,7 @@ pub(crate) fn measured<R: CpuClock>(rt: &R, alloc: Global, rounds: u64) -> Resul
     }
 }
 
-// The number of commands in so many rounds.
+// The number of commands in `rounds` rounds.
 fn read_rounds(alloc: Global, traffic: &Blob, rounds: u64) -> Result<u64, NoMemory> {
     let mut framer = Framer::new(alloc);
     let mut frames = Frames::new(alloc);

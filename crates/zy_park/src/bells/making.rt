@@ -8,7 +8,7 @@ use crate::pass::BellRoot;
 use std::alloc::Global;
 use zy_base::NoMemory;
 
-// Adds bells for so many cores to none.
+// Adds the bells of `cores` cores, where there are none.
 pub(crate) fn add_all(
     alloc: Global,
     cores: u32,

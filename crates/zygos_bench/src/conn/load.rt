@@ -39,7 +39,7 @@ pub(crate) fn text_of(alloc: Global, first: u64, size: u64) -> Result<Blob, NoMe
     }
 }
 
-// Appends so many commands from this one on.
+// Appends `size` commands from this one on.
 fn spell_all(text: &mut Blob, first: u64, size: u64) -> Result<(), NoMemory> {
     for at in 0..size {
         spell(text, first.wrapping_add(at))?;

@@ -38,7 +38,7 @@ fn make_rounds<R: CpuClock>(
     Ok(spent)
 }
 
-// The nanoseconds of one round, the calls of so many commands from this one on.
+// The nanoseconds of one round: the calls of `size` commands from this one on.
 fn make_round<R: CpuClock>(
     rt: &R,
     alloc: Global,

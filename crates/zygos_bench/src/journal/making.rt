@@ -30,7 +30,7 @@ pub(crate) fn history(alloc: Global, shard: u32, count: u64) -> Result<Entries, 
     }
 }
 
-// Appends so many entries of a shard where there are none.
+// Appends `count` entries of a shard, where there are none.
 fn add_entries(alloc: Global, entries: &mut Entries, shard: u32, count: u64) -> Result<(), NoMemory>
     requires none { entries.old ≡ [] }
     requires shard { shard < 256 }

@@ -65,7 +65,7 @@ pub(crate) fn pass_alone<R: Wait>(rt: &R, alloc: Global, calls: u64) -> Result<(
     made
 }
 
-/// Makes so many calls on a new store, by one pass.
+/// Makes `calls` calls on a new store, by one pass.
 pub(crate) fn call_alone<R: Wait>(
     rt: &R,
     alloc: Global,

@@ -3,7 +3,7 @@ use Rattle.zy_pcap.specs.Session.{longest_from}
 use Rattle.zy_pcap.specs.Chunk.{byte_held}
 use Rattle.zy_pcap.proofs.kept_stream.KeptStream.run_size.Given as goal
 
--- so many bytes are there
+-- the first `size` bytes from here are there
 abbrev pub invariant-loop-size : goal.invariant-loop-size
 invariant-loop-size l = record {
   within : l.size ≤ l.most;
