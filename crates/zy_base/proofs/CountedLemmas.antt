@@ -1,7 +1,6 @@
 -- What a shard counts in a replay is counted from the entries alone.
 use Rattle.std.specs.Prelude.{◌==◌, nat_lt, count_by, is_some, Option, None, Some, ⊤}
 use Rattle.std.proofs.Common.{◌≡◌, ℕ, ◌+◌, ◌-◌, ◌≤◌, Bool, true, false, cond, List, [], ◌∷◌, ◌++◌, length, refl, sym, ap, ◌∙◌, subst, arith}
-use Rattle.std.proofs.lemmas.List.{append_assoc, append-nil}
 use Rattle.std.proofs.lemmas.List.Sums.{sum_by-cons, count_by-le-length}
 use Rattle.std.specs.Ordering.{nat_cmp, eq_by_cmp}
 use Rattle.std.specs.Cmp.Lexicographic.{slice_cmp, nat_list_cmp_total}
@@ -13,14 +12,10 @@ use Rattle.zy_base.specs.declared.call_reply.CallReply.TheVariants.{TooLarge, Ex
 use Rattle.zy_base.specs.declared.entry.Entry.{Entry}
 use Rattle.zy_base.specs.declared.tallied.Tallied.{Tallied}
 use Rattle.zy_base.specs.Call.{key_of}
-use Rattle.zy_base.specs.Code.{tally}
 use Rattle.zy_base.specs.Number.{number_of}
 use Rattle.zy_base.specs.Counted.{is_get, is_set, is_hit, is_miss, one_more_if, KeySet, no_keys, keys_with, keys_after, counted}
 use Rattle.zy_base.specs.Shard.{Items, State, empty_state, tallied, Outcome, value_limit, answers, stored, counted_up, counted_down, outcome_of, item_at, reply_to, state_with, state_after}
-use Rattle.zy_base.specs.Order.{at_shard}
-use Rattle.zy_base.specs.History.{IsReplay, replayed, IsLegal, answer_after, AreAnswered}
-use Rattle.zy_base.proofs.LegalLemmas.{legal_parts}
-use Rattle.zy_base.proofs.ReplayLemmas.{IsLegal-push, IsLegal-front, IsLegal-shard, IsLegal-reply}
+use Rattle.zy_base.specs.History.{IsReplay, replayed}
 
 -- ---- calls
 
@@ -188,10 +183,6 @@ tallied-replayed shards number es replay =
     let items' = sym (keys_are shards number empty_state no_keys es no_items replay).size in
     λ i. record { gets = gets' i; sets = sets' i; hits = hits' i; misses = misses' i; items = items' i }
 
--- the items that are counted are those of the shard
-pub items-counted : (shards number : ℕ) (es : List Entry) → IsReplay shards number empty_state es → (counted es).items ≡ len (replayed shards number empty_state es).items
-items-counted shards number es replay = (keys_are shards number empty_state no_keys es no_items replay).size
-
 -- there are as many gets, and as many calls that store a value, as entries at most
 pub gets_within : (shards number : ℕ) (es : List Entry) → (replayed shards number empty_state es).calls.gets ≤ length es
 gets_within shards number es =
@@ -204,39 +195,3 @@ sets_within shards number es =
     let is = sets_are shards number empty_state es in
     let most = count_by-le-length (λ (e : Entry). is_set e.call) es in
     omega (arith, is, most)
-
--- ---- all shards
-
--- a shard answers each call as after these entries
-answer_is : (shards number : ℕ) (before : List Entry) (call : Call) → IsReplay shards number empty_state before
-    → reply_to (replayed shards number empty_state before) call ≡ answer_after shards number before call
-answer_is shards number before Tally replay = ap tally (tallied-replayed shards number before replay)
-answer_is shards number before call replay = refl
-
--- the entries of a legal list are answered so
-answered_from : (shards : ℕ) (before es : List Entry) → IsLegal shards (before ++ es) → AreAnswered shards before es
-answered_from shards before [] legal = tt
-answered_from shards before (e ∷ es) legal =
-    let whole : IsLegal shards ((before ++ e ∷ []) ++ es) = subst (IsLegal shards) (sym (append_assoc before (e ∷ []) es)) legal in
-    let front = IsLegal-front shards (before ++ e ∷ []) es whole in (
-      IsLegal-shard shards before e front,
-      IsLegal-reply shards before e front
-          ∙ answer_is shards e.shard (at_shard e.shard before) e.call (legal_parts shards (λ number. empty_state) before (IsLegal-front shards before (e ∷ []) front) e.shard),
-      answered_from shards (before ++ e ∷ []) es whole,
-    )
-
-pub legal_answered : (shards : ℕ) (es : List Entry) → IsLegal shards es → AreAnswered shards [] es
-legal_answered shards es legal = answered_from shards [] es legal
-
--- and a list that is answered so is legal
-legal_from : (shards : ℕ) (before es : List Entry) → IsLegal shards before → AreAnswered shards before es → IsLegal shards (before ++ es)
-legal_from shards before [] legal answered = subst (IsLegal shards) (sym (append-nil before)) legal
-legal_from shards before (e ∷ es) legal answered =
-    subst (IsLegal shards) (append_assoc before (e ∷ []) es)
-    (legal_from shards (before ++ e ∷ []) es
-    (IsLegal-push shards before e legal answered.0
-    (answered.1 ∙ sym (answer_is shards e.shard (at_shard e.shard before) e.call (legal_parts shards (λ number. empty_state) before legal e.shard))))
-    answered.2)
-
-pub answered_legal : (shards : ℕ) (es : List Entry) → AreAnswered shards [] es → IsLegal shards es
-answered_legal shards es answered = legal_from shards [] es tt answered

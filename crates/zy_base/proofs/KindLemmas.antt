@@ -1,16 +1,14 @@
 -- Each call gets a reply of a kind that the table of calls gives for it.
 use Rattle.std.specs.Prelude.{Option, None, Some, nat_lt, ◌==◌}
-use Rattle.std.proofs.Common.{ℕ, Bool, true, false, cond, List, [], ◌∷◌, ◌++◌, length, sym, subst}
+use Rattle.std.proofs.Common.{ℕ, Bool, true, false, cond, List, ◌++◌, length}
 use Rattle.zy_base.specs.declared.item.Item.{Item}
 use Rattle.zy_base.specs.declared.call.Call.{Call}
 use Rattle.zy_base.specs.declared.call.Call.TheVariants.{Get, Set, Add, Replace, Append, Prepend, Cas, Incr, Decr, Delete, Flush, Tally}
-use Rattle.zy_base.specs.declared.entry.Entry.{Entry}
 use Rattle.zy_base.specs.declared.tallied.Tallied.{Tallied}
 use Rattle.zy_base.specs.Number.{number_of}
-use Rattle.zy_base.specs.Shard.{State, Outcome, value_limit, counted_up, counted_down, tallied, outcome_of, item_at, reply_to, state_after}
+use Rattle.zy_base.specs.Shard.{State, Outcome, value_limit, counted_up, counted_down, tallied, outcome_of, item_at, reply_to}
 use Rattle.zy_base.specs.Call.{key_of}
-use Rattle.zy_base.specs.Kind.{MayAnswer, AreAnswers}
-use Rattle.zy_base.specs.History.{IsReplay, IsLegalFrom, states_after}
+use Rattle.zy_base.specs.Kind.{MayAnswer}
 
 chosen : (call : Call) (b : Bool) (x y : Outcome) → MayAnswer call x.reply → MayAnswer call y.reply → MayAnswer call (cond b x y).reply
 chosen call true x y here there = here
@@ -54,19 +52,3 @@ outcome_answers counts Tally (Some item) = tt
 -- the reply of a shard
 pub reply_answers : (state : State) (call : Call) → MayAnswer call (reply_to state call)
 reply_answers state call = outcome_answers (tallied state) call (item_at state.items (key_of call))
-
--- the replies of a replay
-pub replay_answers : (shards number : ℕ) (state : State) (es : List Entry) → IsReplay shards number state es → AreAnswers es
-replay_answers shards number state [] replay = tt
-replay_answers shards number state (e ∷ es) replay = (
-  subst (MayAnswer e.call) (sym replay.0) (reply_answers state e.call),
-  replay_answers shards number (state_after shards number state e.call) es replay.1,
-)
-
--- the replies of a legal list
-pub legal_answers : (shards : ℕ) (states : ℕ → State) (es : List Entry) → IsLegalFrom shards states es → AreAnswers es
-legal_answers shards states [] legal = tt
-legal_answers shards states (e ∷ es) legal = (
-  subst (MayAnswer e.call) (sym legal.1) (reply_answers (states e.shard) e.call),
-  legal_answers shards (states_after shards states e) es legal.2,
-)

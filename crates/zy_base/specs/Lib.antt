@@ -16,5 +16,4 @@ pub mod Replies
 pub mod History
 pub mod Reserved
 pub mod Filling
-pub mod Worked
 pub mod Held

@@ -1,0 +1,239 @@
+-- The replies to the calls on one key, uniques aside, depend on these calls and the flushes alone.
+use Rattle.std.proofs.Common.{◌≡◌, ℕ, Bool, true, false, cond, List, [], ◌∷◌, ◌++◌, length, refl, sym, ap, ◌∙◌}
+use Rattle.std.specs.Prelude.{Option, None, Some, nat_lt, ◌==◌}
+use Rattle.std.specs.Ordering.{nat_cmp, is_eq}
+use Rattle.std.specs.declared.cmp.Ordering.{Ordering}
+use Rattle.std.specs.declared.cmp.Ordering.TheVariants.{Less, Equal, Greater}
+use Rattle.std.specs.Cmp.Lexicographic.{slice_cmp, nat_list_cmp_total}
+use Rattle.std.specs.FinMap.{get, get-empty, get-insert, get-remove, slice_cmp-IsAntisymmetric, nat_cmp-IsAntisymmetric}
+use Rattle.zy_base.specs.declared.item.Item.{Item}
+use Rattle.zy_base.specs.declared.call.Call.{Call}
+use Rattle.zy_base.specs.declared.call.Call.TheVariants.{Get, Set, Add, Replace, Append, Prepend, Cas, Incr, Decr, Delete, Flush, Tally}
+use Rattle.zy_base.specs.declared.call_reply.CallReply.{CallReply}
+use Rattle.zy_base.specs.declared.call_reply.CallReply.TheVariants.{Stored, TooLarge}
+use Rattle.zy_base.specs.declared.tallied.Tallied.{Tallied}
+use Rattle.zy_base.specs.Call.{key_of}
+use Rattle.zy_base.specs.Number.{number_of}
+use Rattle.zy_base.specs.Shard.{Items, State, tallied, Effect, keeps, stores, removes, empties, Outcome, value_limit, joined, counted_up, counted_down, outcome_of, outcome_on, item_at, state_with, state_after, reply_to}
+use Rattle.shard_laws.specs.KeyReplies.{is_cas, AreWithoutCas, is_same, is_key, is_about, calls_about, without_unique, replies_about}
+
+-- ---- one key without uniques
+
+-- an item without its unique
+abbrev plain_item : Item → Item
+plain_item item = record { flags = item.flags; value = item.value; unique = 0 }
+
+-- the item of a key, without the unique
+abbrev plain : Option Item → Option Item
+plain None = None
+plain (Some item) = Some (plain_item item)
+
+-- the item of a key after an effect on it, without the unique
+abbrev plain_after : Option Item → Effect → Option Item
+plain_after found keeps = found
+plain_after found (stores key flags value) = Some (record { flags = flags; value = value; unique = 0 })
+plain_after found (removes key) = None
+plain_after found empties = None
+
+-- what a shard counts, of which calls on a key do not depend
+abbrev nothing : Tallied
+nothing = record { gets = 0; sets = 0; hits = 0; misses = 0; items = 0 }
+
+-- the replies to the calls on one key, which has this item at first
+abbrev replies_from : Option Item → List Call → List CallReply
+replies_from found [] = []
+replies_from found (call ∷ calls) = (outcome_of nothing call found).reply ∷ replies_from (plain_after found (outcome_of nothing call found).effect) calls
+
+-- an outcome without the unique that it shows
+abbrev plain_outcome : Outcome → Outcome
+plain_outcome outcome = record { reply = without_unique outcome.reply; effect = outcome.effect }
+
+plain-joined : (key : List ℕ) (item : Item) (value : List ℕ) → plain_outcome (joined key item value) ≡ joined key (plain_item item) value
+plain-joined key item value = go (nat_lt value_limit (length value))
+  where
+    go : (b : Bool) → plain_outcome (cond b (record { reply = TooLarge; effect = keeps }) (record { reply = Stored; effect = stores key item.flags value })) ≡ cond b (record { reply = TooLarge; effect = keeps }) (record { reply = Stored; effect = stores key item.flags value })
+    go true = refl
+    go false = refl
+
+plain-counted_up : (key : List ℕ) (item : Item) (amount : ℕ) (number : Option ℕ) → plain_outcome (counted_up key item amount number) ≡ counted_up key (plain_item item) amount number
+plain-counted_up key item amount None = refl
+plain-counted_up key item amount (Some number) = refl
+
+plain-counted_down : (key : List ℕ) (item : Item) (amount : ℕ) (number : Option ℕ) → plain_outcome (counted_down key item amount number) ≡ counted_down key (plain_item item) amount number
+plain-counted_down key item amount None = refl
+plain-counted_down key item amount (Some number) = refl
+
+-- without a cas, no unique is read; a tally is not on a key
+plain-outcome_of : (counts : Tallied) (key : List ℕ) (call : Call) (found : Option Item) → is_about key call ≡ true → is_cas call ≡ false → plain_outcome (outcome_of counts call found) ≡ outcome_of nothing call (plain found)
+plain-outcome_of counts at (Get key) None about is = refl
+plain-outcome_of counts at (Get key) (Some item) about is = refl
+plain-outcome_of counts at (Set key flags value) None about is = refl
+plain-outcome_of counts at (Set key flags value) (Some item) about is = refl
+plain-outcome_of counts at (Add key flags value) None about is = refl
+plain-outcome_of counts at (Add key flags value) (Some item) about is = refl
+plain-outcome_of counts at (Replace key flags value) None about is = refl
+plain-outcome_of counts at (Replace key flags value) (Some item) about is = refl
+plain-outcome_of counts at (Append key value) None about is = refl
+plain-outcome_of counts at (Append key value) (Some item) about is = plain-joined key item (item.value ++ value)
+plain-outcome_of counts at (Prepend key value) None about is = refl
+plain-outcome_of counts at (Prepend key value) (Some item) about is = plain-joined key item (value ++ item.value)
+plain-outcome_of counts at (Cas flags key unique value) found about is = cc
+plain-outcome_of counts at (Incr key amount) None about is = refl
+plain-outcome_of counts at (Incr key amount) (Some item) about is = plain-counted_up key item amount (number_of item.value)
+plain-outcome_of counts at (Decr key amount) None about is = refl
+plain-outcome_of counts at (Decr key amount) (Some item) about is = plain-counted_down key item amount (number_of item.value)
+plain-outcome_of counts at (Delete key) None about is = refl
+plain-outcome_of counts at (Delete key) (Some item) about is = refl
+plain-outcome_of counts at Flush None about is = refl
+plain-outcome_of counts at Flush (Some item) about is = refl
+plain-outcome_of counts at Tally found about is = cc
+
+-- ---- a call touches its own key
+
+-- an effect is on this key, or on all keys where there is none
+abbrev IsFor : Option (List ℕ) → Effect → Type 0
+IsFor on keeps = Unit {0}
+IsFor None (stores key flags value) = ⊥
+IsFor None (removes key) = ⊥
+IsFor None empties = Unit {0}
+IsFor (Some on) (stores key flags value) = key ≡ on
+IsFor (Some on) (removes key) = key ≡ on
+IsFor (Some on) empties = ⊥
+
+chosen_for : (on : Option (List ℕ)) (b : Bool) (x y : Outcome) → IsFor on x.effect → IsFor on y.effect → IsFor on (cond b x y).effect
+chosen_for on true x y here there = here
+chosen_for on false x y here there = there
+
+counted_up_for : (key : List ℕ) (item : Item) (amount : ℕ) (number : Option ℕ) → IsFor (Some key) (counted_up key item amount number).effect
+counted_up_for key item amount None = tt
+counted_up_for key item amount (Some number) = refl
+
+counted_down_for : (key : List ℕ) (item : Item) (amount : ℕ) (number : Option ℕ) → IsFor (Some key) (counted_down key item amount number).effect
+counted_down_for key item amount None = tt
+counted_down_for key item amount (Some number) = refl
+
+effect_for : (counts : Tallied) (call : Call) (found : Option Item) → IsFor (key_of call) (outcome_of counts call found).effect
+effect_for counts (Get key) None = tt
+effect_for counts (Get key) (Some item) = tt
+effect_for counts (Set key flags value) None = refl
+effect_for counts (Set key flags value) (Some item) = refl
+effect_for counts (Add key flags value) None = refl
+effect_for counts (Add key flags value) (Some item) = tt
+effect_for counts (Replace key flags value) None = tt
+effect_for counts (Replace key flags value) (Some item) = refl
+effect_for counts (Append key value) None = tt
+effect_for counts (Append key value) (Some item) = chosen_for (Some key) (nat_lt value_limit (length (item.value ++ value))) _ _ tt refl
+effect_for counts (Prepend key value) None = tt
+effect_for counts (Prepend key value) (Some item) = chosen_for (Some key) (nat_lt value_limit (length (value ++ item.value))) _ _ tt refl
+effect_for counts (Cas flags key unique value) None = tt
+effect_for counts (Cas flags key unique value) (Some item) = chosen_for (Some key) (item.unique == unique) _ _ refl tt
+effect_for counts (Incr key amount) None = tt
+effect_for counts (Incr key amount) (Some item) = counted_up_for key item amount (number_of item.value)
+effect_for counts (Decr key amount) None = tt
+effect_for counts (Decr key amount) (Some item) = counted_down_for key item amount (number_of item.value)
+effect_for counts (Delete key) None = tt
+effect_for counts (Delete key) (Some item) = refl
+effect_for counts Flush None = tt
+effect_for counts Flush (Some item) = tt
+effect_for counts Tally found = tt
+
+chosen : {A : Type 0} (b : Bool) (x y : A) → b ≡ true → cond b x y ≡ x
+chosen true x y is = refl
+chosen false x y is = cc
+
+other : {A : Type 0} (b : Bool) (x y : A) → b ≡ false → cond b x y ≡ y
+other true x y is = cc
+other false x y is = refl
+
+-- the item of another key stays
+elsewhere : (shards number : ℕ) (state : State) (key : List ℕ) (on : Option (List ℕ)) (effect : Effect) → IsFor on effect → is_key key on ≡ false
+    → get (state_with shards number state effect).items key ≡ get state.items key
+elsewhere shards number state key on keeps for is = refl
+elsewhere shards number state key None (stores k flags value) for is = absurd for
+elsewhere shards number state key None (removes k) for is = absurd for
+elsewhere shards number state key None empties for is = cc
+elsewhere shards number state key (Some on) (stores k flags value) for is =
+    get-insert nat_list_cmp_total state.items k _ key ∙ other (is_same key k) _ _ (ap (is_same key) for ∙ is)
+elsewhere shards number state key (Some on) (removes k) for is =
+    get-remove nat_list_cmp_total state.items k key ∙ other (is_same key k) _ _ (ap (is_same key) for ∙ is)
+elsewhere shards number state key (Some on) empties for is = absurd for
+
+-- the item of the key itself
+here : (shards number : ℕ) (state : State) (key : List ℕ) (on : Option (List ℕ)) (effect : Effect) → IsFor on effect → is_key key on ≡ true
+    → plain (get (state_with shards number state effect).items key) ≡ plain_after (plain (get state.items key)) effect
+here shards number state key on keeps for is = refl
+here shards number state key None (stores k flags value) for is = absurd for
+here shards number state key None (removes k) for is = absurd for
+here shards number state key None empties for is = ap plain (get-empty (slice_cmp nat_cmp) key)
+here shards number state key (Some on) (stores k flags value) for is =
+    ap plain (get-insert nat_list_cmp_total state.items k _ key ∙ chosen (is_same key k) _ _ (ap (is_same key) for ∙ is))
+here shards number state key (Some on) (removes k) for is =
+    ap plain (get-remove nat_list_cmp_total state.items k key ∙ chosen (is_same key k) _ _ (ap (is_same key) for ∙ is))
+here shards number state key (Some on) empties for is = absurd for
+
+-- ---- a call on the key
+
+equal : (order : Ordering) → is_eq order ≡ true → order ≡ Equal
+equal Less is = cc
+equal Equal is = refl
+equal Greater is = cc
+
+same_item : (items : Items) (key other : List ℕ) → is_same key other ≡ true → get items other ≡ get items key
+same_item items key other is = ap (get items) (sym (slice_cmp-IsAntisymmetric nat_cmp-IsAntisymmetric key other (equal _ is)))
+
+-- the outcome of a call about the key is its outcome on the item of the key
+finds : (state : State) (key : List ℕ) (call : Call) → is_about key call ≡ true → outcome_on state call ≡ outcome_of (tallied state) call (get state.items key)
+finds state key (Get k) is = ap (outcome_of (tallied state) (Get k)) (same_item state.items key k is)
+finds state key (Set k flags value) is = ap (outcome_of (tallied state) (Set k flags value)) (same_item state.items key k is)
+finds state key (Add k flags value) is = ap (outcome_of (tallied state) (Add k flags value)) (same_item state.items key k is)
+finds state key (Replace k flags value) is = ap (outcome_of (tallied state) (Replace k flags value)) (same_item state.items key k is)
+finds state key (Append k value) is = ap (outcome_of (tallied state) (Append k value)) (same_item state.items key k is)
+finds state key (Prepend k value) is = ap (outcome_of (tallied state) (Prepend k value)) (same_item state.items key k is)
+finds state key (Cas flags k unique value) is = ap (outcome_of (tallied state) (Cas flags k unique value)) (same_item state.items key k is)
+finds state key (Incr k amount) is = ap (outcome_of (tallied state) (Incr k amount)) (same_item state.items key k is)
+finds state key (Decr k amount) is = ap (outcome_of (tallied state) (Decr k amount)) (same_item state.items key k is)
+finds state key (Delete k) is = ap (outcome_of (tallied state) (Delete k)) (same_item state.items key k is)
+finds state key Flush is = refl
+finds state key Tally is = cc
+
+plain-outcome_on : (state : State) (key : List ℕ) (call : Call) → is_about key call ≡ true → is_cas call ≡ false → plain_outcome (outcome_on state call) ≡ outcome_of nothing call (plain (get state.items key))
+plain-outcome_on state key call is no_cas = ap plain_outcome (finds state key call is) ∙ plain-outcome_of (tallied state) key call (get state.items key) is no_cas
+
+-- a call about the key has that key, or none
+about_key : (key : List ℕ) (call : Call) → is_about key call ≡ true → is_key key (key_of call) ≡ true
+about_key key Tally is = cc
+about_key key call is = is
+
+-- a call that is not about the key leaves its item
+untouched : (shards number : ℕ) (state : State) (key : List ℕ) (call : Call) → is_about key call ≡ false → get (state_after shards number state call).items key ≡ get state.items key
+untouched shards number state key Tally is = refl
+untouched shards number state key call is = elsewhere shards number state key (key_of call) (outcome_on state call).effect (effect_for (tallied state) call (item_at state.items (key_of call))) is
+
+-- ---- along a list
+
+step : (shards number : ℕ) (state : State) (key : List ℕ) (call : Call) (rest : List CallReply) (calls : List Call) (b : Bool) → is_about key call ≡ b → is_cas call ≡ false
+    → rest ≡ replies_from (plain (get (state_after shards number state call).items key)) calls
+    → cond b (without_unique (reply_to state call) ∷ rest) rest ≡ replies_from (plain (get state.items key)) (cond b (call ∷ calls) calls)
+step shards number state key call rest calls true is no_cas more =
+    let outcome : plain_outcome (outcome_on state call) ≡ outcome_of nothing call (plain (get state.items key)) = plain-outcome_on state key call is no_cas in
+    let after : plain (get (state_after shards number state call).items key) ≡ plain_after (plain (get state.items key)) (outcome_of nothing call (plain (get state.items key))).effect =
+    here shards number state key (key_of call) (outcome_on state call).effect (effect_for (tallied state) call _) (about_key key call is) ∙ ap (λ o. plain_after (plain (get state.items key)) o.effect) outcome in
+    (λ i. (outcome i).reply ∷ (more ∙ ap (λ found. replies_from found calls) after) i)
+step shards number state key call rest calls false is no_cas more =
+    more ∙ ap (λ found. replies_from (plain found) calls) (untouched shards number state key call is)
+
+-- the replies are those of the calls on the key, made on the item of the key
+pub replies_alone : (shards number : ℕ) (state : State) (key : List ℕ) (calls : List Call) → AreWithoutCas calls
+    → replies_about shards number state key calls ≡ replies_from (plain (get state.items key)) (calls_about key calls)
+replies_alone shards number state key [] no_cas = refl
+replies_alone shards number state key (call ∷ calls) no_cas =
+    step shards number state key call (replies_about shards number (state_after shards number state call) key calls) (calls_about key calls) (is_about key call) refl no_cas.0
+    (replies_alone shards number (state_after shards number state call) key calls no_cas.1)
+
+-- two lists with the same calls on a key have the same replies to them
+pub replies_agree : (shards number shards' number' : ℕ) (state : State) (key : List ℕ) (calls calls' : List Call) → AreWithoutCas calls → AreWithoutCas calls' → calls_about key calls ≡ calls_about key calls'
+    → replies_about shards number state key calls ≡ replies_about shards' number' state key calls'
+replies_agree shards number shards' number' state key calls calls' no_cas no_cas' same =
+    replies_alone shards number state key calls no_cas
+    ∙ ap (replies_from (plain (get state.items key))) same
+    ∙ sym (replies_alone shards' number' state key calls' no_cas')
