@@ -7,14 +7,17 @@ use Rattle.std.specs.Cmp.Lexicographic.{slice_cmp, nat_list_cmp_total}
 use Rattle.std.specs.FinMap.{empty, get, contains_key, insert, remove, len, get-empty, get-insert, get-remove, len-empty, len-insert, len-remove}
 use Rattle.zy_base.specs.declared.item.Item.{Item}
 use Rattle.zy_base.specs.declared.call.Call.{Call}
-use Rattle.zy_base.specs.declared.call.Call.TheVariants.{Get, Set, Add, Replace, Append, Prepend, Cas, Incr, Decr, Delete, Flush, Tally}
-use Rattle.zy_base.specs.declared.call_reply.CallReply.TheVariants.{TooLarge, Exists}
+use Rattle.zy_base.specs.declared.call_reply.CallReply.TheVariants.{Hit, Stored, Number, Deleted, TooLarge, Exists}
 use Rattle.zy_base.specs.declared.entry.Entry.{Entry}
 use Rattle.zy_base.specs.declared.tallied.Tallied.{Tallied}
 use Rattle.zy_base.specs.Call.{key_of}
 use Rattle.zy_base.specs.Number.{number_of}
-use Rattle.zy_base.specs.Counted.{is_get, is_set, is_hit, is_miss, one_more_if, KeySet, no_keys, keys_with, keys_after, counted}
-use Rattle.zy_base.specs.Shard.{Items, State, empty_state, tallied, Outcome, value_limit, answers, stored, counted_up, counted_down, outcome_of, item_at, reply_to, state_with, state_after}
+use Rattle.zy_base.specs.Table.{CallParts, parts_of, Act, Acts, says, shows, puts, appends, prepends, exchanges, counts_up, counts_down, takes, clears, tallies, always, by_item}
+use Rattle.zy_base.specs.Code.{there, call_row, call_kind, fields_of}
+use Rattle.zy_base.specs.Kind.{Holds}
+use Rattle.zy_base.proofs.TableLemmas.{holds_both, says_mute, say_mute, rows_say, is_at_one, needs_none, are_at, rows_at}
+use Rattle.zy_base.specs.Counted.{is_get, is_set, is_hit, is_miss, one_more_if, KeySet, no_keys, keys_by, keys_past, keys_with, keys_after, counted}
+use Rattle.zy_base.specs.Shard.{Items, State, empty_state, tallied, Outcome, value_limit, answers, stored, counted_up, counted_down, done, done_of, outcome_of, item_at, reply_to, state_with, state_after}
 use Rattle.zy_base.specs.History.{IsReplay, replayed}
 
 -- ---- calls
@@ -107,57 +110,69 @@ after_taken keys items key are = record {
 }
 
 module _ (shards number : ℕ) (state : State) (keys : KeySet) (are : AreKeys keys state.items) where
-  -- the keys after a call with this outcome
-  abbrev After : Call → Outcome → Type 0
-  After call outcome = AreKeys (keys_with keys call outcome.reply) (state_with shards number state outcome.effect).items
+  -- the keys after this outcome at a key
+  abbrev After : Option (List ℕ) → Outcome → Type 0
+  After key outcome = AreKeys (keys_by key outcome.reply keys) (state_with shards number state outcome.effect).items
 
   put : (key : List ℕ) (flags : ℕ) (value : List ℕ) → AreKeys (insert keys key tt) (state_with shards number state (stored key flags value).effect).items
   put key flags value = after_put keys state.items key _ are
 
-  joined : (call : Call) (key : List ℕ) (flags : ℕ) (value : List ℕ) (test : Bool) → After call (stored key flags value) → After call (answers TooLarge)
-      → After call (cond test (answers TooLarge) (stored key flags value))
-  joined call key flags value true small large = large
-  joined call key flags value false small large = small
+  joined : (key : List ℕ) (flags : ℕ) (value : List ℕ) (test : Bool) → After (Some key) (cond test (answers TooLarge) (stored key flags value))
+  joined key flags value true = are
+  joined key flags value false = put key flags value
 
-  exchanged : (key : List ℕ) (flags unique : ℕ) (value : List ℕ) (test : Bool) → After (Cas flags key unique value) (cond test (stored key flags value) (answers Exists))
-  exchanged key flags unique value true = put key flags value
-  exchanged key flags unique value false = are
+  exchanged : (key : List ℕ) (flags : ℕ) (value : List ℕ) (test : Bool) → After (Some key) (cond test (stored key flags value) (answers Exists))
+  exchanged key flags value true = put key flags value
+  exchanged key flags value false = are
 
-  up : (key : List ℕ) (item : Item) (amount : ℕ) (number : Option ℕ) → After (Incr key amount) (counted_up key item amount number)
+  up : (key : List ℕ) (item : Item) (amount : ℕ) (number : Option ℕ) → After (Some key) (counted_up key item amount number)
   up key item amount None = are
   up key item amount (Some n) = put key _ _
 
-  down : (key : List ℕ) (item : Item) (amount : ℕ) (number : Option ℕ) → After (Decr key amount) (counted_down key item amount number)
+  down : (key : List ℕ) (item : Item) (amount : ℕ) (number : Option ℕ) → After (Some key) (counted_down key item amount number)
   down key item amount None = are
   down key item amount (Some n) = put key _ _
 
-  after_outcome : (counts : Tallied) (call : Call) (found : Option Item) → After call (outcome_of counts call found)
-  after_outcome counts (Get key) None = are
-  after_outcome counts (Get key) (Some item) = are
-  after_outcome counts (Set key flags value) None = put key flags value
-  after_outcome counts (Set key flags value) (Some item) = put key flags value
-  after_outcome counts (Add key flags value) None = put key flags value
-  after_outcome counts (Add key flags value) (Some item) = are
-  after_outcome counts (Replace key flags value) None = are
-  after_outcome counts (Replace key flags value) (Some item) = put key flags value
-  after_outcome counts (Append key value) None = are
-  after_outcome counts (Append key value) (Some item) =
-      joined (Append key value) key item.flags (item.value ++ value) (nat_lt value_limit (length (item.value ++ value))) (put key _ _) are
-  after_outcome counts (Prepend key value) None = are
-  after_outcome counts (Prepend key value) (Some item) =
-      joined (Prepend key value) key item.flags (value ++ item.value) (nat_lt value_limit (length (value ++ item.value))) (put key _ _) are
-  after_outcome counts (Cas flags key unique value) None = are
-  after_outcome counts (Cas flags key unique value) (Some item) = exchanged key flags unique value (item.unique == unique)
-  after_outcome counts (Incr key amount) None = are
-  after_outcome counts (Incr key amount) (Some item) = up key item amount (number_of item.value)
-  after_outcome counts (Decr key amount) None = are
-  after_outcome counts (Decr key amount) (Some item) = down key item amount (number_of item.value)
-  after_outcome counts (Delete key) None = are
-  after_outcome counts (Delete key) (Some item) = after_taken keys state.items key are
-  after_outcome counts Flush None = no_items
-  after_outcome counts Flush (Some item) = no_items
-  after_outcome counts Tally None = are
-  after_outcome counts Tally (Some item) = are
+  -- after an act at the key of a call
+  after_done : (counts : Tallied) (call : CallParts) (act : Act) (found : Option Item) → Holds (says_mute act) → Holds (is_at_one act) → After (Some call.key) (done counts call act found)
+  after_done counts call (says (Hit flags unique value)) found mute at = absurd mute
+  after_done counts call (says Stored) found mute at = absurd mute
+  after_done counts call (says (Number n)) found mute at = absurd mute
+  after_done counts call (says Deleted) found mute at = absurd mute
+  after_done counts call shows (Some item) mute at = are
+  after_done counts call puts found mute at = put call.key call.flags call.value
+  after_done counts call appends (Some item) mute at = joined call.key item.flags (item.value ++ call.value) (nat_lt value_limit (length (item.value ++ call.value)))
+  after_done counts call prepends (Some item) mute at = joined call.key item.flags (call.value ++ item.value) (nat_lt value_limit (length (call.value ++ item.value)))
+  after_done counts call exchanges (Some item) mute at = exchanged call.key call.flags call.value (item.unique == call.number)
+  after_done counts call counts_up (Some item) mute at = up call.key item call.number (number_of item.value)
+  after_done counts call counts_down (Some item) mute at = down call.key item call.number (number_of item.value)
+  after_done counts call takes (Some item) mute at = after_taken keys state.items call.key are
+  after_done counts call clears found mute at = absurd at
+  after_done counts call act found mute at = are
+
+  -- after an act without a key
+  after_bare : (counts : Tallied) (call : CallParts) (act : Act) (found : Option Item) → Holds (needs_none act) → After None (done counts call act found)
+  after_bare counts call (says reply) found none = are
+  after_bare counts call shows None none = are
+  after_bare counts call shows (Some item) none = are
+  after_bare counts call tallies found none = are
+  after_bare counts call act found none = absurd none
+
+  -- after the acts of a row
+  after_row : (counts : Tallied) (call : CallParts) (b : Bool) (acts : Acts) (found : Option Item) → Holds (say_mute acts) → Holds (are_at b acts)
+      → AreKeys (keys_past acts (there b call.key) (done_of counts call acts found).reply keys) (state_with shards number state (done_of counts call acts found).effect).items
+  after_row counts call b (always clears) found mute at = no_items
+  after_row counts call true (always act) found mute at = after_done counts call act found mute tt
+  after_row counts call false (always act) found mute at = after_bare counts call act found at
+  after_row counts call true (by_item without with) None mute at = after_done counts call without None (holds_both _ _ mute).0 (holds_both _ _ at).0
+  after_row counts call true (by_item without with) (Some item) mute at = after_done counts call with (Some item) (holds_both _ _ mute).1 (holds_both _ _ at).1
+  after_row counts call false (by_item without with) None mute at = after_bare counts call without None (holds_both _ _ at).0
+  after_row counts call false (by_item without with) (Some item) mute at = after_bare counts call with (Some item) (holds_both _ _ at).1
+
+  after_outcome : (counts : Tallied) (call : Call) (found : Option Item)
+      → AreKeys (keys_with keys call (outcome_of counts call found).reply) (state_with shards number state (outcome_of counts call found).effect).items
+  after_outcome counts call found =
+      after_row counts (parts_of call) (fields_of (call_kind call)).key (call_row call).acts found (rows_say (call_kind call)) (rows_at (call_kind call))
 
 keys_are : (shards number : ℕ) (state : State) (keys : KeySet) (es : List Entry) → AreKeys keys state.items → IsReplay shards number state es
     → AreKeys (keys_after keys es) (replayed shards number state es).items

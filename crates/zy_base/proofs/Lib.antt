@@ -11,4 +11,5 @@ pub mod KeyLemmas
 pub mod ReplyLemmas
 pub mod SameLemmas
 pub mod CodeLemmas
+pub mod TableLemmas
 pub mod CountedLemmas

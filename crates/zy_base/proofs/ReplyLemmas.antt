@@ -10,12 +10,15 @@ use Rattle.std.proofs.lemmas.Fmt.{length-decimal-le}
 use borrow.Author.Tests.{ltb-true, ltb-false}
 use Rattle.zy_base.specs.declared.item.Item.{Item}
 use Rattle.zy_base.specs.declared.call.Call.{Call}
-use Rattle.zy_base.specs.declared.call.Call.TheVariants.{Get, Set, Add, Replace, Append, Prepend, Cas, Incr, Decr, Delete, Flush, Tally}
 use Rattle.zy_base.specs.declared.call_reply.CallReply.TheVariants as Replies
 use Rattle.zy_base.specs.declared.entry.Entry.{Entry}
 use Rattle.zy_base.specs.declared.tallied.Tallied.{Tallied}
 use Rattle.zy_base.specs.Number.{number_of, is_numeral}
-use Rattle.zy_base.specs.Shard.{State, Outcome, Effect, keeps, stores, removes, empties, empty_state, value_limit, answers, stored, joined, counted_up, counted_down, exchanged, tallied, outcome_of, item_at, state_after, state_with, unique_of}
+use Rattle.zy_base.specs.Shard.{State, Outcome, Effect, keeps, stores, removes, empties, empty_state, value_limit, answers, stored, joined, counted_up, counted_down, exchanged, tallied, done, done_of, outcome_of, item_at, state_after, state_with, unique_of}
+use Rattle.zy_base.specs.Table.{CallParts, parts_of, Act, Acts, says, shows, puts, appends, prepends, exchanges, counts_up, counts_down, takes, always, by_item}
+use Rattle.zy_base.specs.Code.{call_row, call_kind}
+use Rattle.zy_base.specs.Kind.{Holds}
+use Rattle.zy_base.proofs.TableLemmas.{holds_both, says_mute, say_mute, rows_say, value_small}
 use Rattle.zy_base.specs.Call.{key_of}
 use Rattle.zy_base.specs.History.{IsLegalFrom, IsLegal, states_after}
 use Rattle.zy_base.specs.Bounds.{IsValue, IsCall, IsReply, IsFound, AreItems, IsEffect, IsCallWithin}
@@ -59,31 +62,25 @@ exchanged_within key item flags unique value small = go (item.unique == unique)
     go true = (tt, small)
     go false = (tt, tt)
 
+done_within : (counts : Tallied) (call : CallParts) (act : Act) (found : Option Item) → Holds (says_mute act) → IsValue call.value → IsFound found → IsOutcome (done counts call act found)
+done_within counts call (says (Replies.Hit flags unique value)) found mute is small = absurd mute
+done_within counts call puts found mute is small = (tt, is)
+done_within counts call shows (Some item) mute is small = (small, tt)
+done_within counts call appends (Some item) mute is small = joined_within call.key item (item.value ++ call.value)
+done_within counts call prepends (Some item) mute is small = joined_within call.key item (call.value ++ item.value)
+done_within counts call exchanges (Some item) mute is small = exchanged_within call.key item call.flags call.number call.value is
+done_within counts call counts_up (Some item) mute is small = up_within call.key item call.number (number_of item.value)
+done_within counts call counts_down (Some item) mute is small = down_within call.key item call.number (number_of item.value) refl
+done_within counts call takes (Some item) mute is small = (tt, tt)
+done_within counts call act found mute is small = (tt, tt)
+
+row_within : (counts : Tallied) (call : CallParts) (acts : Acts) (found : Option Item) → Holds (say_mute acts) → IsValue call.value → IsFound found → IsOutcome (done_of counts call acts found)
+row_within counts call (always act) found mute is small = done_within counts call act found mute is small
+row_within counts call (by_item without with) None mute is small = done_within counts call without None (holds_both _ _ mute).0 is small
+row_within counts call (by_item without with) (Some item) mute is small = done_within counts call with (Some item) (holds_both _ _ mute).1 is small
+
 outcome_within : (counts : Tallied) (call : Call) (found : Option Item) → IsCall call → IsFound found → IsOutcome (outcome_of counts call found)
-outcome_within counts (Get key) None is small = (tt, tt)
-outcome_within counts (Get key) (Some item) is small = (small, tt)
-outcome_within counts (Set key flags value) None is small = (tt, is.1)
-outcome_within counts (Set key flags value) (Some item) is small = (tt, is.1)
-outcome_within counts (Add key flags value) None is small = (tt, is.1)
-outcome_within counts (Add key flags value) (Some item) is small = (tt, tt)
-outcome_within counts (Replace key flags value) None is small = (tt, tt)
-outcome_within counts (Replace key flags value) (Some item) is small = (tt, is.1)
-outcome_within counts (Append key value) None is small = (tt, tt)
-outcome_within counts (Append key value) (Some item) is small = joined_within key item (item.value ++ value)
-outcome_within counts (Prepend key value) None is small = (tt, tt)
-outcome_within counts (Prepend key value) (Some item) is small = joined_within key item (value ++ item.value)
-outcome_within counts (Cas flags key unique value) None is small = (tt, tt)
-outcome_within counts (Cas flags key unique value) (Some item) is small = exchanged_within key item flags unique value is.1
-outcome_within counts (Incr key amount) None is small = (tt, tt)
-outcome_within counts (Incr key amount) (Some item) is small = up_within key item amount (number_of item.value)
-outcome_within counts (Decr key amount) None is small = (tt, tt)
-outcome_within counts (Decr key amount) (Some item) is small = down_within key item amount (number_of item.value) refl
-outcome_within counts (Delete key) None is small = (tt, tt)
-outcome_within counts (Delete key) (Some item) is small = (tt, tt)
-outcome_within counts Flush None is small = (tt, tt)
-outcome_within counts Flush (Some item) is small = (tt, tt)
-outcome_within counts Tally None is small = (tt, tt)
-outcome_within counts Tally (Some item) is small = (tt, tt)
+outcome_within counts call found is small = row_within counts (parts_of call) (call_row call).acts found (rows_say (call_kind call)) (value_small call is) small
 
 -- ---- one shard
 

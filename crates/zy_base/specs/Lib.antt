@@ -4,6 +4,7 @@ pub mod Memory
 pub mod Key
 pub mod Number
 pub mod Limits
+pub mod Table
 pub mod Call
 pub mod Counted
 pub mod Shard

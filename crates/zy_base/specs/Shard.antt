@@ -8,14 +8,14 @@ use Rattle.std.specs.Cmp.Lexicographic.{slice_cmp}
 use Rattle.std.specs.FinMap.{FinMap, empty, get, insert, remove, len}
 use Rattle.zy_base.specs.declared.item.Item.{Item}
 use Rattle.zy_base.specs.declared.call.Call.{Call}
-use Rattle.zy_base.specs.declared.call.Call.TheVariants.{Get, Set, Add, Replace, Append, Prepend, Cas, Incr, Decr}
-use Rattle.zy_base.specs.declared.call.Call.TheVariants.{Delete, Flush, Tally}
 use Rattle.zy_base.specs.declared.call_reply.CallReply.{CallReply}
 use Rattle.zy_base.specs.declared.tallied.Tallied.{Tallied}
 use Rattle.zy_base.specs.declared.call_reply.CallReply.TheVariants.{Miss, Hit, Stored, NotStored, Exists, NotFound}
 use Rattle.zy_base.specs.declared.call_reply.CallReply.TheVariants.{Deleted, Number, NotNumber, TooLarge, Flushed}
+use Rattle.zy_base.specs.Table.{CallParts, parts_of, Act, says, shows, puts, appends, prepends, exchanges, counts_up, counts_down, takes, clears, tallies}
+use Rattle.zy_base.specs.Table.{Acts, always, by_item}
 use Rattle.zy_base.specs.Call.{key_of}
-use Rattle.zy_base.specs.Code.{tally}
+use Rattle.zy_base.specs.Code.{tally, call_row}
 use Rattle.zy_base.specs.Counted.{CallCounts, no_calls, calls_with}
 use Rattle.zy_base.specs.Number.{number_of}
 pub use Rattle.zy_base.specs.Limits.{value_limit}
@@ -50,7 +50,7 @@ tallied state = record {
 abbrev pub unique_of : ℕ → ℕ → ℕ → ℕ
 unique_of shards number count = shards * count + number
 
--- ---- the table of calls
+-- ---- what a call comes to
 
 -- what a call does to the items of its shard
 pub data Effect : Type 0 where
@@ -98,29 +98,37 @@ counted_down key item amount (Some number) = renumbered key item (number - amoun
 abbrev pub exchanged : List ℕ → Item → ℕ → ℕ → List ℕ → Outcome
 exchanged key item flags unique value = if item.unique == unique then stored key flags value else answers Exists
 
--- the table: each call, on a shard that counts this, where its key has no item and where it has one
+-- what an act answers and does, for a call with these parts, on a shard that counts this, where its key has no item or
+-- has this one
+abbrev pub done : Tallied → CallParts → Act → Option Item → Outcome
+done counts call (says reply) found = answers reply
+done counts call shows None = answers Miss
+done counts call shows (Some item) = answers (Hit item.flags item.unique item.value)
+done counts call puts found = stored call.key call.flags call.value
+done counts call appends None = answers NotStored
+done counts call appends (Some item) = joined call.key item (item.value ++ call.value)
+done counts call prepends None = answers NotStored
+done counts call prepends (Some item) = joined call.key item (call.value ++ item.value)
+done counts call exchanges None = answers NotFound
+done counts call exchanges (Some item) = exchanged call.key item call.flags call.number call.value
+done counts call counts_up None = answers NotFound
+done counts call counts_up (Some item) = counted_up call.key item call.number (number_of item.value)
+done counts call counts_down None = answers NotFound
+done counts call counts_down (Some item) = counted_down call.key item call.number (number_of item.value)
+done counts call takes None = answers NotFound
+done counts call takes (Some item) = record { reply = Deleted; effect = removes call.key }
+done counts call clears found = record { reply = Flushed; effect = empties }
+done counts call tallies found = answers (tally counts)
+
+-- what is done of these acts
+abbrev pub done_of : Tallied → CallParts → Acts → Option Item → Outcome
+done_of counts call (always act) found = done counts call act found
+done_of counts call (by_item without with) None = done counts call without None
+done_of counts call (by_item without with) (Some item) = done counts call with (Some item)
+
+-- each call, on a shard that counts this, where its key has no item and where it has one
 abbrev pub outcome_of : Tallied → Call → Option Item → Outcome
-outcome_of counts (Get key) None = answers Miss
-outcome_of counts (Get key) (Some item) = answers (Hit item.flags item.unique item.value)
-outcome_of counts (Set key flags value) found = stored key flags value
-outcome_of counts (Add key flags value) None = stored key flags value
-outcome_of counts (Add key flags value) (Some item) = answers NotStored
-outcome_of counts (Replace key flags value) None = answers NotStored
-outcome_of counts (Replace key flags value) (Some item) = stored key flags value
-outcome_of counts (Append key value) None = answers NotStored
-outcome_of counts (Append key value) (Some item) = joined key item (item.value ++ value)
-outcome_of counts (Prepend key value) None = answers NotStored
-outcome_of counts (Prepend key value) (Some item) = joined key item (value ++ item.value)
-outcome_of counts (Cas flags key unique value) None = answers NotFound
-outcome_of counts (Cas flags key unique value) (Some item) = exchanged key item flags unique value
-outcome_of counts (Incr key amount) None = answers NotFound
-outcome_of counts (Incr key amount) (Some item) = counted_up key item amount (number_of item.value)
-outcome_of counts (Decr key amount) None = answers NotFound
-outcome_of counts (Decr key amount) (Some item) = counted_down key item amount (number_of item.value)
-outcome_of counts (Delete key) None = answers NotFound
-outcome_of counts (Delete key) (Some item) = record { reply = Deleted; effect = removes key }
-outcome_of counts Flush found = record { reply = Flushed; effect = empties }
-outcome_of counts Tally found = answers (tally counts)
+outcome_of counts call found = done_of counts (parts_of call) (call_row call).acts found
 
 -- ---- the step
 

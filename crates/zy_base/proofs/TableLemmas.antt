@@ -1,0 +1,93 @@
+-- What all rows of the table of calls have in common: so lemmas go by what a call does, and not by its kind.
+use Rattle.std.specs.Prelude.{◌==◌, ◌&&◌, ◌||◌}
+use Rattle.std.proofs.Common.{◌≡◌, ℕ, Bool, true, false, cond, List, [], refl, sym, subst, arith, eq-eqb}
+use Rattle.std.specs.Prelude.{IfSome}
+use Rattle.zy_base.specs.declared.call.Call.{Call}
+use Rattle.zy_base.specs.declared.call.Call.TheVariants as Calls
+use Rattle.zy_base.specs.declared.call_kind.CallKind.{CallKind}
+use Rattle.zy_base.specs.declared.call_kind.CallKind.TheVariants.{Flush}
+use Rattle.zy_base.specs.declared.call_reply.CallReply.{CallReply}
+use Rattle.zy_base.specs.declared.call_reply.CallReply.TheVariants.{Hit, Stored, Number, Deleted}
+use Rattle.zy_base.specs.Table.{Act, Acts, says, shows, clears, tallies, always, by_item, row_of, parts_of}
+use Rattle.zy_base.specs.Code.{there, call_kind, fields_of}
+use Rattle.zy_base.specs.Kind.{Holds}
+use Rattle.zy_base.specs.Bounds.{IsValue, IsCall}
+use Rattle.zy_base.proofs.CodeLemmas.{value_within}
+
+-- ---- tests
+
+pub holds_first : (x y : Bool) → Holds x → Holds (x || y)
+holds_first true y is = tt
+holds_first false y is = absurd is
+
+pub holds_second : (x y : Bool) → Holds y → Holds (x || y)
+holds_second true y is = tt
+holds_second false y is = is
+
+pub holds_both : (x y : Bool) → Holds (x && y) → Holds x × Holds y
+holds_both true true are = (tt, tt)
+holds_both true false are = absurd are
+holds_both false y are = absurd are
+
+pub holds_equal : (n : ℕ) → Holds (n == n)
+holds_equal n = subst Holds (sym (eq-eqb n n refl)) tt
+
+-- ---- the rows
+
+-- a reply that is only said shows no item, and does not say that one was stored or removed
+abbrev pub is_mute : CallReply → Bool
+is_mute (Hit flags unique value) = false
+is_mute Stored = false
+is_mute (Number number) = false
+is_mute Deleted = false
+is_mute reply = true
+
+abbrev pub says_mute : Act → Bool
+says_mute (says reply) = is_mute reply
+says_mute act = true
+
+abbrev pub say_mute : Acts → Bool
+say_mute (always act) = says_mute act
+say_mute (by_item without with) = says_mute without && says_mute with
+
+pub rows_say : (kind : CallKind) → Holds (say_mute (row_of kind).acts)
+rows_say Flush = tt
+rows_say kind = tt
+
+-- an act that is not about all items
+abbrev pub is_at_one : Act → Bool
+is_at_one clears = false
+is_at_one act = true
+
+-- an act that needs no key
+abbrev pub needs_none : Act → Bool
+needs_none (says reply) = true
+needs_none shows = true
+needs_none tallies = true
+needs_none act = false
+
+-- the acts of a kind that has a key, or has none; to remove all items needs none
+abbrev pub are_at : Bool → Acts → Bool
+are_at b (always clears) = true
+are_at true (always act) = true
+are_at false (always act) = needs_none act
+are_at true (by_item without with) = is_at_one without && is_at_one with
+are_at false (by_item without with) = needs_none without && needs_none with
+
+pub rows_at : (kind : CallKind) → Holds (are_at (fields_of kind).key (row_of kind).acts)
+rows_at Flush = tt
+rows_at kind = tt
+
+-- ---- the value of a call
+
+-- a call without a value has an empty one in its place
+no_value : (call : Call) → cond (fields_of (call_kind call)).value [] (parts_of call).value ≡ []
+no_value Calls.Flush = refl
+no_value call = refl
+
+pub value_small : (call : Call) → IsCall call → IsValue (parts_of call).value
+value_small call is = go (fields_of (call_kind call)).value (parts_of call).value (no_value call) (value_within call is)
+  where
+    go : (b : Bool) (value : List ℕ) → cond b [] value ≡ [] → IfSome (there b value) IsValue → IsValue value
+    go true value none small = small
+    go false value none small = subst IsValue (sym none) (omega arith)
