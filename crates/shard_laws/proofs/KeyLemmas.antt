@@ -1,6 +1,6 @@
 -- The replies to the calls on one key, uniques aside, depend on these calls and the flushes alone.
 use Rattle.std.proofs.Common.{◌≡◌, ℕ, Bool, true, false, cond, List, [], ◌∷◌, ◌++◌, length, refl, sym, ap, ◌∙◌}
-use Rattle.std.specs.Prelude.{Option, None, Some, nat_lt, ◌==◌}
+use Rattle.std.specs.Prelude.{◌&&◌, Option, None, Some, nat_lt, ◌==◌}
 use Rattle.std.specs.Ordering.{nat_cmp, is_eq}
 use Rattle.std.specs.declared.cmp.Ordering.{Ordering}
 use Rattle.std.specs.declared.cmp.Ordering.TheVariants.{Less, Equal, Greater}
@@ -8,13 +8,19 @@ use Rattle.std.specs.Cmp.Lexicographic.{slice_cmp, nat_list_cmp_total}
 use Rattle.std.specs.FinMap.{get, get-empty, get-insert, get-remove, slice_cmp-IsAntisymmetric, nat_cmp-IsAntisymmetric}
 use Rattle.zy_base.specs.declared.item.Item.{Item}
 use Rattle.zy_base.specs.declared.call.Call.{Call}
-use Rattle.zy_base.specs.declared.call.Call.TheVariants.{Get, Set, Add, Replace, Append, Prepend, Cas, Incr, Decr, Delete, Flush, Tally}
+use Rattle.zy_base.specs.declared.call.Call.TheVariants.{Cas, Flush, Tally}
+use Rattle.zy_base.specs.declared.call_kind.CallKind.{CallKind}
+use Rattle.zy_base.specs.declared.call_kind.CallKind.TheVariants as Kinds
+use Rattle.zy_base.specs.Table.{CallParts, parts_of, row_of, Act, Acts, says, shows, puts, appends, prepends, exchanges, counts_up, counts_down, takes, clears, tallies, always, by_item}
+use Rattle.zy_base.specs.Code.{there, call_row, call_kind, fields_of}
+use Rattle.zy_base.specs.Kind.{Holds}
+use Rattle.zy_base.proofs.TableLemmas.{holds_both, says_mute, say_mute, rows_say, is_at_one, needs_none, are_at, rows_at}
 use Rattle.zy_base.specs.declared.call_reply.CallReply.{CallReply}
-use Rattle.zy_base.specs.declared.call_reply.CallReply.TheVariants.{Stored, TooLarge}
+use Rattle.zy_base.specs.declared.call_reply.CallReply.TheVariants.{Hit, Stored, TooLarge}
 use Rattle.zy_base.specs.declared.tallied.Tallied.{Tallied}
 use Rattle.zy_base.specs.Call.{key_of}
 use Rattle.zy_base.specs.Number.{number_of}
-use Rattle.zy_base.specs.Shard.{Items, State, tallied, Effect, keeps, stores, removes, empties, Outcome, value_limit, joined, counted_up, counted_down, outcome_of, outcome_on, item_at, state_with, state_after, reply_to}
+use Rattle.zy_base.specs.Shard.{Items, State, tallied, Effect, keeps, stores, removes, empties, Outcome, value_limit, joined, counted_up, counted_down, done, done_of, outcome_of, outcome_on, item_at, state_with, state_after, reply_to}
 use Rattle.shard_laws.specs.KeyReplies.{is_cas, AreWithoutCas, is_same, is_key, is_about, calls_about, without_unique, replies_about}
 
 -- ---- one key without uniques
@@ -63,30 +69,44 @@ plain-counted_down : (key : List ℕ) (item : Item) (amount : ℕ) (number : Opt
 plain-counted_down key item amount None = refl
 plain-counted_down key item amount (Some number) = refl
 
+-- what an act reads that is no unique, and no count of the shard
+abbrev reads_none : Act → Bool
+reads_none exchanges = false
+reads_none tallies = false
+reads_none act = true
+
+abbrev read_none : Acts → Bool
+read_none (always act) = reads_none act
+read_none (by_item without with) = reads_none without && reads_none with
+
+plain-done : (counts : Tallied) (call : CallParts) (act : Act) (found : Option Item) → Holds (reads_none act) → Holds (says_mute act)
+    → plain_outcome (done counts call act found) ≡ done nothing call act (plain found)
+plain-done counts call (says (Hit flags unique value)) found reads mute = absurd mute
+plain-done counts call shows (Some item) reads mute = refl
+plain-done counts call appends (Some item) reads mute = plain-joined call.key item (item.value ++ call.value)
+plain-done counts call prepends (Some item) reads mute = plain-joined call.key item (call.value ++ item.value)
+plain-done counts call exchanges found reads mute = absurd reads
+plain-done counts call counts_up (Some item) reads mute = plain-counted_up call.key item call.number (number_of item.value)
+plain-done counts call counts_down (Some item) reads mute = plain-counted_down call.key item call.number (number_of item.value)
+plain-done counts call takes (Some item) reads mute = refl
+plain-done counts call tallies found reads mute = absurd reads
+plain-done counts call act found reads mute = refl
+
+plain-done_of : (counts : Tallied) (call : CallParts) (acts : Acts) (found : Option Item) → Holds (read_none acts) → Holds (say_mute acts)
+    → plain_outcome (done_of counts call acts found) ≡ done_of nothing call acts (plain found)
+plain-done_of counts call (always act) found reads mute = plain-done counts call act found reads mute
+plain-done_of counts call (by_item without with) None reads mute = plain-done counts call without None (holds_both _ _ reads).0 (holds_both _ _ mute).0
+plain-done_of counts call (by_item without with) (Some item) reads mute = plain-done counts call with (Some item) (holds_both _ _ reads).1 (holds_both _ _ mute).1
+
 -- without a cas, no unique is read; a tally is not on a key
+reads-call : (key : List ℕ) (call : Call) → is_about key call ≡ true → is_cas call ≡ false → Holds (read_none (call_row call).acts)
+reads-call key (Cas flags at unique value) about is = absurd (cc)
+reads-call key Tally about is = absurd (cc)
+reads-call key call about is = tt
+
 plain-outcome_of : (counts : Tallied) (key : List ℕ) (call : Call) (found : Option Item) → is_about key call ≡ true → is_cas call ≡ false → plain_outcome (outcome_of counts call found) ≡ outcome_of nothing call (plain found)
-plain-outcome_of counts at (Get key) None about is = refl
-plain-outcome_of counts at (Get key) (Some item) about is = refl
-plain-outcome_of counts at (Set key flags value) None about is = refl
-plain-outcome_of counts at (Set key flags value) (Some item) about is = refl
-plain-outcome_of counts at (Add key flags value) None about is = refl
-plain-outcome_of counts at (Add key flags value) (Some item) about is = refl
-plain-outcome_of counts at (Replace key flags value) None about is = refl
-plain-outcome_of counts at (Replace key flags value) (Some item) about is = refl
-plain-outcome_of counts at (Append key value) None about is = refl
-plain-outcome_of counts at (Append key value) (Some item) about is = plain-joined key item (item.value ++ value)
-plain-outcome_of counts at (Prepend key value) None about is = refl
-plain-outcome_of counts at (Prepend key value) (Some item) about is = plain-joined key item (value ++ item.value)
-plain-outcome_of counts at (Cas flags key unique value) found about is = cc
-plain-outcome_of counts at (Incr key amount) None about is = refl
-plain-outcome_of counts at (Incr key amount) (Some item) about is = plain-counted_up key item amount (number_of item.value)
-plain-outcome_of counts at (Decr key amount) None about is = refl
-plain-outcome_of counts at (Decr key amount) (Some item) about is = plain-counted_down key item amount (number_of item.value)
-plain-outcome_of counts at (Delete key) None about is = refl
-plain-outcome_of counts at (Delete key) (Some item) about is = refl
-plain-outcome_of counts at Flush None about is = refl
-plain-outcome_of counts at Flush (Some item) about is = refl
-plain-outcome_of counts at Tally found about is = cc
+plain-outcome_of counts key call found about is =
+    plain-done_of counts (parts_of call) (call_row call).acts found (reads-call key call about is) (rows_say (call_kind call))
 
 -- ---- a call touches its own key
 
@@ -100,6 +120,15 @@ IsFor (Some on) (stores key flags value) = key ≡ on
 IsFor (Some on) (removes key) = key ≡ on
 IsFor (Some on) empties = ⊥
 
+-- a kind whose call removes all items has no key
+abbrev clear_bare : Bool → Acts → Bool
+clear_bare true (always clears) = false
+clear_bare b acts = true
+
+rows_clear : (kind : CallKind) → Holds (clear_bare (fields_of kind).key (row_of kind).acts)
+rows_clear Kinds.Flush = tt
+rows_clear kind = tt
+
 chosen_for : (on : Option (List ℕ)) (b : Bool) (x y : Outcome) → IsFor on x.effect → IsFor on y.effect → IsFor on (cond b x y).effect
 chosen_for on true x y here there = here
 chosen_for on false x y here there = there
@@ -112,30 +141,40 @@ counted_down_for : (key : List ℕ) (item : Item) (amount : ℕ) (number : Optio
 counted_down_for key item amount None = tt
 counted_down_for key item amount (Some number) = refl
 
+done_for : (counts : Tallied) (call : CallParts) (act : Act) (found : Option Item) → Holds (is_at_one act) → IsFor (Some call.key) (done counts call act found).effect
+done_for counts call shows (Some item) at = tt
+done_for counts call puts found at = refl
+done_for counts call appends (Some item) at = chosen_for (Some call.key) (nat_lt value_limit (length (item.value ++ call.value))) _ _ tt refl
+done_for counts call prepends (Some item) at = chosen_for (Some call.key) (nat_lt value_limit (length (call.value ++ item.value))) _ _ tt refl
+done_for counts call exchanges (Some item) at = chosen_for (Some call.key) (item.unique == call.number) _ _ refl tt
+done_for counts call counts_up (Some item) at = counted_up_for call.key item call.number (number_of item.value)
+done_for counts call counts_down (Some item) at = counted_down_for call.key item call.number (number_of item.value)
+done_for counts call takes (Some item) at = refl
+done_for counts call clears found at = absurd at
+done_for counts call act found at = tt
+
+bare_for : (counts : Tallied) (call : CallParts) (act : Act) (found : Option Item) → Holds (needs_none act) → IsFor None (done counts call act found).effect
+bare_for counts call (says reply) found none = tt
+bare_for counts call shows None none = tt
+bare_for counts call shows (Some item) none = tt
+bare_for counts call tallies found none = tt
+bare_for counts call act found none = absurd none
+
+-- an effect of a row is on the key of the call, where its kind has one, and else on no key; all items are removed
+-- without a key
+row_for : (counts : Tallied) (call : CallParts) (b : Bool) (acts : Acts) (found : Option Item) → Holds (are_at b acts) → Holds (clear_bare b acts) → IsFor (there b call.key) (done_of counts call acts found).effect
+row_for counts call true (always clears) found at clear = absurd clear
+row_for counts call false (always clears) found at clear = tt
+row_for counts call true (always act) found at clear = done_for counts call act found tt
+row_for counts call false (always act) found at clear = bare_for counts call act found at
+row_for counts call true (by_item without with) None at clear = done_for counts call without None (holds_both _ _ at).0
+row_for counts call true (by_item without with) (Some item) at clear = done_for counts call with (Some item) (holds_both _ _ at).1
+row_for counts call false (by_item without with) None at clear = bare_for counts call without None (holds_both _ _ at).0
+row_for counts call false (by_item without with) (Some item) at clear = bare_for counts call with (Some item) (holds_both _ _ at).1
+
 effect_for : (counts : Tallied) (call : Call) (found : Option Item) → IsFor (key_of call) (outcome_of counts call found).effect
-effect_for counts (Get key) None = tt
-effect_for counts (Get key) (Some item) = tt
-effect_for counts (Set key flags value) None = refl
-effect_for counts (Set key flags value) (Some item) = refl
-effect_for counts (Add key flags value) None = refl
-effect_for counts (Add key flags value) (Some item) = tt
-effect_for counts (Replace key flags value) None = tt
-effect_for counts (Replace key flags value) (Some item) = refl
-effect_for counts (Append key value) None = tt
-effect_for counts (Append key value) (Some item) = chosen_for (Some key) (nat_lt value_limit (length (item.value ++ value))) _ _ tt refl
-effect_for counts (Prepend key value) None = tt
-effect_for counts (Prepend key value) (Some item) = chosen_for (Some key) (nat_lt value_limit (length (value ++ item.value))) _ _ tt refl
-effect_for counts (Cas flags key unique value) None = tt
-effect_for counts (Cas flags key unique value) (Some item) = chosen_for (Some key) (item.unique == unique) _ _ refl tt
-effect_for counts (Incr key amount) None = tt
-effect_for counts (Incr key amount) (Some item) = counted_up_for key item amount (number_of item.value)
-effect_for counts (Decr key amount) None = tt
-effect_for counts (Decr key amount) (Some item) = counted_down_for key item amount (number_of item.value)
-effect_for counts (Delete key) None = tt
-effect_for counts (Delete key) (Some item) = refl
-effect_for counts Flush None = tt
-effect_for counts Flush (Some item) = tt
-effect_for counts Tally found = tt
+effect_for counts call found =
+    row_for counts (parts_of call) (fields_of (call_kind call)).key (call_row call).acts found (rows_at (call_kind call)) (rows_clear (call_kind call))
 
 chosen : {A : Type 0} (b : Bool) (x y : A) → b ≡ true → cond b x y ≡ x
 chosen true x y is = refl
@@ -181,28 +220,29 @@ equal Greater is = cc
 same_item : (items : Items) (key other : List ℕ) → is_same key other ≡ true → get items other ≡ get items key
 same_item items key other is = ap (get items) (sym (slice_cmp-IsAntisymmetric nat_cmp-IsAntisymmetric key other (equal _ is)))
 
--- the outcome of a call about the key is its outcome on the item of the key
-finds : (state : State) (key : List ℕ) (call : Call) → is_about key call ≡ true → outcome_on state call ≡ outcome_of (tallied state) call (get state.items key)
-finds state key (Get k) is = ap (outcome_of (tallied state) (Get k)) (same_item state.items key k is)
-finds state key (Set k flags value) is = ap (outcome_of (tallied state) (Set k flags value)) (same_item state.items key k is)
-finds state key (Add k flags value) is = ap (outcome_of (tallied state) (Add k flags value)) (same_item state.items key k is)
-finds state key (Replace k flags value) is = ap (outcome_of (tallied state) (Replace k flags value)) (same_item state.items key k is)
-finds state key (Append k value) is = ap (outcome_of (tallied state) (Append k value)) (same_item state.items key k is)
-finds state key (Prepend k value) is = ap (outcome_of (tallied state) (Prepend k value)) (same_item state.items key k is)
-finds state key (Cas flags k unique value) is = ap (outcome_of (tallied state) (Cas flags k unique value)) (same_item state.items key k is)
-finds state key (Incr k amount) is = ap (outcome_of (tallied state) (Incr k amount)) (same_item state.items key k is)
-finds state key (Decr k amount) is = ap (outcome_of (tallied state) (Decr k amount)) (same_item state.items key k is)
-finds state key (Delete k) is = ap (outcome_of (tallied state) (Delete k)) (same_item state.items key k is)
-finds state key Flush is = refl
-finds state key Tally is = cc
-
-plain-outcome_on : (state : State) (key : List ℕ) (call : Call) → is_about key call ≡ true → is_cas call ≡ false → plain_outcome (outcome_on state call) ≡ outcome_of nothing call (plain (get state.items key))
-plain-outcome_on state key call is no_cas = ap plain_outcome (finds state key call is) ∙ plain-outcome_of (tallied state) key call (get state.items key) is no_cas
-
 -- a call about the key has that key, or none
 about_key : (key : List ℕ) (call : Call) → is_about key call ≡ true → is_key key (key_of call) ≡ true
 about_key key Tally is = cc
 about_key key call is = is
+
+-- the outcome of a call about the key is its outcome on the item of the key
+finds_at : (state : State) (key : List ℕ) (call : Call) (on : Option (List ℕ)) → key_of call ≡ on → is_key key on ≡ true → (on ≡ None → (found : Option Item) → outcome_of (tallied state) call None ≡ outcome_of (tallied state) call found)
+    → outcome_on state call ≡ outcome_of (tallied state) call (get state.items key)
+finds_at state key call None named is none = ap (λ k. outcome_of (tallied state) call (item_at state.items k)) named ∙ none refl (get state.items key)
+finds_at state key call (Some on) named is none =
+    ap (λ k. outcome_of (tallied state) call (item_at state.items k)) named ∙ ap (outcome_of (tallied state) call) (same_item state.items key on is)
+
+-- a call without a key does the same whatever is found
+keyless : (state : State) (call : Call) → key_of call ≡ None → (found : Option Item) → outcome_of (tallied state) call None ≡ outcome_of (tallied state) call found
+keyless state Flush none found = refl
+keyless state Tally none found = refl
+keyless state call none found = absurd (cc)
+
+finds : (state : State) (key : List ℕ) (call : Call) → is_about key call ≡ true → outcome_on state call ≡ outcome_of (tallied state) call (get state.items key)
+finds state key call is = finds_at state key call (key_of call) refl (about_key key call is) (keyless state call)
+
+plain-outcome_on : (state : State) (key : List ℕ) (call : Call) → is_about key call ≡ true → is_cas call ≡ false → plain_outcome (outcome_on state call) ≡ outcome_of nothing call (plain (get state.items key))
+plain-outcome_on state key call is no_cas = ap plain_outcome (finds state key call is) ∙ plain-outcome_of (tallied state) key call (get state.items key) is no_cas
 
 -- a call that is not about the key leaves its item
 untouched : (shards number : ℕ) (state : State) (key : List ℕ) (call : Call) → is_about key call ≡ false → get (state_after shards number state call).items key ≡ get state.items key
