@@ -1,6 +1,6 @@
 -- The replies to the calls on one key, uniques aside, depend on these calls and the flushes alone.
-use Rattle.std.proofs.Common.{◌≡◌, ℕ, Bool, true, false, cond, List, [], ◌∷◌, ◌++◌, length, refl, sym, ap, ◌∙◌}
-use Rattle.std.specs.Prelude.{◌&&◌, Option, None, Some, nat_lt, ◌==◌}
+use Rattle.std.proofs.Common.{◌≡◌, ℕ, Bool, true, false, cond, List, [], ◌∷◌, ◌++◌, length, refl, sym, ap, ◌∙◌, subst}
+use Rattle.std.specs.Prelude.{is_some, unwrap_or, ◌&&◌, Option, None, Some, nat_lt, ◌==◌}
 use Rattle.std.specs.Ordering.{nat_cmp, is_eq}
 use Rattle.std.specs.declared.cmp.Ordering.{Ordering}
 use Rattle.std.specs.declared.cmp.Ordering.TheVariants.{Less, Equal, Greater}
@@ -9,12 +9,10 @@ use Rattle.std.specs.FinMap.{get, get-empty, get-insert, get-remove, slice_cmp-I
 use Rattle.zy_base.specs.declared.item.Item.{Item}
 use Rattle.zy_base.specs.declared.call.Call.{Call}
 use Rattle.zy_base.specs.declared.call.Call.TheVariants.{Cas, Flush, Tally}
-use Rattle.zy_base.specs.declared.call_kind.CallKind.{CallKind}
-use Rattle.zy_base.specs.declared.call_kind.CallKind.TheVariants as Kinds
-use Rattle.zy_base.specs.Table.{CallParts, parts_of, row_of, Act, Acts, says, shows, puts, appends, prepends, exchanges, counts_up, counts_down, takes, clears, tallies, always, by_item}
-use Rattle.zy_base.specs.Code.{there, call_row, call_kind, fields_of}
+use Rattle.zy_base.specs.Table.{CallParts, parts_of, key_in, number_in, value_in, Act, Acts, says, shows, puts, appends, prepends, exchanges, counts_up, counts_down, takes, clears, tallies, always, by_item}
+use Rattle.zy_base.specs.Code.{call_row, call_kind}
 use Rattle.zy_base.specs.Kind.{Holds}
-use Rattle.zy_base.proofs.TableLemmas.{holds_both, says_mute, say_mute, rows_say, is_at_one, needs_none, are_at, rows_at}
+use Rattle.zy_base.proofs.TableLemmas.{holds_both, says_mute, say_mute, rows_say, is_at_one, needs_none, are_at, calls_at}
 use Rattle.zy_base.specs.declared.call_reply.CallReply.{CallReply}
 use Rattle.zy_base.specs.declared.call_reply.CallReply.TheVariants.{Hit, Stored, TooLarge}
 use Rattle.zy_base.specs.declared.tallied.Tallied.{Tallied}
@@ -83,11 +81,11 @@ plain-done : (counts : Tallied) (call : CallParts) (act : Act) (found : Option I
     → plain_outcome (done counts call act found) ≡ done nothing call act (plain found)
 plain-done counts call (says (Hit flags unique value)) found reads mute = absurd mute
 plain-done counts call shows (Some item) reads mute = refl
-plain-done counts call appends (Some item) reads mute = plain-joined call.key item (item.value ++ call.value)
-plain-done counts call prepends (Some item) reads mute = plain-joined call.key item (call.value ++ item.value)
+plain-done counts call appends (Some item) reads mute = plain-joined (key_in call) item (item.value ++ (value_in call))
+plain-done counts call prepends (Some item) reads mute = plain-joined (key_in call) item ((value_in call) ++ item.value)
 plain-done counts call exchanges found reads mute = absurd reads
-plain-done counts call counts_up (Some item) reads mute = plain-counted_up call.key item call.number (number_of item.value)
-plain-done counts call counts_down (Some item) reads mute = plain-counted_down call.key item call.number (number_of item.value)
+plain-done counts call counts_up (Some item) reads mute = plain-counted_up (key_in call) item (number_in call) (number_of item.value)
+plain-done counts call counts_down (Some item) reads mute = plain-counted_down (key_in call) item (number_in call) (number_of item.value)
 plain-done counts call takes (Some item) reads mute = refl
 plain-done counts call tallies found reads mute = absurd reads
 plain-done counts call act found reads mute = refl
@@ -120,14 +118,14 @@ IsFor (Some on) (stores key flags value) = key ≡ on
 IsFor (Some on) (removes key) = key ≡ on
 IsFor (Some on) empties = ⊥
 
--- a kind whose call removes all items has no key
+-- a call that removes all items has no key
 abbrev clear_bare : Bool → Acts → Bool
 clear_bare true (always clears) = false
 clear_bare b acts = true
 
-rows_clear : (kind : CallKind) → Holds (clear_bare (fields_of kind).key (row_of kind).acts)
-rows_clear Kinds.Flush = tt
-rows_clear kind = tt
+calls_clear : (call : Call) → Holds (clear_bare (is_some (key_of call)) (call_row call).acts)
+calls_clear Flush = tt
+calls_clear call = tt
 
 chosen_for : (on : Option (List ℕ)) (b : Bool) (x y : Outcome) → IsFor on x.effect → IsFor on y.effect → IsFor on (cond b x y).effect
 chosen_for on true x y here there = here
@@ -141,14 +139,14 @@ counted_down_for : (key : List ℕ) (item : Item) (amount : ℕ) (number : Optio
 counted_down_for key item amount None = tt
 counted_down_for key item amount (Some number) = refl
 
-done_for : (counts : Tallied) (call : CallParts) (act : Act) (found : Option Item) → Holds (is_at_one act) → IsFor (Some call.key) (done counts call act found).effect
+done_for : (counts : Tallied) (call : CallParts) (act : Act) (found : Option Item) → Holds (is_at_one act) → IsFor (Some (key_in call)) (done counts call act found).effect
 done_for counts call shows (Some item) at = tt
 done_for counts call puts found at = refl
-done_for counts call appends (Some item) at = chosen_for (Some call.key) (nat_lt value_limit (length (item.value ++ call.value))) _ _ tt refl
-done_for counts call prepends (Some item) at = chosen_for (Some call.key) (nat_lt value_limit (length (call.value ++ item.value))) _ _ tt refl
-done_for counts call exchanges (Some item) at = chosen_for (Some call.key) (item.unique == call.number) _ _ refl tt
-done_for counts call counts_up (Some item) at = counted_up_for call.key item call.number (number_of item.value)
-done_for counts call counts_down (Some item) at = counted_down_for call.key item call.number (number_of item.value)
+done_for counts call appends (Some item) at = chosen_for (Some (key_in call)) (nat_lt value_limit (length (item.value ++ (value_in call)))) _ _ tt refl
+done_for counts call prepends (Some item) at = chosen_for (Some (key_in call)) (nat_lt value_limit (length ((value_in call) ++ item.value))) _ _ tt refl
+done_for counts call exchanges (Some item) at = chosen_for (Some (key_in call)) (item.unique == (number_in call)) _ _ refl tt
+done_for counts call counts_up (Some item) at = counted_up_for (key_in call) item (number_in call) (number_of item.value)
+done_for counts call counts_down (Some item) at = counted_down_for (key_in call) item (number_in call) (number_of item.value)
 done_for counts call takes (Some item) at = refl
 done_for counts call clears found at = absurd at
 done_for counts call act found at = tt
@@ -160,21 +158,22 @@ bare_for counts call shows (Some item) none = tt
 bare_for counts call tallies found none = tt
 bare_for counts call act found none = absurd none
 
--- an effect of a row is on the key of the call, where its kind has one, and else on no key; all items are removed
--- without a key
-row_for : (counts : Tallied) (call : CallParts) (b : Bool) (acts : Acts) (found : Option Item) → Holds (are_at b acts) → Holds (clear_bare b acts) → IsFor (there b call.key) (done_of counts call acts found).effect
-row_for counts call true (always clears) found at clear = absurd clear
-row_for counts call false (always clears) found at clear = tt
-row_for counts call true (always act) found at clear = done_for counts call act found tt
-row_for counts call false (always act) found at clear = bare_for counts call act found at
-row_for counts call true (by_item without with) None at clear = done_for counts call without None (holds_both _ _ at).0
-row_for counts call true (by_item without with) (Some item) at clear = done_for counts call with (Some item) (holds_both _ _ at).1
-row_for counts call false (by_item without with) None at clear = bare_for counts call without None (holds_both _ _ at).0
-row_for counts call false (by_item without with) (Some item) at clear = bare_for counts call with (Some item) (holds_both _ _ at).1
+-- an effect of a call is on its key, where it has one, and else on no key
+acts_for : (counts : Tallied) (call : CallParts) (key : Option (List ℕ)) (acts : Acts) (found : Option Item) → call.key ≡ key → Holds (are_at (is_some key) acts) → Holds (clear_bare (is_some key) acts)
+    → IsFor key (done_of counts call acts found).effect
+acts_for counts call (Some key) (always clears) found own at clear = absurd clear
+acts_for counts call None (always clears) found own at clear = tt
+acts_for counts call (Some key) (always act) found own at clear = subst (λ k. IsFor (Some k) (done counts call act found).effect) (ap (λ k. unwrap_or k []) own) (done_for counts call act found tt)
+acts_for counts call None (always act) found own at clear = bare_for counts call act found at
+acts_for counts call (Some key) (by_item without with) None own at clear =
+    subst (λ k. IsFor (Some k) (done counts call without None).effect) (ap (λ k. unwrap_or k []) own) (done_for counts call without None (holds_both _ _ at).0)
+acts_for counts call (Some key) (by_item without with) (Some item) own at clear =
+    subst (λ k. IsFor (Some k) (done counts call with (Some item)).effect) (ap (λ k. unwrap_or k []) own) (done_for counts call with (Some item) (holds_both _ _ at).1)
+acts_for counts call None (by_item without with) None own at clear = bare_for counts call without None (holds_both _ _ at).0
+acts_for counts call None (by_item without with) (Some item) own at clear = bare_for counts call with (Some item) (holds_both _ _ at).1
 
 effect_for : (counts : Tallied) (call : Call) (found : Option Item) → IsFor (key_of call) (outcome_of counts call found).effect
-effect_for counts call found =
-    row_for counts (parts_of call) (fields_of (call_kind call)).key (call_row call).acts found (rows_at (call_kind call)) (rows_clear (call_kind call))
+effect_for counts call found = acts_for counts (parts_of call) (key_of call) (call_row call).acts found refl (calls_at call) (calls_clear call)
 
 chosen : {A : Type 0} (b : Bool) (x y : A) → b ≡ true → cond b x y ≡ x
 chosen true x y is = refl

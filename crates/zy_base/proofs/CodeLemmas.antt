@@ -10,8 +10,7 @@ use Rattle.zy_base.specs.declared.call_reply.CallReply.{CallReply}
 use Rattle.zy_base.specs.declared.call_reply.CallReply.TheVariants as Replies
 use Rattle.zy_base.specs.declared.tallied.Tallied.{Tallied}
 use Rattle.zy_base.specs.Call.{key_of}
-use Rattle.zy_base.specs.Table.{parts_of}
-pub use Rattle.zy_base.specs.Code.{there}
+use Rattle.zy_base.specs.Table.{parts_of, key_in, flags_in, number_in, value_in}
 use Rattle.zy_base.specs.Code.{code_of, kind_of, fields_of, call_of, call_kind, call_flags, call_number, call_value, hit_code, number_code, tally_code, last_call_code, last_reply_code, reply_code, reply_flags, reply_number, reply_value, reply_counts, tally, plain_reply}
 use Rattle.zy_base.specs.Bounds.{IsKey, IsValue, AreWithin, IsCall, IsReply}
 
@@ -29,6 +28,11 @@ code_within Flush = (omega arith, omega arith)
 code_within kind = (omega arith, omega arith)
 
 -- ---- the fields of a call of a kind
+
+-- a field that is there, or is not
+abbrev pub there : {X : Type 0} → Bool → X → Option X
+there true x = Some x
+there false x = None
 
 -- a field, or what stood in its place before
 abbrev pub either_of : {X : Type 0} → Bool → X → X → X
@@ -54,14 +58,14 @@ call_same Flush key flags number value key' flags' number' value' = refl
 call_same kind key flags number value key' flags' number' value' = refl
 
 -- a call has the parts that it is made of
-pub call_back : (call : Call) → call_of (parts_of call).kind (parts_of call).key (parts_of call).flags (parts_of call).number (parts_of call).value ≡ call
+pub call_back : (call : Call) → call_of (parts_of call).kind (key_in (parts_of call)) (flags_in (parts_of call)) (number_in (parts_of call)) (value_in (parts_of call)) ≡ call
 call_back Calls.Flush = refl
 call_back call = refl
 
 -- every call is one of its kind
 pub of_kinds : (P : Call → Type 0) → ((kind : CallKind) (key : List ℕ) (flags number : ℕ) (value : List ℕ) → P (call_of kind key flags number value)) → (call : Call) → P call
 of_kinds P each call =
-    subst P (call_back call) (each (parts_of call).kind (parts_of call).key (parts_of call).flags (parts_of call).number (parts_of call).value)
+    subst P (call_back call) (each (parts_of call).kind (key_in (parts_of call)) (flags_in (parts_of call)) (number_in (parts_of call)) (value_in (parts_of call)))
 
 -- ---- bounds
 

@@ -1,5 +1,5 @@
 -- What a shard counts in a replay is counted from the entries alone.
-use Rattle.std.specs.Prelude.{◌==◌, nat_lt, count_by, is_some, Option, None, Some, ⊤}
+use Rattle.std.specs.Prelude.{◌==◌, nat_lt, count_by, is_some, unwrap_or, Option, None, Some, ⊤}
 use Rattle.std.proofs.Common.{◌≡◌, ℕ, ◌+◌, ◌-◌, ◌≤◌, Bool, true, false, cond, List, [], ◌∷◌, ◌++◌, length, refl, sym, ap, ◌∙◌, subst, arith}
 use Rattle.std.proofs.lemmas.List.Sums.{sum_by-cons, count_by-le-length}
 use Rattle.std.specs.Ordering.{nat_cmp, eq_by_cmp}
@@ -12,10 +12,10 @@ use Rattle.zy_base.specs.declared.entry.Entry.{Entry}
 use Rattle.zy_base.specs.declared.tallied.Tallied.{Tallied}
 use Rattle.zy_base.specs.Call.{key_of}
 use Rattle.zy_base.specs.Number.{number_of}
-use Rattle.zy_base.specs.Table.{CallParts, parts_of, Act, Acts, says, shows, puts, appends, prepends, exchanges, counts_up, counts_down, takes, clears, tallies, always, by_item}
-use Rattle.zy_base.specs.Code.{there, call_row, call_kind, fields_of}
+use Rattle.zy_base.specs.Table.{CallParts, parts_of, key_in, flags_in, number_in, value_in, Act, Acts, says, shows, puts, appends, prepends, exchanges, counts_up, counts_down, takes, clears, tallies, always, by_item}
+use Rattle.zy_base.specs.Code.{call_row, call_kind}
 use Rattle.zy_base.specs.Kind.{Holds}
-use Rattle.zy_base.proofs.TableLemmas.{holds_both, says_mute, say_mute, rows_say, is_at_one, needs_none, are_at, rows_at}
+use Rattle.zy_base.proofs.TableLemmas.{holds_both, says_mute, say_mute, rows_say, is_at_one, needs_none, are_at, calls_at}
 use Rattle.zy_base.specs.Counted.{is_get, is_set, is_hit, is_miss, one_more_if, KeySet, no_keys, keys_by, keys_past, keys_with, keys_after, counted}
 use Rattle.zy_base.specs.Shard.{Items, State, empty_state, tallied, Outcome, value_limit, answers, stored, counted_up, counted_down, done, done_of, outcome_of, item_at, reply_to, state_with, state_after}
 use Rattle.zy_base.specs.History.{IsReplay, replayed}
@@ -134,19 +134,19 @@ module _ (shards number : ℕ) (state : State) (keys : KeySet) (are : AreKeys ke
   down key item amount (Some n) = put key _ _
 
   -- after an act at the key of a call
-  after_done : (counts : Tallied) (call : CallParts) (act : Act) (found : Option Item) → Holds (says_mute act) → Holds (is_at_one act) → After (Some call.key) (done counts call act found)
+  after_done : (counts : Tallied) (call : CallParts) (act : Act) (found : Option Item) → Holds (says_mute act) → Holds (is_at_one act) → After (Some (key_in call)) (done counts call act found)
   after_done counts call (says (Hit flags unique value)) found mute at = absurd mute
   after_done counts call (says Stored) found mute at = absurd mute
   after_done counts call (says (Number n)) found mute at = absurd mute
   after_done counts call (says Deleted) found mute at = absurd mute
   after_done counts call shows (Some item) mute at = are
-  after_done counts call puts found mute at = put call.key call.flags call.value
-  after_done counts call appends (Some item) mute at = joined call.key item.flags (item.value ++ call.value) (nat_lt value_limit (length (item.value ++ call.value)))
-  after_done counts call prepends (Some item) mute at = joined call.key item.flags (call.value ++ item.value) (nat_lt value_limit (length (call.value ++ item.value)))
-  after_done counts call exchanges (Some item) mute at = exchanged call.key call.flags call.value (item.unique == call.number)
-  after_done counts call counts_up (Some item) mute at = up call.key item call.number (number_of item.value)
-  after_done counts call counts_down (Some item) mute at = down call.key item call.number (number_of item.value)
-  after_done counts call takes (Some item) mute at = after_taken keys state.items call.key are
+  after_done counts call puts found mute at = put (key_in call) (flags_in call) (value_in call)
+  after_done counts call appends (Some item) mute at = joined (key_in call) item.flags (item.value ++ (value_in call)) (nat_lt value_limit (length (item.value ++ (value_in call))))
+  after_done counts call prepends (Some item) mute at = joined (key_in call) item.flags ((value_in call) ++ item.value) (nat_lt value_limit (length ((value_in call) ++ item.value)))
+  after_done counts call exchanges (Some item) mute at = exchanged (key_in call) (flags_in call) (value_in call) (item.unique == (number_in call))
+  after_done counts call counts_up (Some item) mute at = up (key_in call) item (number_in call) (number_of item.value)
+  after_done counts call counts_down (Some item) mute at = down (key_in call) item (number_in call) (number_of item.value)
+  after_done counts call takes (Some item) mute at = after_taken keys state.items (key_in call) are
   after_done counts call clears found mute at = absurd at
   after_done counts call act found mute at = are
 
@@ -158,21 +158,23 @@ module _ (shards number : ℕ) (state : State) (keys : KeySet) (are : AreKeys ke
   after_bare counts call tallies found none = are
   after_bare counts call act found none = absurd none
 
-  -- after the acts of a row
-  after_row : (counts : Tallied) (call : CallParts) (b : Bool) (acts : Acts) (found : Option Item) → Holds (say_mute acts) → Holds (are_at b acts)
-      → AreKeys (keys_past acts (there b call.key) (done_of counts call acts found).reply keys) (state_with shards number state (done_of counts call acts found).effect).items
-  after_row counts call b (always clears) found mute at = no_items
-  after_row counts call true (always act) found mute at = after_done counts call act found mute tt
-  after_row counts call false (always act) found mute at = after_bare counts call act found at
-  after_row counts call true (by_item without with) None mute at = after_done counts call without None (holds_both _ _ mute).0 (holds_both _ _ at).0
-  after_row counts call true (by_item without with) (Some item) mute at = after_done counts call with (Some item) (holds_both _ _ mute).1 (holds_both _ _ at).1
-  after_row counts call false (by_item without with) None mute at = after_bare counts call without None (holds_both _ _ at).0
-  after_row counts call false (by_item without with) (Some item) mute at = after_bare counts call with (Some item) (holds_both _ _ at).1
+  -- after the acts of a call
+  after_acts : (counts : Tallied) (call : CallParts) (key : Option (List ℕ)) (acts : Acts) (found : Option Item) → call.key ≡ key → Holds (say_mute acts) → Holds (are_at (is_some key) acts)
+      → AreKeys (keys_past acts key (done_of counts call acts found).reply keys) (state_with shards number state (done_of counts call acts found).effect).items
+  after_acts counts call key (always clears) found own mute at = no_items
+  after_acts counts call (Some key) (always act) found own mute at = subst (λ k. After (Some k) (done counts call act found)) (ap (λ k. unwrap_or k []) own) (after_done counts call act found mute tt)
+  after_acts counts call None (always act) found own mute at = after_bare counts call act found at
+  after_acts counts call (Some key) (by_item without with) None own mute at =
+      subst (λ k. After (Some k) (done counts call without None)) (ap (λ k. unwrap_or k []) own) (after_done counts call without None (holds_both _ _ mute).0 (holds_both _ _ at).0)
+  after_acts counts call (Some key) (by_item without with) (Some item) own mute at =
+      subst (λ k. After (Some k) (done counts call with (Some item))) (ap (λ k. unwrap_or k []) own) (after_done counts call with (Some item) (holds_both _ _ mute).1 (holds_both _ _ at).1)
+  after_acts counts call None (by_item without with) None own mute at = after_bare counts call without None (holds_both _ _ at).0
+  after_acts counts call None (by_item without with) (Some item) own mute at = after_bare counts call with (Some item) (holds_both _ _ at).1
 
   after_outcome : (counts : Tallied) (call : Call) (found : Option Item)
       → AreKeys (keys_with keys call (outcome_of counts call found).reply) (state_with shards number state (outcome_of counts call found).effect).items
   after_outcome counts call found =
-      after_row counts (parts_of call) (fields_of (call_kind call)).key (call_row call).acts found (rows_say (call_kind call)) (rows_at (call_kind call))
+      after_acts counts (parts_of call) (key_of call) (call_row call).acts found refl (rows_say (call_kind call)) (calls_at call)
 
 keys_are : (shards number : ℕ) (state : State) (keys : KeySet) (es : List Entry) → AreKeys keys state.items → IsReplay shards number state es
     → AreKeys (keys_after keys es) (replayed shards number state es).items

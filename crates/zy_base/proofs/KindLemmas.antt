@@ -4,7 +4,7 @@ use Rattle.std.proofs.Common.{ℕ, Bool, true, false, cond, List, ◌++◌, leng
 use Rattle.zy_base.specs.declared.item.Item.{Item}
 use Rattle.zy_base.specs.declared.call.Call.{Call}
 use Rattle.zy_base.specs.declared.tallied.Tallied.{Tallied}
-use Rattle.zy_base.specs.Table.{CallParts, parts_of, Act, Acts, says, appends, prepends, exchanges, counts_up, counts_down, always, by_item}
+use Rattle.zy_base.specs.Table.{CallParts, parts_of, key_in, number_in, value_in, Act, Acts, says, appends, prepends, exchanges, counts_up, counts_down, always, by_item}
 use Rattle.zy_base.specs.Number.{number_of}
 use Rattle.zy_base.specs.Shard.{State, Outcome, value_limit, counted_up, counted_down, tallied, done, done_of, outcome_of, item_at, reply_to}
 use Rattle.zy_base.specs.Call.{key_of}
@@ -31,11 +31,11 @@ says_none counts call act = tt
 
 says_some : (counts : Tallied) (call : CallParts) (act : Act) (item : Item) → Holds (says_with act (done counts call act (Some item)).reply)
 says_some counts call (says reply) item = holds_equal (reply_code reply)
-says_some counts call appends item = chosen appends (nat_lt value_limit (length (item.value ++ call.value))) _ _ tt tt
-says_some counts call prepends item = chosen prepends (nat_lt value_limit (length (call.value ++ item.value))) _ _ tt tt
-says_some counts call exchanges item = chosen exchanges (item.unique == call.number) _ _ tt tt
-says_some counts call counts_up item = counted_up_says call.key item call.number (number_of item.value)
-says_some counts call counts_down item = counted_down_says call.key item call.number (number_of item.value)
+says_some counts call appends item = chosen appends (nat_lt value_limit (length (item.value ++ (value_in call)))) _ _ tt tt
+says_some counts call prepends item = chosen prepends (nat_lt value_limit (length ((value_in call) ++ item.value))) _ _ tt tt
+says_some counts call exchanges item = chosen exchanges (item.unique == (number_in call)) _ _ tt tt
+says_some counts call counts_up item = counted_up_says (key_in call) item (number_in call) (number_of item.value)
+says_some counts call counts_down item = counted_down_says (key_in call) item (number_in call) (number_of item.value)
 says_some counts call act item = tt
 
 -- the reply of each row of the table

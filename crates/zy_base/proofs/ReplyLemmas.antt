@@ -15,7 +15,7 @@ use Rattle.zy_base.specs.declared.entry.Entry.{Entry}
 use Rattle.zy_base.specs.declared.tallied.Tallied.{Tallied}
 use Rattle.zy_base.specs.Number.{number_of, is_numeral}
 use Rattle.zy_base.specs.Shard.{State, Outcome, Effect, keeps, stores, removes, empties, empty_state, value_limit, answers, stored, joined, counted_up, counted_down, exchanged, tallied, done, done_of, outcome_of, item_at, state_after, state_with, unique_of}
-use Rattle.zy_base.specs.Table.{CallParts, parts_of, Act, Acts, says, shows, puts, appends, prepends, exchanges, counts_up, counts_down, takes, always, by_item}
+use Rattle.zy_base.specs.Table.{CallParts, parts_of, key_in, flags_in, number_in, value_in, Act, Acts, says, shows, puts, appends, prepends, exchanges, counts_up, counts_down, takes, always, by_item}
 use Rattle.zy_base.specs.Code.{call_row, call_kind}
 use Rattle.zy_base.specs.Kind.{Holds}
 use Rattle.zy_base.proofs.TableLemmas.{holds_both, says_mute, say_mute, rows_say, value_small}
@@ -62,19 +62,19 @@ exchanged_within key item flags unique value small = go (item.unique == unique)
     go true = (tt, small)
     go false = (tt, tt)
 
-done_within : (counts : Tallied) (call : CallParts) (act : Act) (found : Option Item) → Holds (says_mute act) → IsValue call.value → IsFound found → IsOutcome (done counts call act found)
+done_within : (counts : Tallied) (call : CallParts) (act : Act) (found : Option Item) → Holds (says_mute act) → IsValue (value_in call) → IsFound found → IsOutcome (done counts call act found)
 done_within counts call (says (Replies.Hit flags unique value)) found mute is small = absurd mute
 done_within counts call puts found mute is small = (tt, is)
 done_within counts call shows (Some item) mute is small = (small, tt)
-done_within counts call appends (Some item) mute is small = joined_within call.key item (item.value ++ call.value)
-done_within counts call prepends (Some item) mute is small = joined_within call.key item (call.value ++ item.value)
-done_within counts call exchanges (Some item) mute is small = exchanged_within call.key item call.flags call.number call.value is
-done_within counts call counts_up (Some item) mute is small = up_within call.key item call.number (number_of item.value)
-done_within counts call counts_down (Some item) mute is small = down_within call.key item call.number (number_of item.value) refl
+done_within counts call appends (Some item) mute is small = joined_within (key_in call) item (item.value ++ (value_in call))
+done_within counts call prepends (Some item) mute is small = joined_within (key_in call) item ((value_in call) ++ item.value)
+done_within counts call exchanges (Some item) mute is small = exchanged_within (key_in call) item (flags_in call) (number_in call) (value_in call) is
+done_within counts call counts_up (Some item) mute is small = up_within (key_in call) item (number_in call) (number_of item.value)
+done_within counts call counts_down (Some item) mute is small = down_within (key_in call) item (number_in call) (number_of item.value) refl
 done_within counts call takes (Some item) mute is small = (tt, tt)
 done_within counts call act found mute is small = (tt, tt)
 
-row_within : (counts : Tallied) (call : CallParts) (acts : Acts) (found : Option Item) → Holds (say_mute acts) → IsValue call.value → IsFound found → IsOutcome (done_of counts call acts found)
+row_within : (counts : Tallied) (call : CallParts) (acts : Acts) (found : Option Item) → Holds (say_mute acts) → IsValue (value_in call) → IsFound found → IsOutcome (done_of counts call acts found)
 row_within counts call (always act) found mute is small = done_within counts call act found mute is small
 row_within counts call (by_item without with) None mute is small = done_within counts call without None (holds_both _ _ mute).0 is small
 row_within counts call (by_item without with) (Some item) mute is small = done_within counts call with (Some item) (holds_both _ _ mute).1 is small

@@ -1,15 +1,15 @@
 -- What all rows of the table of calls have in common: so lemmas go by what a call does, and not by its kind.
-use Rattle.std.specs.Prelude.{◌==◌, ◌&&◌, ◌||◌}
-use Rattle.std.proofs.Common.{◌≡◌, ℕ, Bool, true, false, cond, List, [], refl, sym, subst, arith, eq-eqb}
-use Rattle.std.specs.Prelude.{IfSome}
+use Rattle.std.specs.Prelude.{◌==◌, ◌&&◌, ◌||◌, Option, None, Some, IfSome, is_some, unwrap_or}
+use Rattle.std.proofs.Common.{ℕ, Bool, true, false, List, [], refl, sym, subst, arith, eq-eqb}
 use Rattle.zy_base.specs.declared.call.Call.{Call}
 use Rattle.zy_base.specs.declared.call.Call.TheVariants as Calls
 use Rattle.zy_base.specs.declared.call_kind.CallKind.{CallKind}
 use Rattle.zy_base.specs.declared.call_kind.CallKind.TheVariants.{Flush}
 use Rattle.zy_base.specs.declared.call_reply.CallReply.{CallReply}
 use Rattle.zy_base.specs.declared.call_reply.CallReply.TheVariants.{Hit, Stored, Number, Deleted}
-use Rattle.zy_base.specs.Table.{Act, Acts, says, shows, clears, tallies, always, by_item, row_of, parts_of}
-use Rattle.zy_base.specs.Code.{there, call_kind, fields_of}
+use Rattle.zy_base.specs.Table.{Act, Acts, says, shows, clears, tallies, always, by_item, row_of, parts_of, value_in}
+use Rattle.zy_base.specs.Call.{key_of}
+use Rattle.zy_base.specs.Code.{call_row, call_value}
 use Rattle.zy_base.specs.Kind.{Holds}
 use Rattle.zy_base.specs.Bounds.{IsValue, IsCall}
 use Rattle.zy_base.proofs.CodeLemmas.{value_within}
@@ -74,20 +74,15 @@ are_at false (always act) = needs_none act
 are_at true (by_item without with) = is_at_one without && is_at_one with
 are_at false (by_item without with) = needs_none without && needs_none with
 
-pub rows_at : (kind : CallKind) → Holds (are_at (fields_of kind).key (row_of kind).acts)
-rows_at Flush = tt
-rows_at kind = tt
+pub calls_at : (call : Call) → Holds (are_at (is_some (key_of call)) (call_row call).acts)
+calls_at Calls.Flush = tt
+calls_at call = tt
 
 -- ---- the value of a call
 
--- a call without a value has an empty one in its place
-no_value : (call : Call) → cond (fields_of (call_kind call)).value [] (parts_of call).value ≡ []
-no_value Calls.Flush = refl
-no_value call = refl
-
-pub value_small : (call : Call) → IsCall call → IsValue (parts_of call).value
-value_small call is = go (fields_of (call_kind call)).value (parts_of call).value (no_value call) (value_within call is)
+pub value_small : (call : Call) → IsCall call → IsValue (value_in (parts_of call))
+value_small call is = go (call_value call) (value_within call is)
   where
-    go : (b : Bool) (value : List ℕ) → cond b [] value ≡ [] → IfSome (there b value) IsValue → IsValue value
-    go true value none small = small
-    go false value none small = subst IsValue (sym none) (omega arith)
+    go : (value : Option (List ℕ)) → IfSome value IsValue → IsValue (unwrap_or value [])
+    go None small = omega arith
+    go (Some value) small = small

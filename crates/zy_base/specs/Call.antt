@@ -2,8 +2,7 @@
 use Rattle.std.specs.Prelude.{ℕ, List, Option}
 use Rattle.zy_base.specs.declared.call.Call.{Call}
 use Rattle.zy_base.specs.Table.{parts_of}
-use Rattle.zy_base.specs.Code.{there, call_kind, fields_of}
 
 -- the key of a call; a flush and a tally have none
 abbrev pub key_of : Call → Option (List ℕ)
-key_of call = there (fields_of (call_kind call)).key (parts_of call).key
+key_of call = (parts_of call).key

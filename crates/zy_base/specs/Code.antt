@@ -1,6 +1,6 @@
 -- The codes of calls and replies in a journal, and the fields that follow them: docs/FORMATS.md, "Journal". What a call
 -- has is told by the table of calls (`Table`).
-use Rattle.std.specs.Prelude.{ℕ, ◌==◌, if◌then◌else◌, Bool, true, false, List, Option, None, Some}
+use Rattle.std.specs.Prelude.{ℕ, ◌==◌, if◌then◌else◌, List, Option, None, Some}
 use Rattle.zy_base.specs.declared.call.Call.{Call}
 use Rattle.zy_base.specs.declared.call_kind.CallKind.{CallKind}
 use Rattle.zy_base.specs.declared.call_kind.CallFields.{CallFields}
@@ -32,22 +32,17 @@ call_kind call = (parts_of call).kind
 abbrev pub call_code : Call → ℕ
 call_code call = code_of (call_kind call)
 
--- a field that is there, or is not
-abbrev pub there : {X : Type 0} → Bool → X → Option X
-there true x = Some x
-there false x = None
-
 -- the flags of a call, where it has some
 abbrev pub call_flags : Call → Option ℕ
-call_flags call = there (fields_of (call_kind call)).flags (parts_of call).flags
+call_flags call = (parts_of call).flags
 
 -- the unique of a cas, and the amount of an incr or a decr
 abbrev pub call_number : Call → Option ℕ
-call_number call = there (fields_of (call_kind call)).number (parts_of call).number
+call_number call = (parts_of call).number
 
 -- the value of a call, where it has one
 abbrev pub call_value : Call → Option (List ℕ)
-call_value call = there (fields_of (call_kind call)).value (parts_of call).value
+call_value call = (parts_of call).value
 
 -- ---- replies
 

@@ -1,6 +1,6 @@
 -- The table of calls: what each kind of call is in a journal, what it does on its shard, and what it is counted as
 -- (docs/FORMATS.md, "Journal"; docs/PROFILE.md). A kind of call has a row here, its code, its fields, and no other case.
-use Rattle.std.specs.Prelude.{ℕ, ◌==◌, if◌then◌else◌, Bool, true, false, List, []}
+use Rattle.std.specs.Prelude.{ℕ, ◌==◌, if◌then◌else◌, Bool, true, false, List, [], Option, None, Some, unwrap_or}
 use Rattle.zy_base.specs.declared.call.Call.{Call}
 use Rattle.zy_base.specs.declared.call.Call.TheVariants as Calls
 use Rattle.zy_base.specs.declared.call_kind.CallKind.{CallKind}
@@ -90,31 +90,44 @@ kind_of code =
 
 -- ---- calls and their fields
 
--- a call's kind, its key, its flags, its number and its value; what it has not is 0 or empty
+-- a call's kind, and the key, the flags, the number and the value that it has
 pub record CallParts : Type 0 where
   pub kind : CallKind
-  pub key : List ℕ
-  pub flags : ℕ
-  pub number : ℕ
-  pub value : List ℕ
+  pub key : Option (List ℕ)
+  pub flags : Option ℕ
+  pub number : Option ℕ
+  pub value : Option (List ℕ)
 
-abbrev pub parts : CallKind → List ℕ → ℕ → ℕ → List ℕ → CallParts
+abbrev pub parts : CallKind → Option (List ℕ) → Option ℕ → Option ℕ → Option (List ℕ) → CallParts
 parts kind key flags number value = record { kind = kind; key = key; flags = flags; number = number; value = value }
 
 -- the parts of each call
 abbrev pub parts_of : Call → CallParts
-parts_of (Calls.Get key) = parts Get key 0 0 []
-parts_of (Calls.Set key flags value) = parts Set key flags 0 value
-parts_of (Calls.Add key flags value) = parts Add key flags 0 value
-parts_of (Calls.Replace key flags value) = parts Replace key flags 0 value
-parts_of (Calls.Append key value) = parts Append key 0 0 value
-parts_of (Calls.Prepend key value) = parts Prepend key 0 0 value
-parts_of (Calls.Cas flags key unique value) = parts Cas key flags unique value
-parts_of (Calls.Incr key amount) = parts Incr key 0 amount []
-parts_of (Calls.Decr key amount) = parts Decr key 0 amount []
-parts_of (Calls.Delete key) = parts Delete key 0 0 []
-parts_of Calls.Flush = parts Flush [] 0 0 []
-parts_of Calls.Tally = parts Tally [] 0 0 []
+parts_of (Calls.Get key) = parts Get (Some key) None None None
+parts_of (Calls.Set key flags value) = parts Set (Some key) (Some flags) None (Some value)
+parts_of (Calls.Add key flags value) = parts Add (Some key) (Some flags) None (Some value)
+parts_of (Calls.Replace key flags value) = parts Replace (Some key) (Some flags) None (Some value)
+parts_of (Calls.Append key value) = parts Append (Some key) None None (Some value)
+parts_of (Calls.Prepend key value) = parts Prepend (Some key) None None (Some value)
+parts_of (Calls.Cas flags key unique value) = parts Cas (Some key) (Some flags) (Some unique) (Some value)
+parts_of (Calls.Incr key amount) = parts Incr (Some key) None (Some amount) None
+parts_of (Calls.Decr key amount) = parts Decr (Some key) None (Some amount) None
+parts_of (Calls.Delete key) = parts Delete (Some key) None None None
+parts_of Calls.Flush = parts Flush None None None None
+parts_of Calls.Tally = parts Tally None None None None
+
+-- the key, and what is in place of one; so for the other parts
+abbrev pub key_in : CallParts → List ℕ
+key_in call = unwrap_or call.key []
+
+abbrev pub flags_in : CallParts → ℕ
+flags_in call = unwrap_or call.flags 0
+
+abbrev pub number_in : CallParts → ℕ
+number_in call = unwrap_or call.number 0
+
+abbrev pub value_in : CallParts → List ℕ
+value_in call = unwrap_or call.value []
 
 -- the call of a kind, with its fields
 abbrev pub call_of : CallKind → List ℕ → ℕ → ℕ → List ℕ → Call
