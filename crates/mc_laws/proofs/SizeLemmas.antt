@@ -11,7 +11,8 @@ use Rattle.mc_parse.specs.declared.command.Command.{Command}
 use Rattle.mc_parse.specs.declared.error_line.ErrorLine.{ErrorLine}
 use Rattle.mc_parse.specs.declared.error_line.ErrorLine.TheVariants as Errors
 use Rattle.mc_parse.specs.Saying.{Fixed, the_version, is_done, does_noop, has_fault, About, a_found, a_stored, a_removed}
-use Rattle.mc_parse.specs.Saying.{Saying, says_reply, says_items, says_counts, says_line, says_marks, says_of}
+use Rattle.mc_parse.specs.Saying.{Saying, says_reply, says_items, says_counts, says_line, says_marks}
+use Rattle.mc_parse.specs.Deed.{says_of}
 use Rattle.mc_parse.specs.Bounds.{IsShown, IsCommand}
 use Rattle.mc_laws.proofs.WidthLemmas.{letters_in, width}
 use Rattle.mc_meta.specs.Flags.{is_among}
