@@ -1,6 +1,6 @@
 -- The replies to the calls on one key, uniques aside, depend on these calls and the flushes alone.
 use Rattle.std.proofs.Common.{◌≡◌, ℕ, Bool, true, false, cond, List, [], ◌∷◌, ◌++◌, length, refl, sym, ap, ◌∙◌, subst}
-use Rattle.std.specs.Prelude.{is_some, unwrap_or, ◌&&◌, Option, None, Some, nat_lt, ◌==◌}
+use Rattle.std.specs.Prelude.{is_some, unwrap_or, ◌&&◌, Option, None, Some, nat_lt}
 use Rattle.std.specs.Ordering.{nat_cmp, is_eq}
 use Rattle.std.specs.declared.cmp.Ordering.{Ordering}
 use Rattle.std.specs.declared.cmp.Ordering.TheVariants.{Less, Equal, Greater}
@@ -9,10 +9,11 @@ use Rattle.std.specs.FinMap.{get, get-empty, get-insert, get-remove, slice_cmp-I
 use Rattle.zy_base.specs.declared.item.Item.{Item}
 use Rattle.zy_base.specs.declared.call.Call.{Call}
 use Rattle.zy_base.specs.declared.call.Call.TheVariants.{Cas, Flush, Tally}
-use Rattle.zy_base.specs.Table.{CallParts, parts_of, key_in, number_in, value_in, Act, Acts, says, shows, puts, appends, prepends, exchanges, counts_up, counts_down, takes, clears, tallies, always, by_item}
+use Rattle.zy_base.specs.Table.{CallParts, parts_of, key_in, number_in, value_in, Act, Acts, says, shows, appends, prepends, exchanges, counts_up, counts_down, takes, clears, tallies, always, by_item}
 use Rattle.zy_base.specs.Code.{call_row, call_kind}
 use Rattle.zy_base.specs.Kind.{Holds}
-use Rattle.zy_base.proofs.TableLemmas.{holds_both, says_mute, say_mute, rows_say, is_at_one, needs_none, are_at, calls_at}
+use Rattle.zy_base.proofs.TableLemmas.{holds_both, says_mute, say_mute, rows_say, are_single, rows_single, is_clear, are_at, calls_at}
+use Rattle.zy_base.proofs.KindLemmas.{acts_by, bare_by}
 use Rattle.zy_base.specs.declared.call_reply.CallReply.{CallReply}
 use Rattle.zy_base.specs.declared.call_reply.CallReply.TheVariants.{Hit, Stored, TooLarge}
 use Rattle.zy_base.specs.declared.tallied.Tallied.{Tallied}
@@ -127,53 +128,27 @@ calls_clear : (call : Call) → Holds (clear_bare (is_some (key_of call)) (call_
 calls_clear Flush = tt
 calls_clear call = tt
 
-chosen_for : (on : Option (List ℕ)) (b : Bool) (x y : Outcome) → IsFor on x.effect → IsFor on y.effect → IsFor on (cond b x y).effect
-chosen_for on true x y here there = here
-chosen_for on false x y here there = there
-
-counted_up_for : (key : List ℕ) (item : Item) (amount : ℕ) (number : Option ℕ) → IsFor (Some key) (counted_up key item amount number).effect
-counted_up_for key item amount None = tt
-counted_up_for key item amount (Some number) = refl
-
-counted_down_for : (key : List ℕ) (item : Item) (amount : ℕ) (number : Option ℕ) → IsFor (Some key) (counted_down key item amount number).effect
-counted_down_for key item amount None = tt
-counted_down_for key item amount (Some number) = refl
-
-done_for : (counts : Tallied) (call : CallParts) (act : Act) (found : Option Item) → Holds (is_at_one act) → IsFor (Some (key_in call)) (done counts call act found).effect
-done_for counts call shows (Some item) at = tt
-done_for counts call puts found at = refl
-done_for counts call appends (Some item) at = chosen_for (Some (key_in call)) (nat_lt value_limit (length (item.value ++ (value_in call)))) _ _ tt refl
-done_for counts call prepends (Some item) at = chosen_for (Some (key_in call)) (nat_lt value_limit (length ((value_in call) ++ item.value))) _ _ tt refl
-done_for counts call exchanges (Some item) at = chosen_for (Some (key_in call)) (item.unique == (number_in call)) _ _ refl tt
-done_for counts call counts_up (Some item) at = counted_up_for (key_in call) item (number_in call) (number_of item.value)
-done_for counts call counts_down (Some item) at = counted_down_for (key_in call) item (number_in call) (number_of item.value)
-done_for counts call takes (Some item) at = refl
-done_for counts call clears found at = absurd at
-done_for counts call act found at = tt
-
-bare_for : (counts : Tallied) (call : CallParts) (act : Act) (found : Option Item) → Holds (needs_none act) → IsFor None (done counts call act found).effect
-bare_for counts call (says reply) found none = tt
-bare_for counts call shows None none = tt
-bare_for counts call shows (Some item) none = tt
-bare_for counts call tallies found none = tt
-bare_for counts call act found none = absurd none
-
 -- an effect of a call is on its key, where it has one, and else on no key
-acts_for : (counts : Tallied) (call : CallParts) (key : Option (List ℕ)) (acts : Acts) (found : Option Item) → call.key ≡ key → Holds (are_at (is_some key) acts) → Holds (clear_bare (is_some key) acts)
-    → IsFor key (done_of counts call acts found).effect
-acts_for counts call (Some key) (always clears) found own at clear = absurd clear
-acts_for counts call None (always clears) found own at clear = tt
-acts_for counts call (Some key) (always act) found own at clear = subst (λ k. IsFor (Some k) (done counts call act found).effect) (ap (λ k. unwrap_or k []) own) (done_for counts call act found tt)
-acts_for counts call None (always act) found own at clear = bare_for counts call act found at
-acts_for counts call (Some key) (by_item without with) None own at clear =
-    subst (λ k. IsFor (Some k) (done counts call without None).effect) (ap (λ k. unwrap_or k []) own) (done_for counts call without None (holds_both _ _ at).0)
-acts_for counts call (Some key) (by_item without with) (Some item) own at clear =
-    subst (λ k. IsFor (Some k) (done counts call with (Some item)).effect) (ap (λ k. unwrap_or k []) own) (done_for counts call with (Some item) (holds_both _ _ at).1)
-acts_for counts call None (by_item without with) None own at clear = bare_for counts call without None (holds_both _ _ at).0
-acts_for counts call None (by_item without with) (Some item) own at clear = bare_for counts call with (Some item) (holds_both _ _ at).1
+acts_for : (counts : Tallied) (call : CallParts) (key : Option (List ℕ)) (acts : Acts) (found : Option Item) → call.key ≡ key → Holds (say_mute acts) → Holds (are_single acts)
+    → Holds (are_at (is_some key) acts) → Holds (clear_bare (is_some key) acts) → IsFor key (done_of counts call acts found).effect
+acts_for counts call None acts found own mute single at clear =
+    bare_by counts call found (λ outcome. IsFor None outcome.effect) (λ reply mute. tt) (λ item. tt) acts mute at (λ all. tt)
+acts_for counts call (Some key) acts found own mute single at clear =
+    subst (λ k. IsFor (Some k) (done_of counts call acts found).effect) (ap (λ k. unwrap_or k []) own)
+    (acts_by counts call found (λ outcome. IsFor (Some (key_in call)) outcome.effect) (record {
+      says = λ reply mute. tt;
+      shows = λ item there. tt;
+      stores = λ flags value small. refl;
+      numbers = λ item number fits. refl;
+      takes = refl;
+    }) acts found refl mute single (λ all. absurd (keyed acts all clear)))
+  where
+    keyed : (acts : Acts) → Holds (is_clear acts) → Holds (clear_bare true acts) → ⊥
+    keyed (always clears) all clear = absurd clear
+    keyed acts all clear = absurd all
 
 effect_for : (counts : Tallied) (call : Call) (found : Option Item) → IsFor (key_of call) (outcome_of counts call found).effect
-effect_for counts call found = acts_for counts (parts_of call) (key_of call) (call_row call).acts found refl (calls_at call) (calls_clear call)
+effect_for counts call found = acts_for counts (parts_of call) (key_of call) (call_row call).acts found refl (rows_say (call_kind call)) (rows_single (call_kind call)) (calls_at call) (calls_clear call)
 
 chosen : {A : Type 0} (b : Bool) (x y : A) → b ≡ true → cond b x y ≡ x
 chosen true x y is = refl

@@ -1,23 +1,24 @@
 -- What a shard counts in a replay is counted from the entries alone.
-use Rattle.std.specs.Prelude.{◌==◌, nat_lt, count_by, is_some, unwrap_or, Option, None, Some, ⊤}
-use Rattle.std.proofs.Common.{◌≡◌, ℕ, ◌+◌, ◌-◌, ◌≤◌, Bool, true, false, cond, List, [], ◌∷◌, ◌++◌, length, refl, sym, ap, ◌∙◌, subst, arith}
+use Rattle.std.specs.Prelude.{count_by, is_some, unwrap_or, decimal, Option, None, Some, ⊤}
+use Rattle.std.proofs.Common.{◌≡◌, ℕ, ◌+◌, ◌-◌, ◌≤◌, Bool, true, false, cond, List, [], ◌∷◌, length, refl, sym, ap, ◌∙◌, subst, arith}
 use Rattle.std.proofs.lemmas.List.Sums.{sum_by-cons, count_by-le-length}
 use Rattle.std.specs.Ordering.{nat_cmp, eq_by_cmp}
 use Rattle.std.specs.Cmp.Lexicographic.{slice_cmp, nat_list_cmp_total}
 use Rattle.std.specs.FinMap.{empty, get, contains_key, insert, remove, len, get-empty, get-insert, get-remove, len-empty, len-insert, len-remove}
 use Rattle.zy_base.specs.declared.item.Item.{Item}
 use Rattle.zy_base.specs.declared.call.Call.{Call}
-use Rattle.zy_base.specs.declared.call_reply.CallReply.TheVariants.{Hit, Stored, Number, Deleted, TooLarge, Exists}
+use Rattle.zy_base.specs.declared.call_reply.CallReply.{CallReply}
+use Rattle.zy_base.specs.declared.call_reply.CallReply.TheVariants.{Stored, Number, Deleted}
 use Rattle.zy_base.specs.declared.entry.Entry.{Entry}
 use Rattle.zy_base.specs.declared.tallied.Tallied.{Tallied}
 use Rattle.zy_base.specs.Call.{key_of}
-use Rattle.zy_base.specs.Number.{number_of}
-use Rattle.zy_base.specs.Table.{CallParts, parts_of, key_in, flags_in, number_in, value_in, Act, Acts, says, shows, puts, appends, prepends, exchanges, counts_up, counts_down, takes, clears, tallies, always, by_item}
+use Rattle.zy_base.specs.Table.{CallParts, parts_of, key_in, Acts, clears, always, by_item}
 use Rattle.zy_base.specs.Code.{call_row, call_kind}
 use Rattle.zy_base.specs.Kind.{Holds}
-use Rattle.zy_base.proofs.TableLemmas.{holds_both, says_mute, say_mute, rows_say, is_at_one, needs_none, are_at, calls_at}
+use Rattle.zy_base.proofs.TableLemmas.{is_mute, say_mute, rows_say, are_single, rows_single, is_clear, are_at, calls_at}
+use Rattle.zy_base.proofs.KindLemmas.{Outcomes, acts_by, bare_by}
 use Rattle.zy_base.specs.Counted.{is_get, is_set, is_hit, is_miss, one_more_if, KeySet, no_keys, keys_by, keys_past, keys_with, keys_after, counted}
-use Rattle.zy_base.specs.Shard.{Items, State, empty_state, tallied, Outcome, value_limit, answers, stored, counted_up, counted_down, done, done_of, outcome_of, item_at, reply_to, state_with, state_after}
+use Rattle.zy_base.specs.Shard.{Items, State, empty_state, tallied, Outcome, answers, stored, done_of, outcome_of, item_at, reply_to, state_with, state_after}
 use Rattle.zy_base.specs.History.{IsReplay, replayed}
 
 -- ---- calls
@@ -117,64 +118,45 @@ module _ (shards number : ℕ) (state : State) (keys : KeySet) (are : AreKeys ke
   put : (key : List ℕ) (flags : ℕ) (value : List ℕ) → AreKeys (insert keys key tt) (state_with shards number state (stored key flags value).effect).items
   put key flags value = after_put keys state.items key _ are
 
-  joined : (key : List ℕ) (flags : ℕ) (value : List ℕ) (test : Bool) → After (Some key) (cond test (answers TooLarge) (stored key flags value))
-  joined key flags value true = are
-  joined key flags value false = put key flags value
+  -- a reply alone leaves the keys
+  mute_keys : (key : Option (List ℕ)) (reply : CallReply) → Holds (is_mute reply) → After key (answers reply)
+  mute_keys None reply mute = are
+  mute_keys (Some key) Stored mute = absurd mute
+  mute_keys (Some key) (Number number) mute = absurd mute
+  mute_keys (Some key) Deleted mute = absurd mute
+  mute_keys (Some key) reply mute = are
 
-  exchanged : (key : List ℕ) (flags : ℕ) (value : List ℕ) (test : Bool) → After (Some key) (cond test (stored key flags value) (answers Exists))
-  exchanged key flags value true = put key flags value
-  exchanged key flags value false = are
+  module _ (counts : Tallied) (call : CallParts) (found : Option Item) where
+    -- after an outcome at the key of a call
+    each : Outcomes call found (After (Some (key_in call)))
+    each = record {
+      says = mute_keys (Some (key_in call));
+      shows = λ item there. are;
+      stores = λ flags value small. put (key_in call) flags value;
+      numbers = λ item number fits. put (key_in call) item.flags (decimal number);
+      takes = after_taken keys state.items (key_in call) are;
+    }
 
-  up : (key : List ℕ) (item : Item) (amount : ℕ) (number : Option ℕ) → After (Some key) (counted_up key item amount number)
-  up key item amount None = are
-  up key item amount (Some n) = put key _ _
+    at_key : (acts : Acts) (key : List ℕ) → call.key ≡ Some key → Holds (say_mute acts) → Holds (are_single acts) → (Holds (is_clear acts) → ⊥) → After (Some key) (done_of counts call acts found)
+    at_key acts key own mute single other =
+        subst (λ k. After (Some k) (done_of counts call acts found)) (ap (λ (k : Option (List ℕ)). unwrap_or k []) own)
+        (acts_by counts call found (After (Some (key_in call))) each acts found refl mute single (λ clear. absurd (other clear)))
 
-  down : (key : List ℕ) (item : Item) (amount : ℕ) (number : Option ℕ) → After (Some key) (counted_down key item amount number)
-  down key item amount None = are
-  down key item amount (Some n) = put key _ _
+    no_key : (acts : Acts) → Holds (say_mute acts) → Holds (are_at false acts) → (Holds (is_clear acts) → ⊥) → After None (done_of counts call acts found)
+    no_key acts mute at other = bare_by counts call found (After None) (mute_keys None) (λ item. are) acts mute at (λ clear. absurd (other clear))
 
-  -- after an act at the key of a call
-  after_done : (counts : Tallied) (call : CallParts) (act : Act) (found : Option Item) → Holds (says_mute act) → Holds (is_at_one act) → After (Some (key_in call)) (done counts call act found)
-  after_done counts call (says (Hit flags unique value)) found mute at = absurd mute
-  after_done counts call (says Stored) found mute at = absurd mute
-  after_done counts call (says (Number n)) found mute at = absurd mute
-  after_done counts call (says Deleted) found mute at = absurd mute
-  after_done counts call shows (Some item) mute at = are
-  after_done counts call puts found mute at = put (key_in call) (flags_in call) (value_in call)
-  after_done counts call appends (Some item) mute at = joined (key_in call) item.flags (item.value ++ (value_in call)) (nat_lt value_limit (length (item.value ++ (value_in call))))
-  after_done counts call prepends (Some item) mute at = joined (key_in call) item.flags ((value_in call) ++ item.value) (nat_lt value_limit (length ((value_in call) ++ item.value)))
-  after_done counts call exchanges (Some item) mute at = exchanged (key_in call) (flags_in call) (value_in call) (item.unique == (number_in call))
-  after_done counts call counts_up (Some item) mute at = up (key_in call) item (number_in call) (number_of item.value)
-  after_done counts call counts_down (Some item) mute at = down (key_in call) item (number_in call) (number_of item.value)
-  after_done counts call takes (Some item) mute at = after_taken keys state.items (key_in call) are
-  after_done counts call clears found mute at = absurd at
-  after_done counts call act found mute at = are
-
-  -- after an act without a key
-  after_bare : (counts : Tallied) (call : CallParts) (act : Act) (found : Option Item) → Holds (needs_none act) → After None (done counts call act found)
-  after_bare counts call (says reply) found none = are
-  after_bare counts call shows None none = are
-  after_bare counts call shows (Some item) none = are
-  after_bare counts call tallies found none = are
-  after_bare counts call act found none = absurd none
-
-  -- after the acts of a call
-  after_acts : (counts : Tallied) (call : CallParts) (key : Option (List ℕ)) (acts : Acts) (found : Option Item) → call.key ≡ key → Holds (say_mute acts) → Holds (are_at (is_some key) acts)
-      → AreKeys (keys_past acts key (done_of counts call acts found).reply keys) (state_with shards number state (done_of counts call acts found).effect).items
-  after_acts counts call key (always clears) found own mute at = no_items
-  after_acts counts call (Some key) (always act) found own mute at = subst (λ k. After (Some k) (done counts call act found)) (ap (λ k. unwrap_or k []) own) (after_done counts call act found mute tt)
-  after_acts counts call None (always act) found own mute at = after_bare counts call act found at
-  after_acts counts call (Some key) (by_item without with) None own mute at =
-      subst (λ k. After (Some k) (done counts call without None)) (ap (λ k. unwrap_or k []) own) (after_done counts call without None (holds_both _ _ mute).0 (holds_both _ _ at).0)
-  after_acts counts call (Some key) (by_item without with) (Some item) own mute at =
-      subst (λ k. After (Some k) (done counts call with (Some item))) (ap (λ k. unwrap_or k []) own) (after_done counts call with (Some item) (holds_both _ _ mute).1 (holds_both _ _ at).1)
-  after_acts counts call None (by_item without with) None own mute at = after_bare counts call without None (holds_both _ _ at).0
-  after_acts counts call None (by_item without with) (Some item) own mute at = after_bare counts call with (Some item) (holds_both _ _ at).1
+    after_acts : (acts : Acts) (key : Option (List ℕ)) → call.key ≡ key → Holds (say_mute acts) → Holds (are_single acts) → Holds (are_at (is_some key) acts)
+        → AreKeys (keys_past acts key (done_of counts call acts found).reply keys) (state_with shards number state (done_of counts call acts found).effect).items
+    after_acts (always clears) key own mute single at = no_items
+    after_acts (always act) (Some key) own mute single at = at_key (always act) key own mute single (λ clear. clear)
+    after_acts (always act) None own mute single at = no_key (always act) mute at (λ clear. clear)
+    after_acts (by_item without with) (Some key) own mute single at = at_key (by_item without with) key own mute single (λ clear. clear)
+    after_acts (by_item without with) None own mute single at = no_key (by_item without with) mute at (λ clear. clear)
 
   after_outcome : (counts : Tallied) (call : Call) (found : Option Item)
       → AreKeys (keys_with keys call (outcome_of counts call found).reply) (state_with shards number state (outcome_of counts call found).effect).items
   after_outcome counts call found =
-      after_acts counts (parts_of call) (key_of call) (call_row call).acts found refl (rows_say (call_kind call)) (calls_at call)
+      after_acts counts (parts_of call) found (call_row call).acts (key_of call) refl (rows_say (call_kind call)) (rows_single (call_kind call)) (calls_at call)
 
 keys_are : (shards number : ℕ) (state : State) (keys : KeySet) (es : List Entry) → AreKeys keys state.items → IsReplay shards number state es
     → AreKeys (keys_after keys es) (replayed shards number state es).items

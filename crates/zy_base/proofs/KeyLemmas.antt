@@ -1,6 +1,6 @@
 -- What is seen at one key of a shard depends on the calls with this key alone.
-use Rattle.std.proofs.Common.{◌≡◌, ℕ, ◌+◌, Bool, true, false, cond, List, length, refl, sym, ap, ◌∙◌, subst, Option, None, Some}
-use Rattle.std.specs.Prelude.{◌++◌, nat_lt, [], unwrap_or}
+use Rattle.std.proofs.Common.{◌≡◌, ℕ, ◌+◌, Bool, true, false, cond, List, refl, sym, ap, ◌∙◌, subst, Option, None, Some}
+use Rattle.std.specs.Prelude.{[], unwrap_or}
 use Rattle.std.specs.Ordering.{nat_cmp, eq_by_cmp, is_eq}
 use Rattle.std.specs.declared.cmp.Ordering.{Ordering}
 use Rattle.std.specs.declared.cmp.Ordering.TheVariants.{Less, Equal, Greater}
@@ -8,15 +8,14 @@ use Rattle.std.specs.Cmp.Lexicographic.{slice_cmp, nat_list_cmp_total}
 use Rattle.std.specs.FinMap.{get, get-empty, get-insert, get-remove, nat_cmp-IsAntisymmetric, slice_cmp-IsAntisymmetric}
 use Rattle.zy_base.specs.declared.item.Item.{Item}
 use Rattle.zy_base.specs.declared.call.Call.{Call}
-use Rattle.zy_base.specs.Table.{CallParts, parts_of, key_in, number_in, value_in, Act, Acts, shows, puts, appends, prepends, exchanges, counts_up, counts_down, takes, clears, tallies, always, by_item}
+use Rattle.zy_base.specs.Table.{CallParts, parts_of, key_in, Act, Acts, exchanges, clears, tallies, always, by_item}
 use Rattle.zy_base.specs.Code.{call_row}
 use Rattle.zy_base.specs.Kind.{Holds}
-use Rattle.zy_base.specs.declared.call_reply.CallReply.TheVariants.{TooLarge}
 use Rattle.zy_base.specs.declared.tallied.Tallied.{Tallied}
 use Rattle.zy_base.specs.Call.{key_of}
-use Rattle.zy_base.specs.Number.{number_of}
-use Rattle.zy_base.specs.Shard.{Items, State, Effect, keeps, stores, removes, empties, value_limit, unique_of, reply_to, state_after, state_with, tallied, item_at, done, done_of, outcome_of, outcome_on, answers, stored, counted_up, counted_down}
-use Rattle.zy_base.proofs.TableLemmas.{holds_both}
+use Rattle.zy_base.specs.Shard.{Items, State, Effect, keeps, stores, removes, empties, unique_of, reply_to, state_after, state_with, tallied, item_at, done, done_of, outcome_of, outcome_on}
+use Rattle.zy_base.proofs.TableLemmas.{holds_both, is_clear}
+use Rattle.zy_base.proofs.KindLemmas.{outcome_by}
 use Rattle.zy_base.specs.Told.{told, seen, seen_at, seen_after, is_steady_act, are_steady, IsSteady, IsAtOnly}
 
 -- ---- what a call answers and does
@@ -55,40 +54,22 @@ effect-outcome_of counts others call found steady = effect-done_of counts others
 
 -- ---- the key of an effect
 
-at-stored : (key : List ℕ) (item : Item) (value : List ℕ) (b : Bool) → IsAtOnly key (cond b (answers TooLarge) (stored key item.flags value)).effect
-at-stored key item value true = tt
-at-stored key item value false = refl
-
-at-counted_up : (key : List ℕ) (item : Item) (amount : ℕ) (number : Option ℕ) → IsAtOnly key (counted_up key item amount number).effect
-at-counted_up key item amount None = tt
-at-counted_up key item amount (Some number) = refl
-
-at-counted_down : (key : List ℕ) (item : Item) (amount : ℕ) (number : Option ℕ) → IsAtOnly key (counted_down key item amount number).effect
-at-counted_down key item amount None = tt
-at-counted_down key item amount (Some number) = refl
-
--- an act that is not about all items is at the key of the call
-at-done : (counts : Tallied) (call : CallParts) (act : Act) (found : Option Item) → Holds (is_steady_act act) → IsAtOnly (key_in call) (done counts call act found).effect
-at-done counts call shows (Some item) steady = tt
-at-done counts call puts found steady = refl
-at-done counts call appends (Some item) steady = at-stored (key_in call) item (item.value ++ (value_in call)) (nat_lt value_limit (length (item.value ++ (value_in call))))
-at-done counts call prepends (Some item) steady = at-stored (key_in call) item ((value_in call) ++ item.value) (nat_lt value_limit (length ((value_in call) ++ item.value)))
-at-done counts call exchanges (Some item) steady = absurd steady
-at-done counts call counts_up (Some item) steady = at-counted_up (key_in call) item (number_in call) (number_of item.value)
-at-done counts call counts_down (Some item) steady = at-counted_down (key_in call) item (number_in call) (number_of item.value)
-at-done counts call takes (Some item) steady = refl
-at-done counts call clears found steady = absurd steady
-at-done counts call act found steady = tt
-
-at-done_of : (counts : Tallied) (call : CallParts) (acts : Acts) (found : Option Item) → Holds (are_steady acts) → IsAtOnly (key_in call) (done_of counts call acts found).effect
-at-done_of counts call (always act) found steady = at-done counts call act found steady
-at-done_of counts call (by_item without with) None steady = at-done counts call without None (holds_both _ _ steady).0
-at-done_of counts call (by_item without with) (Some item) steady = at-done counts call with (Some item) (holds_both _ _ steady).1
+-- a steady call does not remove all items
+not_clear : (acts : Acts) → Holds (are_steady acts) → Holds (is_clear acts) → ⊥
+not_clear (always clears) steady clear = absurd steady
+not_clear acts steady clear = absurd clear
 
 -- the effect of a call is at its key
 at-outcome_of : (counts : Tallied) (key : List ℕ) (call : Call) (found : Option Item) → IsSteady call → key_of call ≡ Some key → IsAtOnly key (outcome_of counts call found).effect
 at-outcome_of counts key call found steady is =
-    subst (λ k. IsAtOnly k (outcome_of counts call found).effect) (ap (λ (own : Option (List ℕ)). unwrap_or own []) is) (at-done_of counts (parts_of call) (call_row call).acts found steady)
+    subst (λ k. IsAtOnly k (outcome_of counts call found).effect) (ap (λ (own : Option (List ℕ)). unwrap_or own []) is)
+    (outcome_by counts call found (λ outcome. IsAtOnly (key_in (parts_of call)) outcome.effect) (record {
+      says = λ reply mute. tt;
+      shows = λ item found. tt;
+      stores = λ flags value small. refl;
+      numbers = λ item number fits. refl;
+      takes = refl;
+    }) (λ clear. absurd (not_clear (call_row call).acts steady clear)))
 
 -- ---- a shard after an effect
 

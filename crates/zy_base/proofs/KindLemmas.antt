@@ -1,16 +1,22 @@
--- Each call gets a reply of a kind that the table of calls gives for it.
-use Rattle.std.specs.Prelude.{Option, None, Some, nat_lt, ◌==◌}
-use Rattle.std.proofs.Common.{ℕ, Bool, true, false, cond, List, ◌++◌, length}
+-- What each act answers and does: so each call gets a reply of a kind that the table of calls gives for it, and its
+-- outcome has each property that the outcomes of all acts have.
+use Rattle.std.specs.Prelude.{Option, None, Some, nat_lt, ◌==◌, ◌&&◌, if◌then◌else◌}
+use Rattle.std.proofs.Common.{◌≡◌, ℕ, ◌+◌, ◌-◌, ◌%◌, ◌^◌, ◌<◌, Bool, true, false, cond, List, ◌++◌, length, refl, arith}
+use Rattle.std.specs.Str.Parse.{digits_value}
+use borrow.Author.Tests.{ltb-true, ltb-false}
 use Rattle.zy_base.specs.declared.item.Item.{Item}
 use Rattle.zy_base.specs.declared.call.Call.{Call}
+use Rattle.zy_base.specs.declared.call_reply.CallReply.{CallReply}
+use Rattle.zy_base.specs.declared.call_reply.CallReply.TheVariants.{Miss, Hit, NotStored, Exists, NotFound, Deleted, NotNumber, TooLarge, Flushed}
 use Rattle.zy_base.specs.declared.tallied.Tallied.{Tallied}
-use Rattle.zy_base.specs.Table.{CallParts, parts_of, key_in, number_in, value_in, Act, Acts, says, appends, prepends, exchanges, counts_up, counts_down, always, by_item}
-use Rattle.zy_base.specs.Number.{number_of}
-use Rattle.zy_base.specs.Shard.{State, Outcome, value_limit, counted_up, counted_down, tallied, done, done_of, outcome_of, item_at, reply_to}
+use Rattle.zy_base.specs.Table.{CallParts, parts_of, key_in, flags_in, number_in, value_in, Act, Acts, says, shows, puts, appends, prepends, exchanges, counts_up, counts_down, takes, clears, tallies, always, by_item}
+use Rattle.zy_base.specs.Number.{number_of, is_numeral}
+use Rattle.zy_base.specs.Shard.{State, Outcome, removes, empties, value_limit, answers, stored, joined, renumbered, counted_up, counted_down, tallied, done, done_of, says_without, says_with, may_say, outcome_of, item_at, reply_to}
 use Rattle.zy_base.specs.Call.{key_of}
-use Rattle.zy_base.specs.Code.{call_row, reply_code}
-use Rattle.zy_base.proofs.TableLemmas.{holds_first, holds_second, holds_equal}
-use Rattle.zy_base.specs.Kind.{says_without, says_with, may_say, Holds, MayAnswer}
+use Rattle.zy_base.specs.Bounds.{IsValue}
+use Rattle.zy_base.specs.Code.{call_row, call_kind, reply_code, tally}
+use Rattle.zy_base.proofs.TableLemmas.{holds_first, holds_second, holds_both, holds_equal, is_mute, says_mute, say_mute, rows_say, is_at_one, are_single, rows_single, is_clear, needs_none, are_at}
+use Rattle.zy_base.specs.Kind.{Holds, MayAnswer}
 
 chosen : (act : Act) (b : Bool) (x y : Outcome) → Holds (says_with act x.reply) → Holds (says_with act y.reply) → Holds (says_with act (cond b x y).reply)
 chosen act true x y here there = here
@@ -37,6 +43,108 @@ says_some counts call exchanges item = chosen exchanges (item.unique == (number_
 says_some counts call counts_up item = counted_up_says (key_in call) item (number_in call) (number_of item.value)
 says_some counts call counts_down item = counted_down_says (key_in call) item (number_in call) (number_of item.value)
 says_some counts call act item = tt
+
+-- ---- what an act comes to
+
+-- all items are removed
+abbrev pub cleared : Outcome
+cleared = record { reply = Flushed; effect = empties }
+
+-- a property that all outcomes have at the key of a call that finds this
+pub record Outcomes (call : CallParts) (found : Option Item) (P : Outcome → Type 0) : Type 0 where
+  -- a reply alone
+  pub says : (reply : CallReply) → Holds (is_mute reply) → P (answers reply)
+  -- the item
+  pub shows : (item : Item) → found ≡ Some item → P (answers (Hit item.flags item.unique item.value))
+  -- a value that is stored
+  pub stores : (flags : ℕ) (value : List ℕ) → (IsValue (value_in call) → IsValue value) → P (stored (key_in call) flags value)
+  -- a number that is stored
+  pub numbers : (item : Item) (number : ℕ) → number < 2 ^ 64 → P (renumbered (key_in call) item number)
+  -- an item that is removed
+  pub takes : P (record { reply = Deleted; effect = removes (key_in call) })
+
+number_small : (text : List ℕ) (number : ℕ) → number_of text ≡ Some number → number < 2 ^ 64
+number_small text number is = go (is_numeral text) (nat_lt (digits_value 10 text) (2 ^ 64)) refl is
+  where
+    go : (a b : Bool) → nat_lt (digits_value 10 text) (2 ^ 64) ≡ b → (if a && b then Some (digits_value 10 text) else None) ≡ Some number → number < 2 ^ 64
+    go true true below found = let same : digits_value 10 text ≡ number = cc in let less = ltb-true (digits_value 10 text) (2 ^ 64) below in omega arith
+    go true false below found = absurd (cc)
+    go false b below found = absurd (cc)
+
+module _ (counts : Tallied) (call : CallParts) (found : Option Item) (P : Outcome → Type 0) (each : Outcomes call found P) where
+  joined_by : (item : Item) (value : List ℕ) → P (joined (key_in call) item value)
+  joined_by item value = go (nat_lt value_limit (length value)) refl
+    where
+      go : (b : Bool) → nat_lt value_limit (length value) ≡ b → P (if b then answers TooLarge else stored (key_in call) item.flags value)
+      go true over = each.says TooLarge tt
+      go false over = each.stores item.flags value (λ small. ltb-false value_limit (length value) over)
+
+  exchanged_by : (b : Bool) → P (if b then stored (key_in call) (flags_in call) (value_in call) else answers Exists)
+  exchanged_by true = each.stores (flags_in call) (value_in call) (λ small. small)
+  exchanged_by false = each.says Exists tt
+
+  up_by : (item : Item) (number : Option ℕ) → P (counted_up (key_in call) item (number_in call) number)
+  up_by item None = each.says NotNumber tt
+  up_by item (Some number) = each.numbers item ((number + number_in call) % 2 ^ 64) (omega arith)
+
+  down_by : (item : Item) (number : Option ℕ) → number_of item.value ≡ number → P (counted_down (key_in call) item (number_in call) number)
+  down_by item None is = each.says NotNumber tt
+  down_by item (Some number) is = each.numbers item (number - number_in call) (let less = number_small item.value number is in omega arith)
+
+  -- an act about one item
+  done_by : (act : Act) (own : Option Item) → found ≡ own → Holds (says_mute act) → Holds (is_at_one act) → P (done counts call act own)
+  done_by (says reply) own is mute at = each.says reply mute
+  done_by shows None is mute at = each.says Miss tt
+  done_by shows (Some item) is mute at = each.shows item is
+  done_by puts own is mute at = each.stores (flags_in call) (value_in call) (λ small. small)
+  done_by appends None is mute at = each.says NotStored tt
+  done_by appends (Some item) is mute at = joined_by item (item.value ++ value_in call)
+  done_by prepends None is mute at = each.says NotStored tt
+  done_by prepends (Some item) is mute at = joined_by item (value_in call ++ item.value)
+  done_by exchanges None is mute at = each.says NotFound tt
+  done_by exchanges (Some item) is mute at = exchanged_by (item.unique == number_in call)
+  done_by counts_up None is mute at = each.says NotFound tt
+  done_by counts_up (Some item) is mute at = up_by item (number_of item.value)
+  done_by counts_down None is mute at = each.says NotFound tt
+  done_by counts_down (Some item) is mute at = down_by item (number_of item.value) refl
+  done_by takes None is mute at = each.says NotFound tt
+  done_by takes (Some item) is mute at = each.takes
+  done_by clears own is mute at = absurd at
+  done_by tallies own is mute at = each.says (tally counts) tt
+
+  -- the acts of a call
+  pub acts_by : (acts : Acts) (own : Option Item) → found ≡ own → Holds (say_mute acts) → Holds (are_single acts) → (Holds (is_clear acts) → P cleared) → P (done_of counts call acts own)
+  acts_by (always clears) own is mute single none = none tt
+  acts_by (always act) own is mute single none = done_by act own is mute tt
+  acts_by (by_item without with) None is mute single none = done_by without None is (holds_both _ _ mute).0 (holds_both _ _ single).0
+  acts_by (by_item without with) (Some item) is mute single none = done_by with (Some item) is (holds_both _ _ mute).1 (holds_both _ _ single).1
+
+-- a property of the outcomes of all acts, and of the removal of all items where the call does that, is one of each call's
+pub outcome_by : (counts : Tallied) (call : Call) (found : Option Item) (P : Outcome → Type 0) → Outcomes (parts_of call) found P → (Holds (is_clear (call_row call).acts) → P cleared)
+    → P (outcome_of counts call found)
+outcome_by counts call found P each none =
+    acts_by counts (parts_of call) found P each (call_row call).acts found refl (rows_say (call_kind call)) (rows_single (call_kind call)) none
+
+-- a property of what needs no key is one of each call's that has none
+pub bare_by : (counts : Tallied) (call : CallParts) (found : Option Item) (P : Outcome → Type 0) → ((reply : CallReply) → Holds (is_mute reply) → P (answers reply))
+    → ((item : Item) → P (answers (Hit item.flags item.unique item.value))) → (acts : Acts) → Holds (say_mute acts) → Holds (are_at false acts) → (Holds (is_clear acts) → P cleared)
+    → P (done_of counts call acts found)
+bare_by counts call found P says_it shows_it acts mute at none = go acts found mute at none
+  where
+    bare : (act : Act) (found : Option Item) → Holds (says_mute act) → Holds (needs_none act) → P (done counts call act found)
+    bare (says reply) found mute none = says_it reply mute
+    bare shows None mute none = says_it Miss tt
+    bare shows (Some item) mute none = shows_it item
+    bare tallies found mute none = says_it (tally counts) tt
+    bare act found mute none = absurd none
+
+    go : (acts : Acts) (found : Option Item) → Holds (say_mute acts) → Holds (are_at false acts) → (Holds (is_clear acts) → P cleared) → P (done_of counts call acts found)
+    go (always clears) found mute at all = all tt
+    go (always act) found mute at all = bare act found mute at
+    go (by_item without with) None mute at all = bare without None (holds_both _ _ mute).0 (holds_both _ _ at).0
+    go (by_item without with) (Some item) mute at all = bare with (Some item) (holds_both _ _ mute).1 (holds_both _ _ at).1
+
+-- ---- replies
 
 -- the reply of each row of the table
 row_says : (counts : Tallied) (call : CallParts) (acts : Acts) (found : Option Item) → Holds (may_say acts (done_of counts call acts found).reply)

@@ -59,6 +59,20 @@ abbrev pub is_at_one : Act → Bool
 is_at_one clears = false
 is_at_one act = true
 
+-- all items are removed whether the key has one or not
+abbrev pub are_single : Acts → Bool
+are_single (always act) = true
+are_single (by_item without with) = is_at_one without && is_at_one with
+
+pub rows_single : (kind : CallKind) → Holds (are_single (row_of kind).acts)
+rows_single Flush = tt
+rows_single kind = tt
+
+-- all items are removed
+abbrev pub is_clear : Acts → Bool
+is_clear (always clears) = true
+is_clear acts = false
+
 -- an act that needs no key
 abbrev pub needs_none : Act → Bool
 needs_none (says reply) = true
@@ -66,12 +80,11 @@ needs_none shows = true
 needs_none tallies = true
 needs_none act = false
 
--- the acts of a kind that has a key, or has none; to remove all items needs none
+-- a call without a key has acts that need none; to remove all items needs none either
 abbrev pub are_at : Bool → Acts → Bool
-are_at b (always clears) = true
-are_at true (always act) = true
+are_at true acts = true
+are_at false (always clears) = true
 are_at false (always act) = needs_none act
-are_at true (by_item without with) = is_at_one without && is_at_one with
 are_at false (by_item without with) = needs_none without && needs_none with
 
 pub calls_at : (call : Call) → Holds (are_at (is_some (key_of call)) (call_row call).acts)

@@ -2,7 +2,7 @@
 -- "Retrieval command", "Deletion", "Increment/Decrement" and "General-purpose statistics". Uniques, the limit of a
 -- value and the form of counted values are this project's (docs/PROFILE.md).
 use Rattle.std.specs.Prelude.{ℕ, ◌+◌, ◌-◌, ◌*◌, ◌%◌, ◌^◌, ◌==◌, nat_lt, if◌then◌else◌, List, ◌++◌, length, decimal}
-use Rattle.std.specs.Prelude.{Option, None, Some}
+use Rattle.std.specs.Prelude.{Option, None, Some, Bool, true, false, ◌||◌}
 use Rattle.std.specs.Ordering.{nat_cmp}
 use Rattle.std.specs.Cmp.Lexicographic.{slice_cmp}
 use Rattle.std.specs.FinMap.{FinMap, empty, get, insert, remove, len}
@@ -11,11 +11,11 @@ use Rattle.zy_base.specs.declared.call.Call.{Call}
 use Rattle.zy_base.specs.declared.call_reply.CallReply.{CallReply}
 use Rattle.zy_base.specs.declared.tallied.Tallied.{Tallied}
 use Rattle.zy_base.specs.declared.call_reply.CallReply.TheVariants.{Miss, Hit, Stored, NotStored, Exists, NotFound}
-use Rattle.zy_base.specs.declared.call_reply.CallReply.TheVariants.{Deleted, Number, NotNumber, TooLarge, Flushed}
+use Rattle.zy_base.specs.declared.call_reply.CallReply.TheVariants.{Deleted, Number, NotNumber, TooLarge, Flushed, Tally}
 use Rattle.zy_base.specs.Table.{CallParts, parts_of, key_in, flags_in, number_in, value_in, Act, says, shows, puts, appends, prepends, exchanges, counts_up, counts_down, takes, clears, tallies}
 use Rattle.zy_base.specs.Table.{Acts, always, by_item}
 use Rattle.zy_base.specs.Call.{key_of}
-use Rattle.zy_base.specs.Code.{tally, call_row}
+use Rattle.zy_base.specs.Code.{tally, call_row, reply_code}
 use Rattle.zy_base.specs.Counted.{CallCounts, no_calls, calls_with}
 use Rattle.zy_base.specs.Number.{number_of}
 pub use Rattle.zy_base.specs.Limits.{value_limit}
@@ -120,11 +120,51 @@ done counts call takes (Some item) = record { reply = Deleted; effect = removes 
 done counts call clears found = record { reply = Flushed; effect = empties }
 done counts call tallies found = answers (tally counts)
 
+-- where the key has no item, this may be answered
+abbrev pub says_without : Act → CallReply → Bool
+says_without (says own) reply = reply_code own == reply_code reply
+says_without shows Miss = true
+says_without puts Stored = true
+says_without appends NotStored = true
+says_without prepends NotStored = true
+says_without exchanges NotFound = true
+says_without counts_up NotFound = true
+says_without counts_down NotFound = true
+says_without takes NotFound = true
+says_without clears Flushed = true
+says_without tallies (Tally gets sets hits misses items) = true
+says_without act reply = false
+
+-- where it has one, this may be answered
+abbrev pub says_with : Act → CallReply → Bool
+says_with (says own) reply = reply_code own == reply_code reply
+says_with shows (Hit flags unique value) = true
+says_with puts Stored = true
+says_with appends Stored = true
+says_with appends TooLarge = true
+says_with prepends Stored = true
+says_with prepends TooLarge = true
+says_with exchanges Stored = true
+says_with exchanges Exists = true
+says_with counts_up (Number number) = true
+says_with counts_up NotNumber = true
+says_with counts_down (Number number) = true
+says_with counts_down NotNumber = true
+says_with takes Deleted = true
+says_with clears Flushed = true
+says_with tallies (Tally gets sets hits misses items) = true
+says_with act reply = false
+
 -- what is done of these acts
 abbrev pub done_of : Tallied → CallParts → Acts → Option Item → Outcome
 done_of counts call (always act) found = done counts call act found
 done_of counts call (by_item without with) None = done counts call without None
 done_of counts call (by_item without with) (Some item) = done counts call with (Some item)
+
+-- a call of these acts may get this reply
+abbrev pub may_say : Acts → CallReply → Bool
+may_say (always act) reply = says_without act reply || says_with act reply
+may_say (by_item without with) reply = says_without without reply || says_with with reply
 
 -- each call, on a shard that counts this, where its key has no item and where it has one
 abbrev pub outcome_of : Tallied → Call → Option Item → Outcome
