@@ -9,7 +9,7 @@ use Rattle.mc_parse.specs.declared.need.Need.TheVariants.{Nothing}
 use Rattle.mc_parse.specs.declared.sizes.Sizes.{Sizes}
 use Rattle.mc_parse.specs.declared.verb.Verb.{Verb}
 use Rattle.mc_parse.specs.Number.{small_number_of, is_zero}
-use Rattle.mc_parse.specs.Name.{KeysAmong, no_word, one_word, each_word, keys_after}
+use Rattle.mc_parse.specs.Name.{KeysAmong, no_word, one_word, each_word, which_keys}
 use Rattle.mc_parse.specs.MetaAsk.{MetaAsk, meta_gets, meta_stores, meta_exchanges, meta_deletes}
 use Rattle.mc_parse.specs.Form.{Ask, exchanges, gets, deletes, sets_verbosity, flushes, metas, first_word, key_words, keys_among, ask_keys, key_zero, key_number, count_by, sizes_of, store_ask, store_words, cas_ask, cas_words, verbosity_words, with_zero, ask_of}
 use Rattle.mc_parse.specs.Need.{ask_need, takes_more}
@@ -109,7 +109,7 @@ reads name ws = record { keys = refl; width = omega arith; needs = λ more. refl
 
 -- the keys among words are none of them, the first, or all
 pub keys_by_name : (P : List (List ℕ) → Type 0) (name : Name) (ws : List (List ℕ)) → P [] → P (first_word ws) → P ws → P (keys_among name ws)
-keys_by_name P name ws none first all = go (keys_after name)
+keys_by_name P name ws none first all = go (which_keys name)
   where
     go : (keys : KeysAmong) → P (key_words keys ws)
     go no_word = none

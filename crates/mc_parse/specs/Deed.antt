@@ -53,28 +53,28 @@ pub record CommandRow : Type 0 where
   pub deed : Deed
   pub says : Saying
 
-abbrev pub row : Deed → Saying → CommandRow
-row deed says = record { deed = deed; says = says }
+abbrev pub deed_row : Deed → Saying → CommandRow
+deed_row deed says = record { deed = deed; says = says }
 
 -- the row of each meta command
 abbrev pub meta_row : MetaCommand → CommandRow
-meta_row Metas.Noop = row does_nothing (says_line does_noop false)
-meta_row (Metas.Get key flags) = row (makes_one (GetCall key)) (says_marks a_found key flags)
-meta_row (Metas.Set key call marks) = row (makes_one call) (says_marks a_stored key marks)
-meta_row (Metas.Delete key flags) = row (makes_one (DeleteCall key)) (says_marks a_removed key flags)
+meta_row Metas.Noop = deed_row does_nothing (says_line does_noop false)
+meta_row (Metas.Get key flags) = deed_row (makes_one (GetCall key)) (says_marks a_found key flags)
+meta_row (Metas.Set key call marks) = deed_row (makes_one call) (says_marks a_stored key marks)
+meta_row (Metas.Delete key flags) = deed_row (makes_one (DeleteCall key)) (says_marks a_removed key flags)
 
 -- the row of each command
 abbrev pub command_row : Command → CommandRow
-command_row (Store verb key flags value quiet) = row (makes_one (stored_by verb key flags value)) (says_reply quiet)
-command_row (Cas key flags unique value quiet) = row (makes_one (CasCall flags key unique value)) (says_reply quiet)
-command_row (Get keys unique) = row (gets_each keys) (says_items keys unique)
-command_row (Delete key quiet) = row (makes_one (DeleteCall key)) (says_reply quiet)
-command_row (Count key up amount quiet) = row (makes_one (counted_by up key amount)) (says_reply quiet)
-command_row Version = row does_nothing (says_line the_version false)
-command_row Stats = row (makes_on_all OnEach.Tally) says_counts
-command_row (Verbosity quiet) = row does_nothing (says_line is_done quiet)
-command_row (Flush quiet) = row (makes_on_all OnEach.Flush) (says_line is_done quiet)
-command_row (Fault line quiet) = row does_nothing (says_line (has_fault line) quiet)
+command_row (Store verb key flags value quiet) = deed_row (makes_one (stored_by verb key flags value)) (says_reply quiet)
+command_row (Cas key flags unique value quiet) = deed_row (makes_one (CasCall flags key unique value)) (says_reply quiet)
+command_row (Get keys unique) = deed_row (gets_each keys) (says_items keys unique)
+command_row (Delete key quiet) = deed_row (makes_one (DeleteCall key)) (says_reply quiet)
+command_row (Count key up amount quiet) = deed_row (makes_one (counted_by up key amount)) (says_reply quiet)
+command_row Version = deed_row does_nothing (says_line the_version false)
+command_row Stats = deed_row (makes_on_all OnEach.Tally) says_counts
+command_row (Verbosity quiet) = deed_row does_nothing (says_line is_done quiet)
+command_row (Flush quiet) = deed_row (makes_on_all OnEach.Flush) (says_line is_done quiet)
+command_row (Fault line quiet) = deed_row does_nothing (says_line (has_fault line) quiet)
 command_row (Meta meta) = meta_row meta
 
 -- what a meta command does

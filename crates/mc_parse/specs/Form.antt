@@ -23,7 +23,7 @@ use Rattle.zy_base.specs.declared.call.Call.TheVariants as Calls
 use Rattle.mc_parse.specs.Deed.{stored_by}
 use Rattle.mc_parse.specs.MetaAsk.{MetaAsk, noops, meta_gets, meta_stores, meta_exchanges, meta_deletes, storing_ask}
 use Rattle.mc_parse.specs.Words.{words}
-use Rattle.mc_parse.specs.Name.{name_of, arity_of, keys_after, KeysAmong, no_word, one_word, each_word}
+use Rattle.mc_parse.specs.Name.{name_of, arity_of, which_keys, KeysAmong, no_word, one_word, each_word}
 use Rattle.mc_parse.specs.Number.{small_number_of, is_zero, is_exptime}
 use Rattle.mc_parse.specs.Arity.{Following, following_of}
 
@@ -129,7 +129,7 @@ key_words each_word words = words
 
 -- the keys among the words that follow a name
 abbrev pub keys_among : Name → List (List ℕ) → List (List ℕ)
-keys_among name words = key_words (keys_after name) words
+keys_among name words = key_words (which_keys name) words
 
 -- the keys of what a meta line asks for
 abbrev pub meta_ask_keys : MetaAsk → List (List ℕ)

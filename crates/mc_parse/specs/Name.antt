@@ -37,13 +37,13 @@ pub data KeysAmong : Type 0 where
   each_word : KeysAmong
 
 -- which words after a name are keys
-abbrev pub keys_after : Name → KeysAmong
-keys_after (Store verb) = one_word
-keys_after Cas = one_word
-keys_after (Get unique) = each_word
-keys_after Delete = one_word
-keys_after (Count up) = one_word
-keys_after name = no_word
+abbrev pub which_keys : Name → KeysAmong
+which_keys (Store verb) = one_word
+which_keys Cas = one_word
+which_keys (Get unique) = each_word
+which_keys Delete = one_word
+which_keys (Count up) = one_word
+which_keys name = no_word
 
 -- the first word is a key, and no other
 abbrev pub is_one_word : KeysAmong → Bool

@@ -9,9 +9,9 @@ use Rattle.std.specs.FinMap.{get, get-empty, get-insert, get-remove, slice_cmp-I
 use Rattle.zy_base.specs.declared.item.Item.{Item}
 use Rattle.zy_base.specs.declared.call.Call.{Call}
 use Rattle.zy_base.specs.declared.call.Call.TheVariants.{Cas, Flush, Tally}
-use Rattle.zy_base.specs.Table.{CallParts, parts_of, key_in, number_in, value_in, Act, Acts, says, shows, appends, prepends, exchanges, counts_up, counts_down, takes, clears, tallies, always, by_item}
+use Rattle.zy_base.specs.Table.{CallParts, parts_of, key_part, number_part, value_part, Act, Acts, says, shows, appends, prepends, exchanges, counts_up, counts_down, takes, clears, tallies, always, by_item}
 use Rattle.zy_base.specs.Code.{call_row, call_kind}
-use Rattle.zy_base.specs.Kind.{Holds}
+use Rattle.zy_base.specs.Kind.{IsTrue}
 use Rattle.zy_base.proofs.TableLemmas.{holds_both, says_mute, say_mute, rows_say, are_single, rows_single, is_clear, are_at, calls_at}
 use Rattle.zy_base.proofs.KindLemmas.{acts_by, bare_by}
 use Rattle.zy_base.specs.declared.call_reply.CallReply.{CallReply}
@@ -78,27 +78,27 @@ abbrev read_none : Acts → Bool
 read_none (always act) = reads_none act
 read_none (by_item without with) = reads_none without && reads_none with
 
-plain-done : (counts : Tallied) (call : CallParts) (act : Act) (found : Option Item) → Holds (reads_none act) → Holds (says_mute act)
+plain-done : (counts : Tallied) (call : CallParts) (act : Act) (found : Option Item) → IsTrue (reads_none act) → IsTrue (says_mute act)
     → plain_outcome (done counts call act found) ≡ done nothing call act (plain found)
 plain-done counts call (says (Hit flags unique value)) found reads mute = absurd mute
 plain-done counts call shows (Some item) reads mute = refl
-plain-done counts call appends (Some item) reads mute = plain-joined (key_in call) item (item.value ++ (value_in call))
-plain-done counts call prepends (Some item) reads mute = plain-joined (key_in call) item ((value_in call) ++ item.value)
+plain-done counts call appends (Some item) reads mute = plain-joined (key_part call) item (item.value ++ (value_part call))
+plain-done counts call prepends (Some item) reads mute = plain-joined (key_part call) item ((value_part call) ++ item.value)
 plain-done counts call exchanges found reads mute = absurd reads
-plain-done counts call counts_up (Some item) reads mute = plain-counted_up (key_in call) item (number_in call) (number_of item.value)
-plain-done counts call counts_down (Some item) reads mute = plain-counted_down (key_in call) item (number_in call) (number_of item.value)
+plain-done counts call counts_up (Some item) reads mute = plain-counted_up (key_part call) item (number_part call) (number_of item.value)
+plain-done counts call counts_down (Some item) reads mute = plain-counted_down (key_part call) item (number_part call) (number_of item.value)
 plain-done counts call takes (Some item) reads mute = refl
 plain-done counts call tallies found reads mute = absurd reads
 plain-done counts call act found reads mute = refl
 
-plain-done_of : (counts : Tallied) (call : CallParts) (acts : Acts) (found : Option Item) → Holds (read_none acts) → Holds (say_mute acts)
+plain-done_of : (counts : Tallied) (call : CallParts) (acts : Acts) (found : Option Item) → IsTrue (read_none acts) → IsTrue (say_mute acts)
     → plain_outcome (done_of counts call acts found) ≡ done_of nothing call acts (plain found)
 plain-done_of counts call (always act) found reads mute = plain-done counts call act found reads mute
 plain-done_of counts call (by_item without with) None reads mute = plain-done counts call without None (holds_both _ _ reads).0 (holds_both _ _ mute).0
 plain-done_of counts call (by_item without with) (Some item) reads mute = plain-done counts call with (Some item) (holds_both _ _ reads).1 (holds_both _ _ mute).1
 
 -- without a cas, no unique is read; a tally is not on a key
-reads-call : (key : List ℕ) (call : Call) → is_about key call ≡ true → is_cas call ≡ false → Holds (read_none (call_row call).acts)
+reads-call : (key : List ℕ) (call : Call) → is_about key call ≡ true → is_cas call ≡ false → IsTrue (read_none (call_row call).acts)
 reads-call key (Cas flags at unique value) about is = absurd (cc)
 reads-call key Tally about is = absurd (cc)
 reads-call key call about is = tt
@@ -124,18 +124,18 @@ abbrev clear_bare : Bool → Acts → Bool
 clear_bare true (always clears) = false
 clear_bare b acts = true
 
-calls_clear : (call : Call) → Holds (clear_bare (is_some (key_of call)) (call_row call).acts)
+calls_clear : (call : Call) → IsTrue (clear_bare (is_some (key_of call)) (call_row call).acts)
 calls_clear Flush = tt
 calls_clear call = tt
 
 -- an effect of a call is on its key, where it has one, and else on no key
-acts_for : (counts : Tallied) (call : CallParts) (key : Option (List ℕ)) (acts : Acts) (found : Option Item) → call.key ≡ key → Holds (say_mute acts) → Holds (are_single acts)
-    → Holds (are_at (is_some key) acts) → Holds (clear_bare (is_some key) acts) → IsFor key (done_of counts call acts found).effect
+acts_for : (counts : Tallied) (call : CallParts) (key : Option (List ℕ)) (acts : Acts) (found : Option Item) → call.key ≡ key → IsTrue (say_mute acts) → IsTrue (are_single acts)
+    → IsTrue (are_at (is_some key) acts) → IsTrue (clear_bare (is_some key) acts) → IsFor key (done_of counts call acts found).effect
 acts_for counts call None acts found own mute single at clear =
     bare_by counts call found (λ outcome. IsFor None outcome.effect) (λ reply mute. tt) (λ item. tt) acts mute at (λ all. tt)
 acts_for counts call (Some key) acts found own mute single at clear =
     subst (λ k. IsFor (Some k) (done_of counts call acts found).effect) (ap (λ k. unwrap_or k []) own)
-    (acts_by counts call found (λ outcome. IsFor (Some (key_in call)) outcome.effect) (record {
+    (acts_by counts call found (λ outcome. IsFor (Some (key_part call)) outcome.effect) (record {
       says = λ reply mute. tt;
       shows = λ item there. tt;
       stores = λ flags value small. refl;
@@ -143,7 +143,7 @@ acts_for counts call (Some key) acts found own mute single at clear =
       takes = refl;
     }) acts found refl mute single (λ all. absurd (keyed acts all clear)))
   where
-    keyed : (acts : Acts) → Holds (is_clear acts) → Holds (clear_bare true acts) → ⊥
+    keyed : (acts : Acts) → IsTrue (is_clear acts) → IsTrue (clear_bare true acts) → ⊥
     keyed (always clears) all clear = absurd clear
     keyed acts all clear = absurd all
 

@@ -149,7 +149,7 @@ uniques_are_of shards number unique states (e ∷ es) legal among =
 -- a unique belongs to one shard only
 pub of_one_shard : (shards a b unique : ℕ) → IsOf shards a unique → IsOf shards b unique → a ≡ b
 of_one_shard shards a b unique x y =
-    sym (number_in shards a x.count x.within) ∙ ap (λ n. n % shards) (sym x.is ∙ y.is) ∙ number_in shards b y.count y.within
+    sym (number_part shards a x.count x.within) ∙ ap (λ n. n % shards) (sym x.is ∙ y.is) ∙ number_part shards b y.count y.within
   where
-    number_in : (shards number count : ℕ) → number < shards → unique_of shards number count % shards ≡ number
-    number_in shards number count within = ap (λ m. (m + number) % shards) (mul_comm shards count) ∙ mod-mul-add count shards number within
+    number_part : (shards number count : ℕ) → number < shards → unique_of shards number count % shards ≡ number
+    number_part shards number count within = ap (λ m. (m + number) % shards) (mul_comm shards count) ∙ mod-mul-add count shards number within

@@ -10,9 +10,9 @@ use Rattle.zy_base.specs.declared.call_reply.CallReply.{CallReply}
 use Rattle.zy_base.specs.declared.call_reply.CallReply.TheVariants as Replies
 use Rattle.zy_base.specs.declared.tallied.Tallied.{Tallied}
 use Rattle.zy_base.specs.Call.{key_of}
-use Rattle.zy_base.specs.Table.{parts_of, key_in, flags_in, number_in, value_in}
+use Rattle.zy_base.specs.Table.{parts_of, key_part, flags_part, number_part, value_part}
 use Rattle.zy_base.specs.Code.{code_of, kind_of, fields_of, call_of, call_kind, call_flags, call_number, call_value, hit_code, number_code, tally_code, last_call_code, last_reply_code, reply_code, reply_flags, reply_number, reply_value, reply_counts, tally, plain_reply}
-use Rattle.zy_base.specs.Bounds.{IsKey, IsValue, AreWithin, IsCall, IsReply}
+use Rattle.zy_base.specs.Bounds.{IsKey, IsValue, ArePartsWithin, IsCall, IsReply}
 
 -- ---- codes of calls
 
@@ -58,30 +58,30 @@ call_same Flush key flags number value key' flags' number' value' = refl
 call_same kind key flags number value key' flags' number' value' = refl
 
 -- a call has the parts that it is made of
-pub call_back : (call : Call) → call_of (parts_of call).kind (key_in (parts_of call)) (flags_in (parts_of call)) (number_in (parts_of call)) (value_in (parts_of call)) ≡ call
+pub call_back : (call : Call) → call_of (parts_of call).kind (key_part (parts_of call)) (flags_part (parts_of call)) (number_part (parts_of call)) (value_part (parts_of call)) ≡ call
 call_back Calls.Flush = refl
 call_back call = refl
 
 -- every call is one of its kind
 pub of_kinds : (P : Call → Type 0) → ((kind : CallKind) (key : List ℕ) (flags number : ℕ) (value : List ℕ) → P (call_of kind key flags number value)) → (call : Call) → P call
 of_kinds P each call =
-    subst P (call_back call) (each (parts_of call).kind (key_in (parts_of call)) (flags_in (parts_of call)) (number_in (parts_of call)) (value_in (parts_of call)))
+    subst P (call_back call) (each (parts_of call).kind (key_part (parts_of call)) (flags_part (parts_of call)) (number_part (parts_of call)) (value_part (parts_of call)))
 
 -- ---- bounds
 
-both_within : (key value : Option (List ℕ)) → IfSome key IsKey → IfSome value IsValue → AreWithin key value
+both_within : (key value : Option (List ℕ)) → IfSome key IsKey → IfSome value IsValue → ArePartsWithin key value
 both_within None None is small = tt
 both_within None (Some value) is small = small
 both_within (Some key) None is small = is
 both_within (Some key) (Some value) is small = (is, small)
 
-first_within : (key value : Option (List ℕ)) → AreWithin key value → IfSome key IsKey
+first_within : (key value : Option (List ℕ)) → ArePartsWithin key value → IfSome key IsKey
 first_within None None are = tt
 first_within None (Some value) are = tt
 first_within (Some key) None are = are
 first_within (Some key) (Some value) are = are.0
 
-second_within : (key value : Option (List ℕ)) → AreWithin key value → IfSome value IsValue
+second_within : (key value : Option (List ℕ)) → ArePartsWithin key value → IfSome value IsValue
 second_within None None are = tt
 second_within None (Some value) are = are
 second_within (Some key) None are = tt

@@ -12,9 +12,9 @@ use Rattle.zy_base.specs.declared.call_reply.CallReply.TheVariants.{Stored, Numb
 use Rattle.zy_base.specs.declared.entry.Entry.{Entry}
 use Rattle.zy_base.specs.declared.tallied.Tallied.{Tallied}
 use Rattle.zy_base.specs.Call.{key_of}
-use Rattle.zy_base.specs.Table.{CallParts, parts_of, key_in, Acts, clears, always, by_item}
+use Rattle.zy_base.specs.Table.{CallParts, parts_of, key_part, Acts, clears, always, by_item}
 use Rattle.zy_base.specs.Code.{call_row, call_kind}
-use Rattle.zy_base.specs.Kind.{Holds}
+use Rattle.zy_base.specs.Kind.{IsTrue}
 use Rattle.zy_base.proofs.TableLemmas.{is_mute, say_mute, rows_say, are_single, rows_single, is_clear, are_at, calls_at}
 use Rattle.zy_base.proofs.KindLemmas.{Outcomes, acts_by, bare_by}
 use Rattle.zy_base.specs.Counted.{is_get, is_set, is_hit, is_miss, one_more_if, KeySet, no_keys, keys_by, keys_past, keys_with, keys_after, counted}
@@ -119,7 +119,7 @@ module _ (shards number : ℕ) (state : State) (keys : KeySet) (are : AreKeys ke
   put key flags value = after_put keys state.items key _ are
 
   -- a reply alone leaves the keys
-  mute_keys : (key : Option (List ℕ)) (reply : CallReply) → Holds (is_mute reply) → After key (answers reply)
+  mute_keys : (key : Option (List ℕ)) (reply : CallReply) → IsTrue (is_mute reply) → After key (answers reply)
   mute_keys None reply mute = are
   mute_keys (Some key) Stored mute = absurd mute
   mute_keys (Some key) (Number number) mute = absurd mute
@@ -128,24 +128,24 @@ module _ (shards number : ℕ) (state : State) (keys : KeySet) (are : AreKeys ke
 
   module _ (counts : Tallied) (call : CallParts) (found : Option Item) where
     -- after an outcome at the key of a call
-    each : Outcomes call found (After (Some (key_in call)))
+    each : Outcomes call found (After (Some (key_part call)))
     each = record {
-      says = mute_keys (Some (key_in call));
+      says = mute_keys (Some (key_part call));
       shows = λ item there. are;
-      stores = λ flags value small. put (key_in call) flags value;
-      numbers = λ item number fits. put (key_in call) item.flags (decimal number);
-      takes = after_taken keys state.items (key_in call) are;
+      stores = λ flags value small. put (key_part call) flags value;
+      numbers = λ item number fits. put (key_part call) item.flags (decimal number);
+      takes = after_taken keys state.items (key_part call) are;
     }
 
-    at_key : (acts : Acts) (key : List ℕ) → call.key ≡ Some key → Holds (say_mute acts) → Holds (are_single acts) → (Holds (is_clear acts) → ⊥) → After (Some key) (done_of counts call acts found)
+    at_key : (acts : Acts) (key : List ℕ) → call.key ≡ Some key → IsTrue (say_mute acts) → IsTrue (are_single acts) → (IsTrue (is_clear acts) → ⊥) → After (Some key) (done_of counts call acts found)
     at_key acts key own mute single other =
         subst (λ k. After (Some k) (done_of counts call acts found)) (ap (λ (k : Option (List ℕ)). unwrap_or k []) own)
-        (acts_by counts call found (After (Some (key_in call))) each acts found refl mute single (λ clear. absurd (other clear)))
+        (acts_by counts call found (After (Some (key_part call))) each acts found refl mute single (λ clear. absurd (other clear)))
 
-    no_key : (acts : Acts) → Holds (say_mute acts) → Holds (are_at false acts) → (Holds (is_clear acts) → ⊥) → After None (done_of counts call acts found)
+    no_key : (acts : Acts) → IsTrue (say_mute acts) → IsTrue (are_at false acts) → (IsTrue (is_clear acts) → ⊥) → After None (done_of counts call acts found)
     no_key acts mute at other = bare_by counts call found (After None) (mute_keys None) (λ item. are) acts mute at (λ clear. absurd (other clear))
 
-    after_acts : (acts : Acts) (key : Option (List ℕ)) → call.key ≡ key → Holds (say_mute acts) → Holds (are_single acts) → Holds (are_at (is_some key) acts)
+    after_acts : (acts : Acts) (key : Option (List ℕ)) → call.key ≡ key → IsTrue (say_mute acts) → IsTrue (are_single acts) → IsTrue (are_at (is_some key) acts)
         → AreKeys (keys_past acts key (done_of counts call acts found).reply keys) (state_with shards number state (done_of counts call acts found).effect).items
     after_acts (always clears) key own mute single at = no_items
     after_acts (always act) (Some key) own mute single at = at_key (always act) key own mute single (λ clear. clear)

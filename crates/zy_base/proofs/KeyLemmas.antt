@@ -8,9 +8,9 @@ use Rattle.std.specs.Cmp.Lexicographic.{slice_cmp, nat_list_cmp_total}
 use Rattle.std.specs.FinMap.{get, get-empty, get-insert, get-remove, nat_cmp-IsAntisymmetric, slice_cmp-IsAntisymmetric}
 use Rattle.zy_base.specs.declared.item.Item.{Item}
 use Rattle.zy_base.specs.declared.call.Call.{Call}
-use Rattle.zy_base.specs.Table.{CallParts, parts_of, key_in, Act, Acts, exchanges, clears, tallies, always, by_item}
+use Rattle.zy_base.specs.Table.{CallParts, parts_of, key_part, Act, Acts, exchanges, clears, tallies, always, by_item}
 use Rattle.zy_base.specs.Code.{call_row}
-use Rattle.zy_base.specs.Kind.{Holds}
+use Rattle.zy_base.specs.Kind.{IsTrue}
 use Rattle.zy_base.specs.declared.tallied.Tallied.{Tallied}
 use Rattle.zy_base.specs.Call.{key_of}
 use Rattle.zy_base.specs.Shard.{Items, State, Effect, keeps, stores, removes, empties, unique_of, reply_to, state_after, state_with, tallied, item_at, done, done_of, outcome_of, outcome_on}
@@ -21,7 +21,7 @@ use Rattle.zy_base.specs.Told.{told, seen, seen_at, seen_after, is_steady_act, a
 -- ---- what a call answers and does
 
 -- what is answered, without its unique, depends on what is found without its unique, and not on what the shard counts
-told-done : (counts others : Tallied) (call : CallParts) (act : Act) (found : Option Item) → Holds (is_steady_act act) → told (done counts call act found).reply ≡ told (done others call act (seen found)).reply
+told-done : (counts others : Tallied) (call : CallParts) (act : Act) (found : Option Item) → IsTrue (is_steady_act act) → told (done counts call act found).reply ≡ told (done others call act (seen found)).reply
 told-done counts others call exchanges found steady = absurd steady
 told-done counts others call clears found steady = absurd steady
 told-done counts others call tallies found steady = absurd steady
@@ -29,19 +29,19 @@ told-done counts others call act None steady = refl
 told-done counts others call act (Some item) steady = refl
 
 -- and so does the effect
-effect-done : (counts others : Tallied) (call : CallParts) (act : Act) (found : Option Item) → Holds (is_steady_act act) → (done counts call act found).effect ≡ (done others call act (seen found)).effect
+effect-done : (counts others : Tallied) (call : CallParts) (act : Act) (found : Option Item) → IsTrue (is_steady_act act) → (done counts call act found).effect ≡ (done others call act (seen found)).effect
 effect-done counts others call exchanges found steady = absurd steady
 effect-done counts others call clears found steady = absurd steady
 effect-done counts others call tallies found steady = absurd steady
 effect-done counts others call act None steady = refl
 effect-done counts others call act (Some item) steady = refl
 
-told-done_of : (counts others : Tallied) (call : CallParts) (acts : Acts) (found : Option Item) → Holds (are_steady acts) → told (done_of counts call acts found).reply ≡ told (done_of others call acts (seen found)).reply
+told-done_of : (counts others : Tallied) (call : CallParts) (acts : Acts) (found : Option Item) → IsTrue (are_steady acts) → told (done_of counts call acts found).reply ≡ told (done_of others call acts (seen found)).reply
 told-done_of counts others call (always act) found steady = told-done counts others call act found steady
 told-done_of counts others call (by_item without with) None steady = told-done counts others call without None (holds_both _ _ steady).0
 told-done_of counts others call (by_item without with) (Some item) steady = told-done counts others call with (Some item) (holds_both _ _ steady).1
 
-effect-done_of : (counts others : Tallied) (call : CallParts) (acts : Acts) (found : Option Item) → Holds (are_steady acts) → (done_of counts call acts found).effect ≡ (done_of others call acts (seen found)).effect
+effect-done_of : (counts others : Tallied) (call : CallParts) (acts : Acts) (found : Option Item) → IsTrue (are_steady acts) → (done_of counts call acts found).effect ≡ (done_of others call acts (seen found)).effect
 effect-done_of counts others call (always act) found steady = effect-done counts others call act found steady
 effect-done_of counts others call (by_item without with) None steady = effect-done counts others call without None (holds_both _ _ steady).0
 effect-done_of counts others call (by_item without with) (Some item) steady = effect-done counts others call with (Some item) (holds_both _ _ steady).1
@@ -55,7 +55,7 @@ effect-outcome_of counts others call found steady = effect-done_of counts others
 -- ---- the key of an effect
 
 -- a steady call does not remove all items
-not_clear : (acts : Acts) → Holds (are_steady acts) → Holds (is_clear acts) → ⊥
+not_clear : (acts : Acts) → IsTrue (are_steady acts) → IsTrue (is_clear acts) → ⊥
 not_clear (always clears) steady clear = absurd steady
 not_clear acts steady clear = absurd clear
 
@@ -63,7 +63,7 @@ not_clear acts steady clear = absurd clear
 at-outcome_of : (counts : Tallied) (key : List ℕ) (call : Call) (found : Option Item) → IsSteady call → key_of call ≡ Some key → IsAtOnly key (outcome_of counts call found).effect
 at-outcome_of counts key call found steady is =
     subst (λ k. IsAtOnly k (outcome_of counts call found).effect) (ap (λ (own : Option (List ℕ)). unwrap_or own []) is)
-    (outcome_by counts call found (λ outcome. IsAtOnly (key_in (parts_of call)) outcome.effect) (record {
+    (outcome_by counts call found (λ outcome. IsAtOnly (key_part (parts_of call)) outcome.effect) (record {
       says = λ reply mute. tt;
       shows = λ item found. tt;
       stores = λ flags value small. refl;

@@ -13,7 +13,7 @@ use Rattle.zy_base.specs.declared.call_reply.CallReply.TheVariants as Replies
 use Rattle.zy_base.specs.declared.entry.Entry.{Entry}
 use Rattle.zy_base.specs.declared.tallied.Tallied.{Tallied}
 use Rattle.zy_base.specs.Shard.{State, Outcome, Effect, keeps, stores, removes, empties, empty_state, tallied, outcome_of, item_at, state_after, state_with, unique_of}
-use Rattle.zy_base.specs.Kind.{Holds}
+use Rattle.zy_base.specs.Kind.{IsTrue}
 use Rattle.zy_base.proofs.TableLemmas.{is_mute, value_small}
 use Rattle.zy_base.proofs.KindLemmas.{outcome_by}
 use Rattle.zy_base.specs.Call.{key_of}
@@ -30,7 +30,7 @@ digits_small : (n : ℕ) → n < 2 ^ 64 → IsValue (decimal n)
 digits_small n fits = let most = length-decimal-le 20 n (omega arith) (omega arith) fits in omega arith
 
 -- a reply without an item is within its bound
-mute_within : (reply : CallReply) → Holds (is_mute reply) → IsReply reply
+mute_within : (reply : CallReply) → IsTrue (is_mute reply) → IsReply reply
 mute_within (Replies.Hit flags unique value) mute = absurd mute
 mute_within reply mute = tt
 

@@ -9,7 +9,7 @@ use Rattle.zy_base.specs.declared.call.Call.{Call}
 use Rattle.zy_base.specs.declared.call_reply.CallReply.{CallReply}
 use Rattle.zy_base.specs.declared.call_reply.CallReply.TheVariants.{Hit, Number}
 use Rattle.zy_base.specs.declared.tallied.Tallied.{Tallied}
-use Rattle.zy_base.specs.Table.{parts_of, key_in, flags_in, number_in, value_in}
+use Rattle.zy_base.specs.Table.{parts_of, key_part, flags_part, number_part, value_part}
 use Rattle.zy_base.proofs.CodeLemmas.{kind_back, call_back}
 use Rattle.zy_base.specs.Code.{kind_of, call_of, call_kind, call_code, hit_code, number_code, tally_code, reply_code, reply_flags, reply_number, reply_value, reply_counts, tally, plain_reply}
 
@@ -41,14 +41,14 @@ abbrev Coded : Type 0
 Coded = ℕ × (List ℕ × (ℕ × (ℕ × List ℕ)))
 
 abbrev coded : Call → Coded
-coded call = (call_code call, (key_in (parts_of call), (flags_in (parts_of call), (number_in (parts_of call), value_in (parts_of call)))))
+coded call = (call_code call, (key_part (parts_of call), (flags_part (parts_of call), (number_part (parts_of call), value_part (parts_of call)))))
 
 abbrev call_by : Coded → Call
 call_by (code, (key, (flags, (number, value)))) = call_of (kind_of code) key flags number value
 
 coded_back : (call : Call) → call_by (coded call) ≡ call
 coded_back call =
-    ap (λ kind. call_of kind (key_in (parts_of call)) (flags_in (parts_of call)) (number_in (parts_of call)) (value_in (parts_of call))) (kind_back (call_kind call)) ∙ call_back call
+    ap (λ kind. call_of kind (key_part (parts_of call)) (flags_part (parts_of call)) (number_part (parts_of call)) (value_part (parts_of call))) (kind_back (call_kind call)) ∙ call_back call
 
 pub call_told : Discrete Call
 call_told = told_by coded call_by coded_back (×_discrete ℕ_discrete (×_discrete bytes_told (×_discrete ℕ_discrete (×_discrete ℕ_discrete bytes_told))))

@@ -7,30 +7,30 @@ use Rattle.zy_base.specs.declared.call_kind.CallKind.{CallKind}
 use Rattle.zy_base.specs.declared.call_kind.CallKind.TheVariants.{Flush}
 use Rattle.zy_base.specs.declared.call_reply.CallReply.{CallReply}
 use Rattle.zy_base.specs.declared.call_reply.CallReply.TheVariants.{Hit, Stored, Number, Deleted}
-use Rattle.zy_base.specs.Table.{Act, Acts, says, shows, clears, tallies, always, by_item, row_of, parts_of, value_in}
+use Rattle.zy_base.specs.Table.{Act, Acts, says, shows, clears, tallies, always, by_item, row_of, parts_of, value_part}
 use Rattle.zy_base.specs.Call.{key_of}
 use Rattle.zy_base.specs.Code.{call_row, call_value}
-use Rattle.zy_base.specs.Kind.{Holds}
+use Rattle.zy_base.specs.Kind.{IsTrue}
 use Rattle.zy_base.specs.Bounds.{IsValue, IsCall}
 use Rattle.zy_base.proofs.CodeLemmas.{value_within}
 
 -- ---- tests
 
-pub holds_first : (x y : Bool) → Holds x → Holds (x || y)
+pub holds_first : (x y : Bool) → IsTrue x → IsTrue (x || y)
 holds_first true y is = tt
 holds_first false y is = absurd is
 
-pub holds_second : (x y : Bool) → Holds y → Holds (x || y)
+pub holds_second : (x y : Bool) → IsTrue y → IsTrue (x || y)
 holds_second true y is = tt
 holds_second false y is = is
 
-pub holds_both : (x y : Bool) → Holds (x && y) → Holds x × Holds y
+pub holds_both : (x y : Bool) → IsTrue (x && y) → IsTrue x × IsTrue y
 holds_both true true are = (tt, tt)
 holds_both true false are = absurd are
 holds_both false y are = absurd are
 
-pub holds_equal : (n : ℕ) → Holds (n == n)
-holds_equal n = subst Holds (sym (eq-eqb n n refl)) tt
+pub holds_equal : (n : ℕ) → IsTrue (n == n)
+holds_equal n = subst IsTrue (sym (eq-eqb n n refl)) tt
 
 -- ---- the rows
 
@@ -50,7 +50,7 @@ abbrev pub say_mute : Acts → Bool
 say_mute (always act) = says_mute act
 say_mute (by_item without with) = says_mute without && says_mute with
 
-pub rows_say : (kind : CallKind) → Holds (say_mute (row_of kind).acts)
+pub rows_say : (kind : CallKind) → IsTrue (say_mute (row_of kind).acts)
 rows_say Flush = tt
 rows_say kind = tt
 
@@ -64,7 +64,7 @@ abbrev pub are_single : Acts → Bool
 are_single (always act) = true
 are_single (by_item without with) = is_at_one without && is_at_one with
 
-pub rows_single : (kind : CallKind) → Holds (are_single (row_of kind).acts)
+pub rows_single : (kind : CallKind) → IsTrue (are_single (row_of kind).acts)
 rows_single Flush = tt
 rows_single kind = tt
 
@@ -87,13 +87,13 @@ are_at false (always clears) = true
 are_at false (always act) = needs_none act
 are_at false (by_item without with) = needs_none without && needs_none with
 
-pub calls_at : (call : Call) → Holds (are_at (is_some (key_of call)) (call_row call).acts)
+pub calls_at : (call : Call) → IsTrue (are_at (is_some (key_of call)) (call_row call).acts)
 calls_at Calls.Flush = tt
 calls_at call = tt
 
 -- ---- the value of a call
 
-pub value_small : (call : Call) → IsCall call → IsValue (value_in (parts_of call))
+pub value_small : (call : Call) → IsCall call → IsValue (value_part (parts_of call))
 value_small call is = go (call_value call) (value_within call is)
   where
     go : (value : Option (List ℕ)) → IfSome value IsValue → IsValue (unwrap_or value [])

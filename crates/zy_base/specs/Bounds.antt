@@ -23,15 +23,15 @@ abbrev pub IsValue : List ℕ → Type 0
 IsValue value = length value ≤ value_limit
 
 -- a key and a value, where they are there, are within their bounds
-abbrev pub AreWithin : Option (List ℕ) → Option (List ℕ) → Type 0
-AreWithin None None = Unit {0}
-AreWithin None (Some value) = IsValue value
-AreWithin (Some key) None = IsKey key
-AreWithin (Some key) (Some value) = IsKey key × IsValue value
+abbrev pub ArePartsWithin : Option (List ℕ) → Option (List ℕ) → Type 0
+ArePartsWithin None None = Unit {0}
+ArePartsWithin None (Some value) = IsValue value
+ArePartsWithin (Some key) None = IsKey key
+ArePartsWithin (Some key) (Some value) = IsKey key × IsValue value
 
 -- the key and the value of a call are within their bounds
 abbrev pub IsCall : Call → Type 0
-IsCall call = AreWithin (key_of call) (call_value call)
+IsCall call = ArePartsWithin (key_of call) (call_value call)
 
 -- the value of a reply is within its bound
 abbrev pub IsReply : CallReply → Type 0

@@ -7,13 +7,13 @@ use Rattle.zy_base.specs.Code.{call_row}
 use Rattle.zy_base.specs.Shard.{may_say}
 
 -- the test holds
-abbrev pub Holds : Bool → Type 0
-Holds true = Unit {0}
-Holds false = ⊥
+abbrev pub IsTrue : Bool → Type 0
+IsTrue true = Unit {0}
+IsTrue false = ⊥
 
 -- a call may get this reply
 abbrev pub MayAnswer : Call → CallReply → Type 0
-MayAnswer call reply = Holds (may_say (call_row call).acts reply)
+MayAnswer call reply = IsTrue (may_say (call_row call).acts reply)
 
 -- each entry's call may get its reply
 abbrev pub AreAnswers : List Entry → Type 0

@@ -12,7 +12,7 @@ use Rattle.zy_base.specs.declared.call_reply.CallReply.{CallReply}
 use Rattle.zy_base.specs.declared.tallied.Tallied.{Tallied}
 use Rattle.zy_base.specs.declared.call_reply.CallReply.TheVariants.{Miss, Hit, Stored, NotStored, Exists, NotFound}
 use Rattle.zy_base.specs.declared.call_reply.CallReply.TheVariants.{Deleted, Number, NotNumber, TooLarge, Flushed, Tally}
-use Rattle.zy_base.specs.Table.{CallParts, parts_of, key_in, flags_in, number_in, value_in, Act, says, shows, puts, appends, prepends, exchanges, counts_up, counts_down, takes, clears, tallies}
+use Rattle.zy_base.specs.Table.{CallParts, parts_of, key_part, flags_part, number_part, value_part, Act, says, shows, puts, appends, prepends, exchanges, counts_up, counts_down, takes, clears, tallies}
 use Rattle.zy_base.specs.Table.{Acts, always, by_item}
 use Rattle.zy_base.specs.Call.{key_of}
 use Rattle.zy_base.specs.Code.{tally, call_row, reply_code}
@@ -104,19 +104,19 @@ abbrev pub done : Tallied → CallParts → Act → Option Item → Outcome
 done counts call (says reply) found = answers reply
 done counts call shows None = answers Miss
 done counts call shows (Some item) = answers (Hit item.flags item.unique item.value)
-done counts call puts found = stored (key_in call) (flags_in call) (value_in call)
+done counts call puts found = stored (key_part call) (flags_part call) (value_part call)
 done counts call appends None = answers NotStored
-done counts call appends (Some item) = joined (key_in call) item (item.value ++ (value_in call))
+done counts call appends (Some item) = joined (key_part call) item (item.value ++ (value_part call))
 done counts call prepends None = answers NotStored
-done counts call prepends (Some item) = joined (key_in call) item ((value_in call) ++ item.value)
+done counts call prepends (Some item) = joined (key_part call) item ((value_part call) ++ item.value)
 done counts call exchanges None = answers NotFound
-done counts call exchanges (Some item) = exchanged (key_in call) item (flags_in call) (number_in call) (value_in call)
+done counts call exchanges (Some item) = exchanged (key_part call) item (flags_part call) (number_part call) (value_part call)
 done counts call counts_up None = answers NotFound
-done counts call counts_up (Some item) = counted_up (key_in call) item (number_in call) (number_of item.value)
+done counts call counts_up (Some item) = counted_up (key_part call) item (number_part call) (number_of item.value)
 done counts call counts_down None = answers NotFound
-done counts call counts_down (Some item) = counted_down (key_in call) item (number_in call) (number_of item.value)
+done counts call counts_down (Some item) = counted_down (key_part call) item (number_part call) (number_of item.value)
 done counts call takes None = answers NotFound
-done counts call takes (Some item) = record { reply = Deleted; effect = removes (key_in call) }
+done counts call takes (Some item) = record { reply = Deleted; effect = removes (key_part call) }
 done counts call clears found = record { reply = Flushed; effect = empties }
 done counts call tallies found = answers (tally counts)
 

@@ -117,17 +117,17 @@ parts_of Calls.Flush = parts Flush None None None None
 parts_of Calls.Tally = parts Tally None None None None
 
 -- the key, and what is in place of one; so for the other parts
-abbrev pub key_in : CallParts → List ℕ
-key_in call = unwrap_or call.key []
+abbrev pub key_part : CallParts → List ℕ
+key_part call = unwrap_or call.key []
 
-abbrev pub flags_in : CallParts → ℕ
-flags_in call = unwrap_or call.flags 0
+abbrev pub flags_part : CallParts → ℕ
+flags_part call = unwrap_or call.flags 0
 
-abbrev pub number_in : CallParts → ℕ
-number_in call = unwrap_or call.number 0
+abbrev pub number_part : CallParts → ℕ
+number_part call = unwrap_or call.number 0
 
-abbrev pub value_in : CallParts → List ℕ
-value_in call = unwrap_or call.value []
+abbrev pub value_part : CallParts → List ℕ
+value_part call = unwrap_or call.value []
 
 -- the call of a kind, with its fields
 abbrev pub call_of : CallKind → List ℕ → ℕ → ℕ → List ℕ → Call

@@ -10,7 +10,7 @@ use Rattle.zy_base.specs.declared.call_reply.CallReply.TheVariants.{Hit}
 use Rattle.zy_base.specs.declared.entry.Entry.{Entry}
 use Rattle.zy_base.specs.Table.{Act, Acts, exchanges, clears, tallies, always, by_item}
 use Rattle.zy_base.specs.Code.{call_row}
-use Rattle.zy_base.specs.Kind.{Holds}
+use Rattle.zy_base.specs.Kind.{IsTrue}
 use Rattle.zy_base.specs.Shard.{State, Effect, keeps, stores, removes, empties}
 
 -- ---- values
@@ -54,7 +54,7 @@ are_steady (by_item without with) = is_steady_act without && is_steady_act with
 -- the reply to the call depends on its key's item alone, and not on a unique, except for the unique that it
 -- shows, and its effect is at one key
 abbrev pub IsSteady : Call → Type 0
-IsSteady call = Holds (are_steady (call_row call).acts)
+IsSteady call = IsTrue (are_steady (call_row call).acts)
 
 -- the item at a key after an effect, without its unique, from that before it
 abbrev pub seen_after : Effect → List ℕ → Option Item → Option Item
