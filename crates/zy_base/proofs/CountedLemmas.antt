@@ -182,7 +182,7 @@ tallied-replayed shards number es replay =
     let items' = sym (keys_are shards number empty_state no_keys es no_items replay).size in
     λ i. record { gets = gets' i; sets = sets' i; hits = hits' i; misses = misses' i; items = items' i }
 
--- there are as many gets, and as many calls that store a value, as entries at most
+-- neither the gets nor the calls that store a value are more than the entries
 pub gets_within : (shards number : ℕ) (es : List Entry) → (replayed shards number empty_state es).calls.gets ≤ length es
 gets_within shards number es =
     let is = gets_are shards number empty_state es in
