@@ -32,6 +32,8 @@ Replies = namedtuple("Replies", "version outputs")
 CALLS = [("get", "key"), ("set", "key flags value"), ("add", "key flags value"), ("replace", "key flags value"),
          ("append", "key value"), ("prepend", "key value"), ("cas", "key flags unique value"),
          ("incr", "key number"), ("decr", "key number"), ("delete", "key"), ("flush", ""), ("tally", "")]
+# the calls that a shard counts as gets, and as sets
+GETS, SETS = ("get",), ("set", "add", "replace", "append", "prepend", "cas")
 REPLIES = [("miss", ""), ("hit", "flags unique value"), ("stored", ""), ("not stored", ""), ("exists", ""),
            ("not found", ""), ("deleted", ""), ("number", "number"), ("no number", ""), ("too large", ""),
            ("flushed", ""), ("tally", "gets sets hits misses items")]

@@ -19,6 +19,12 @@ FORMS = {
     "incr": "key amount [noreply]", "decr": "key amount [noreply]",
     "version": "", "stats": "", "verbosity": "level [noreply]", "flush_all": "[zero] [noreply]", "quit": "",
 }
+# how the answer to a command begins, besides errors; `0` is a number
+ANSWERS = {
+    **dict.fromkeys([*STORAGE, "cas"], "STORED NOT_STORED EXISTS NOT_FOUND"),
+    "incr": "0 NOT_FOUND", "decr": "0 NOT_FOUND", "delete": "DELETED NOT_FOUND",
+    "version": "VERSION", "verbosity": "OK", "flush_all": "OK",
+}
 # what the number of a word is below
 BOUNDS = {"flags": 1 << 32, "bytes": 1 << 32, "level": 1 << 32, "unique": 1 << 64, "amount": 1 << 64, "zero": 1}
 

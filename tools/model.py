@@ -5,8 +5,8 @@ It is written from the tables of docs/PROFILE.md, and takes its time. The comman
 import re
 from collections import namedtuple
 
-from formats import MOST_VALUE, Call, Reply
-from meaning import LETTERS, MOST_LINE, STORAGE, TOO_LARGE, Command, command_of, commands_of, framed, line_of
+from formats import GETS, MOST_VALUE, SETS, Call, Reply
+from meaning import LETTERS, MOST_LINE, TOO_LARGE, Command, command_of, commands_of, framed, line_of
 
 # the texts of replies
 TEXTS = {
@@ -132,8 +132,8 @@ def keys_after(made):
 
 def tally(made):
     """What is counted of these calls and their replies."""
-    gets = [reply.name for call, reply in made if call.name == "get"]
-    sets = [call for call, _ in made if call.name in STORAGE or call.name == "cas"]
+    gets = [reply.name for call, reply in made if call.name in GETS]
+    sets = [call for call, _ in made if call.name in SETS]
     return Reply("tally", gets=len(gets), sets=len(sets), hits=gets.count("hit"), misses=gets.count("miss"),
                  items=len(keys_after(made)))
 

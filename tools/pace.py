@@ -5,8 +5,10 @@ clients, and of lines that a server may take for this or that, nothing exact is 
 """
 from collections import deque, namedtuple
 
+from meaning import FORMS
+
 STORAGE = (b"set", b"add", b"replace", b"append", b"prepend", b"cas")
-CAN_BE_QUIET = (*STORAGE, b"incr", b"decr", b"delete", b"touch", b"flush_all", b"verbosity")
+CAN_BE_QUIET = (*(verb.encode() for verb, form in FORMS.items() if "[noreply]" in form), b"touch")
 # the commands whose flag `q` hides answers: how many words come before the flags, and which answers are hidden
 HIDDEN = {b"mg": (2, (b"EN",)), b"ms": (3, (b"HD",)), b"md": (2, (b"HD", b"NF")), b"ma": (2, (b"HD", b"NF"))}
 META_CODES = (b"HD", b"VA", b"EN", b"NS", b"EX", b"NF")

@@ -8,6 +8,7 @@ are none, all are left out.
 import re
 
 import pace
+from meaning import ANSWERS
 from recorded import Answers, Flows, Packet, Session
 
 COMMAND = re.compile(rb"(?:gets?|set|add|replace|append|prepend|cas|incr|decr|delete|touch|gats?|m[gsda]) |"
@@ -30,13 +31,11 @@ def is_in_step(session, packet, place):
     return place == answers.end() and session.is_answered and answers.texts[-1].endswith(b"\n")
 
 
-# how the answers to commands begin, besides errors; a number is that of `incr` and `decr`
-STORING = (b"STORED", b"NOT_STORED", b"EXISTS", b"NOT_FOUND")
-FITTING = {**dict.fromkeys(pace.STORAGE, STORING), b"delete": (b"DELETED", b"NOT_FOUND"),
-           b"touch": (b"TOUCHED", b"NOT_FOUND"), b"incr": (b"NOT_FOUND",), b"decr": (b"NOT_FOUND",),
+# how the answers to commands begin, besides errors; `0` is a number
+FITTING = {**{verb.encode(): tuple(words.encode().split()) for verb, words in ANSWERS.items()},
+           b"touch": (b"TOUCHED", b"NOT_FOUND"),
            **dict.fromkeys((b"get", b"gets", b"gat", b"gats"), (b"END",)), b"stats": (b"END", b"RESET"),
-           **dict.fromkeys(pace.HIDDEN, pace.META_CODES), b"mn": (b"MN",), b"version": (b"VERSION",),
-           **dict.fromkeys((b"flush_all", b"verbosity"), (b"OK",))}
+           **dict.fromkeys(pace.HIDDEN, pace.META_CODES), b"mn": (b"MN",)}
 # how many answers are passed over at most, how many are compared with their commands, and how many are enough for that
 # without any key in them
 MOST_EARLY, MOST_COMPARED, SURE = 64, 32, 8
@@ -44,8 +43,9 @@ MOST_EARLY, MOST_COMPARED, SURE = 64, 32, 8
 
 def fits(command, answer):
     """Whether an answer can be that of a command."""
-    words, is_count = FITTING.get(command.verb), command.verb in (b"incr", b"decr")
-    is_kind = words is None or answer.word in words or answer.word in pace.ERRORS or is_count and answer.word.isdigit()
+    words = FITTING.get(command.verb)
+    is_number = words is not None and b"0" in words and answer.word.isdigit()
+    is_kind = words is None or answer.word in words or answer.word in pace.ERRORS or is_number
     return is_kind and all(item[1] in command.words for item in answer.items if item[0] == b"VALUE")
 
 

@@ -8,7 +8,7 @@ import re
 from collections import deque, namedtuple
 
 from answers import FAULT, answers, groups, name_of, without_uniques
-from meaning import STORAGE, words_of
+from meaning import ANSWERS, words_of
 
 # an exchange: the number of the first command and of the last, the name, the line of the first command and its group,
 # and what two servers answered, each as the number of its first answer and its bytes; None in place of bytes where
@@ -28,13 +28,11 @@ Move = namedtuple("Move", "one other groups cost")
 
 GETTING = (b"get", b"gets", b"gat", b"gats", b"bget")
 FITTING = {
-    **{verb.encode(): re.compile(rb"STORED|NOT_STORED|EXISTS|NOT_FOUND") for verb in [*STORAGE, "cas"]},
-    **dict.fromkeys((b"incr", b"decr"), re.compile(rb"[0-9]|NOT_FOUND")),
+    **{verb.encode(): re.compile(words.replace("0", "[0-9]").replace(" ", "|").encode()) for verb, words in ANSWERS.items()},
     b"mg": re.compile(rb"(HD|VA|EN)\b"), b"md": re.compile(rb"(HD|NF|EX)\b"), b"me": re.compile(rb"(ME|EN)\b"),
     b"ms": re.compile(rb"(HD|NS|EX|NF)\b"), b"ma": re.compile(rb"(HD|VA|NF|NS|EX)\b"),
-    **dict.fromkeys((b"verbosity", b"flush_all", b"cache_memlimit"), re.compile(rb"OK")),
-    b"delete": re.compile(rb"DELETED|NOT_FOUND"), b"touch": re.compile(rb"TOUCHED|NOT_FOUND"),
-    b"version": re.compile(rb"VERSION"), b"stats": re.compile(rb"STAT |END|RESET|OK"), b"mn": re.compile(rb"MN"),
+    b"cache_memlimit": re.compile(rb"OK"), b"touch": re.compile(rb"TOUCHED|NOT_FOUND"),
+    b"stats": re.compile(rb"STAT |END|RESET|OK"), b"mn": re.compile(rb"MN"),
 }
 # the commands of which any answer is taken
 UNKNOWN = (b"slabs", b"lru", b"lru_crawler", b"watch", b"shutdown")

@@ -66,7 +66,7 @@ placed_few at text = omega (arith, filter_few is_placed_word (placed at (pieces_
 
 -- ---- meta lines
 
--- further flags have at most so many more marks
+-- further flags have at most `n` marks
 abbrev HasFewMarks : ℕ → Option Flags → Type 0
 HasFewMarks n None = Unit {0}
 HasFewMarks n (Some said) = length said.marks ≤ n

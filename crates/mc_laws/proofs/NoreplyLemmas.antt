@@ -18,12 +18,12 @@ use Rattle.mc_parse.specs.Deed.{stored_by}
 use Rattle.mc_parse.specs.MetaAsk.{noops, meta_gets, meta_stores, meta_exchanges, meta_deletes}
 use Rattle.mc_parse.specs.declared.verb.Verb.{Verb}
 use Rattle.mc_parse.specs.declared.name.Name.{Name}
-use Rattle.mc_parse.specs.declared.name.Name.TheVariants.{Store, Cas, Get, Delete, Count, Version, Verbosity, Flush, Quit, Stats}
+use Rattle.mc_parse.specs.declared.name.Name.TheVariants.{Store, Cas, Delete, Count, Verbosity, Flush}
 use Rattle.mc_parse.specs.Words.{words as words_of, is_noreply}
 use Rattle.mc_parse.specs.Name.{name_of, arity_of}
 use Rattle.mc_parse.specs.Number.{small_number_of, is_zero}
 use Rattle.mc_parse.specs.Arity.{Following, from_to, has_count, ends_in_noreply, but_last, lacks_noreply, asks_silence, following, following_of}
-use Rattle.mc_parse.specs.Form.{Ask, stores, exchanges, gets, deletes, counts, tells_version, tells_counts, sets_verbosity, flushes, quits, metas, Form, faulty, asks, is_key, keys_among, sizes_of, store_ask, cas_ask, store_words, cas_words, with_zero, delete_words, count_words, verbosity_words, ask_of, number_fault, check, find, form_with, form_after, form_of, line_form}
+use Rattle.mc_parse.specs.Form.{key_zero, key_number, count_by, Ask, stores, exchanges, deletes, sets_verbosity, flushes, quits, metas, Form, faulty, asks, is_key, keys_among, sizes_of, store_ask, cas_ask, store_words, cas_words, with_zero, verbosity_words, ask_of, number_fault, check, find, form_with, form_after, form_of, line_form}
 use Rattle.mc_parse.specs.Need.{need_for}
 use Rattle.mc_parse.specs.Meaning.{command_for, block_command_for, large_command_for, is_ended, value_of, IsBlockFor, IsTooLarge}
 use Rattle.mc_laws.specs.Noreply.{silenced}
@@ -150,29 +150,41 @@ cas_ends = record { is = refl; few = omega arith; may = may; other = other }
 no_zero : (ask : Ask) (zero : List ℕ) → is_noreply zero ≡ true → with_zero ask (zero ∷ []) ≡ None
 no_zero ask zero ends = rw (is_the_word zero ends) refl
 
-delete_ends : MayEnd Delete 1 3
-delete_ends = record { is = refl; few = omega arith; may = may; other = other }
+-- a name that asks by a key, and a zero that may follow it
+zero_ends : (name : Name) (ask : List ℕ → Ask) → arity_of name ≡ from_to 1 3 → ((words : List (List ℕ)) → ask_of name words ≡ key_zero ask words) → ((key : List ℕ) → may_be_quiet (ask key) ≡ true) → MayEnd name 1 3
+zero_ends name ask is asked quiet = record {
+  is = is;
+  few = omega arith;
+  may = λ words. ap may_all (asked words) ∙ may words;
+  other = λ words ends more. asked words ∙ other words ends more;
+}
   where
-    may : (words : List (List ℕ)) → may_all (delete_words words) ≡ true
+    may : (words : List (List ℕ)) → may_all (key_zero ask words) ≡ true
     may [] = refl
-    may (key ∷ words) = zero_may (deletes key) words refl
+    may (key ∷ words) = zero_may (ask key) words (quiet key)
 
-    other : (words : List (List ℕ)) → ends_in_noreply words ≡ true → 1 < length words → delete_words words ≡ None
+    other : (words : List (List ℕ)) → ends_in_noreply words ≡ true → 1 < length words → key_zero ask words ≡ None
     other [] ends more = refl
     other (key ∷ []) ends more = absurd (omega arith)
-    other (key ∷ zero ∷ []) ends more = no_zero (deletes key) zero ends
+    other (key ∷ zero ∷ []) ends more = no_zero (ask key) zero ends
     other (key ∷ word ∷ next ∷ words) ends more = refl
 
-count_ends : (up : Bool) → MayEnd (Count up) 2 3
-count_ends up = record { is = refl; few = omega arith; may = may; other = other }
+-- a name that asks by a key and a number
+number_ends : (name : Name) (ask : List ℕ → ℕ → Ask) → arity_of name ≡ from_to 2 3 → ((words : List (List ℕ)) → ask_of name words ≡ key_number ask words) → ((key : List ℕ) (number : ℕ) → may_be_quiet (ask key number) ≡ true) → MayEnd name 2 3
+number_ends name ask is asked quiet = record {
+  is = is;
+  few = omega arith;
+  may = λ words. ap may_all (asked words) ∙ may words;
+  other = λ words ends more. asked words ∙ other words ends more;
+}
   where
-    may : (words : List (List ℕ)) → may_all (count_words up words) ≡ true
+    may : (words : List (List ℕ)) → may_all (key_number ask words) ≡ true
     may [] = refl
     may (key ∷ []) = refl
-    may (key ∷ amount ∷ []) = map_may (counts key up) (number_of amount) (λ amount. refl)
+    may (key ∷ number ∷ []) = map_may (ask key) (number_of number) (quiet key)
     may (a ∷ b ∷ c ∷ words) = refl
 
-    other : (words : List (List ℕ)) → ends_in_noreply words ≡ true → 2 < length words → count_words up words ≡ None
+    other : (words : List (List ℕ)) → ends_in_noreply words ≡ true → 2 < length words → key_number ask words ≡ None
     other [] ends more = refl
     other (a ∷ []) ends more = refl
     other (a ∷ b ∷ []) ends more = absurd (omega arith)
@@ -198,6 +210,28 @@ flush_ends = record { is = refl; few = omega arith; may = λ words. zero_may flu
     other [] ends more = absurd (omega arith)
     other (zero ∷ []) ends more = no_zero flushes zero ends
     other (word ∷ next ∷ words) ends more = refl
+
+-- a name that takes no noreply
+record Never (name : Name) : Type 0 where
+  pub follows : (words : List (List ℕ))
+      → following_of (arity_of name) words ≡ (if has_count (arity_of name) (length words) && not false then Some (following words false) else None)
+  -- what it asks for may not be asked for without an answer
+  pub loud : (words : List (List ℕ)) → may_all (ask_of name words) ≡ false
+
+-- whether noreply may follow a name, and after how many words
+data Ends (name : Name) : Type 0 where
+  may_end : (least most : ℕ) → MayEnd name least most → Ends name
+  never_ends : Never name → Ends name
+
+-- the names
+ends_of : (name : Name) → Ends name
+ends_of (Store verb) = may_end 4 5 (store_ends verb)
+ends_of Cas = may_end 5 6 cas_ends
+ends_of Delete = may_end 1 3 (zero_ends Delete deletes refl (λ words. refl) (λ key. refl))
+ends_of (Count up) = may_end 2 3 (number_ends (Count up) (count_by up) refl (λ words. refl) (λ key number. refl))
+ends_of Verbosity = may_end 1 2 verbosity_ends
+ends_of Flush = may_end 0 2 flush_ends
+ends_of name = never_ends (record { follows = λ words. refl; loud = λ words. refl })
 
 -- ---- noreply added to a line
 
@@ -242,16 +276,15 @@ never_some name words true may = go (is_loud (form_with name (record { words = w
     go true is = sym (never (list_all is_key (keys_among name words)) (number_fault name) (ask_of name words) false is) ∙ may
 
 silences_after : (name : Name) (words : List (List ℕ)) → is_loud (form_after name words) ≡ true → form_after name (words ++ noreply ∷ []) ≡ silent (form_after name words)
-silences_after (Store verb) words loud = silences_some (Store verb) 4 5 (store_ends verb) words loud
-silences_after Cas words loud = silences_some Cas 5 6 cas_ends words loud
-silences_after (Get unique) words loud = let no : false ≡ true = sym (never_some (Get unique) words (has_count (arity_of (Get unique)) (length words)) refl) ∙ loud in absurd (cc)
-silences_after Delete words loud = silences_some Delete 1 3 delete_ends words loud
-silences_after (Count up) words loud = silences_some (Count up) 2 3 (count_ends up) words loud
-silences_after Version words loud = let no : false ≡ true = sym (never_some Version words (has_count (arity_of Version) (length words)) refl) ∙ loud in absurd (cc)
-silences_after Stats words loud = let no : false ≡ true = sym (never_some Stats words (has_count (arity_of Stats) (length words)) refl) ∙ loud in absurd (cc)
-silences_after Verbosity words loud = silences_some Verbosity 1 2 verbosity_ends words loud
-silences_after Flush words loud = silences_some Flush 0 2 flush_ends words loud
-silences_after Quit words loud = let no : false ≡ true = sym (never_some Quit words (has_count (arity_of Quit) (length words)) refl) ∙ loud in absurd (cc)
+silences_after name words loud = go (ends_of name)
+  where
+    go : Ends name → form_after name (words ++ noreply ∷ []) ≡ silent (form_after name words)
+    go (may_end least most ends) = silences_some name least most ends words loud
+    go (never_ends never) =
+        let no : false ≡ true =
+        sym (never_some name words (has_count (arity_of name) (length words)) (never.loud words))
+        ∙ sym (ap (λ (found : Option Following). is_loud (find found Unknown (λ following. form_with name following))) (never.follows words)) ∙ loud in
+        absurd (cc)
 
 silences_found : (name : Option Name) (words : List (List ℕ)) → is_loud (find name Unknown (λ name. form_after name words)) ≡ true
     → find name Unknown (λ name. form_after name (words ++ noreply ∷ [])) ≡ silent (find name Unknown (λ name. form_after name words))
@@ -353,16 +386,15 @@ never_quiet name words false = refl
 never_quiet name words true = loud_is_not_quiet (list_all is_key (keys_among name words)) (number_fault name) (ask_of name words)
 
 quiet_after : (name : Name) (words : List (List ℕ)) → is_quiet (form_after name words) ≡ true → Silenced (form_after name) (but_last words) words
-quiet_after (Store verb) words quiet = quiet_some (Store verb) 4 5 (store_ends verb) words quiet
-quiet_after Cas words quiet = quiet_some Cas 5 6 cas_ends words quiet
-quiet_after (Get unique) words quiet = let no : false ≡ true = sym (never_quiet (Get unique) words (has_count (arity_of (Get unique)) (length words))) ∙ quiet in absurd (cc)
-quiet_after Delete words quiet = quiet_some Delete 1 3 delete_ends words quiet
-quiet_after (Count up) words quiet = quiet_some (Count up) 2 3 (count_ends up) words quiet
-quiet_after Version words quiet = let no : false ≡ true = sym (never_quiet Version words (has_count (arity_of Version) (length words))) ∙ quiet in absurd (cc)
-quiet_after Stats words quiet = let no : false ≡ true = sym (never_quiet Stats words (has_count (arity_of Stats) (length words))) ∙ quiet in absurd (cc)
-quiet_after Verbosity words quiet = quiet_some Verbosity 1 2 verbosity_ends words quiet
-quiet_after Flush words quiet = quiet_some Flush 0 2 flush_ends words quiet
-quiet_after Quit words quiet = let no : false ≡ true = sym (never_quiet Quit words (has_count (arity_of Quit) (length words))) ∙ quiet in absurd (cc)
+quiet_after name words quiet = go (ends_of name)
+  where
+    go : Ends name → Silenced (form_after name) (but_last words) words
+    go (may_end least most ends) = quiet_some name least most ends words quiet
+    go (never_ends never) =
+        let no : false ≡ true =
+        sym (never_quiet name words (has_count (arity_of name) (length words)))
+        ∙ sym (ap (λ (found : Option Following). is_quiet (find found Unknown (λ following. form_with name following))) (never.follows words)) ∙ quiet in
+        absurd (cc)
 
 quiet_found : (found : Option Name) (word : List ℕ) (words : List (List ℕ)) → name_of word ≡ found → is_quiet (find found Unknown (λ name. form_after name words)) ≡ true
     → Silenced form_of (word ∷ but_last words) (word ∷ words)
@@ -400,15 +432,9 @@ pub silent-line : (form : Form) → is_loud form ≡ true → need_for form ≡ 
 silent-line (faulty line) loud alone = absurd (cc)
 silent-line (asks (stores verb key flags bytes) quiet) loud alone = absurd (cc)
 silent-line (asks (exchanges key flags bytes unique) quiet) loud alone = absurd (cc)
-silent-line (asks (gets keys unique) quiet) loud alone = refl
-silent-line (asks (deletes key) quiet) loud alone = refl
-silent-line (asks (counts key up amount) quiet) loud alone = refl
-silent-line (asks tells_version quiet) loud alone = refl
-silent-line (asks tells_counts quiet) loud alone = refl
-silent-line (asks sets_verbosity quiet) loud alone = refl
-silent-line (asks flushes quiet) loud alone = refl
 silent-line (asks quits quiet) loud alone = absurd (cc)
 silent-line (asks (metas ask) quiet) loud alone = absurd (cc)
+silent-line (asks ask quiet) loud alone = refl
 
 ended_same : (ended quiet : Bool) (quietly loudly : Command) → quietly ≡ silenced loudly
     → (if ended then quietly else Fault BadChunk true) ≡ silenced (if ended then loudly else Fault BadChunk quiet)
@@ -420,14 +446,6 @@ pub silent-block : (form : Form) (block : List ℕ) → IsBlockFor (need_for for
 silent-block (faulty line) block fits = absurd fits
 silent-block (asks (stores verb key flags bytes) quiet) block fits = ended_same (is_ended block) quiet (StoreCommand verb key flags (value_of block) true) (StoreCommand verb key flags (value_of block) quiet) refl
 silent-block (asks (exchanges key flags bytes unique) quiet) block fits = ended_same (is_ended block) quiet (CasCommand key flags unique (value_of block) true) (CasCommand key flags unique (value_of block) quiet) refl
-silent-block (asks (gets keys unique) quiet) block fits = absurd fits
-silent-block (asks (deletes key) quiet) block fits = absurd fits
-silent-block (asks (counts key up amount) quiet) block fits = absurd fits
-silent-block (asks tells_version quiet) block fits = absurd fits
-silent-block (asks tells_counts quiet) block fits = absurd fits
-silent-block (asks sets_verbosity quiet) block fits = absurd fits
-silent-block (asks flushes quiet) block fits = absurd fits
-silent-block (asks quits quiet) block fits = absurd fits
 silent-block (asks (metas noops) quiet) block fits = absurd fits
 silent-block (asks (metas (meta_gets key flags)) quiet) block fits = absurd fits
 silent-block (asks (metas (meta_deletes key flags)) quiet) block fits = absurd fits
@@ -435,6 +453,7 @@ silent-block (asks (metas (meta_stores verb key flags bytes marks)) quiet) block
     let stored : Command = Meta (SetMeta key (stored_by verb key flags (value_of block)) marks) in ended_same (is_ended block) quiet stored stored refl
 silent-block (asks (metas (meta_exchanges key flags bytes unique marks)) quiet) block fits =
     let stored : Command = Meta (SetMeta key (CasCall flags key unique (value_of block)) marks) in ended_same (is_ended block) quiet stored stored refl
+silent-block (asks ask quiet) block fits = absurd fits
 
 -- with a block that is too large it is the same fault, silenced
 pub silent-large : (form : Form) → IsTooLarge (need_for form) → large_command_for (silent form) ≡ silenced (large_command_for form)

@@ -11,16 +11,17 @@ use Rattle.mc_parse.specs.declared.command.Command.{Command}
 use Rattle.mc_parse.specs.declared.error_line.ErrorLine.{ErrorLine}
 use Rattle.mc_parse.specs.declared.error_line.ErrorLine.TheVariants as Errors
 use Rattle.mc_parse.specs.Saying.{Fixed, the_version, is_done, does_noop, has_fault, About, a_found, a_stored, a_removed}
-use Rattle.mc_parse.specs.Saying.{Saying, says_reply, says_items, says_counts, says_line, says_marks, says_of}
+use Rattle.mc_parse.specs.Saying.{Saying, says_reply, says_items, says_counts, says_line, says_marks}
+use Rattle.mc_parse.specs.Deed.{says_of}
 use Rattle.mc_parse.specs.Bounds.{IsShown, IsCommand}
 use Rattle.mc_laws.proofs.WidthLemmas.{letters_in, width}
 use Rattle.mc_meta.specs.Flags.{is_among}
-use Rattle.mc_reply.specs.Line.{line, line_end, unless}
+use Rattle.mc_reply.specs.Line.{line, unless}
 use Rattle.mc_reply.specs.MetaText.{found_of, item_mark, found_mark, mark_text, marks_text, marked, hit_text, get_text, set_text, delete_text, about_text, marks_answer, has_quiet_letter, value_letter}
 use Rattle.mc_reply.specs.declared.stats.Stat.{Stat}
 use Rattle.mc_reply.specs.declared.stats.Stat.TheVariants.{Gets, Sets, Hits, Misses, Items}
 use Rattle.mc_reply.specs.StatsText.{stat_name, stat_in, sum_in, sum_line, stats_text}
-use Rattle.mc_reply.specs.Text.{error_line, fixed_line, says_text, reply_line, only_line, head_text, unique_text, item_line, item_text, items_text, text}
+use Rattle.mc_reply.specs.Text.{error_line, fixed_line, says_text, reply_line, only_line, item_text, items_text, text}
 use Rattle.mc_reply.proofs.SizeLemmas.{eight_bytes, line_size, item_within}
 
 -- a reply whose value and whose numbers are within their bounds

@@ -25,7 +25,8 @@ use Rattle.mc_parse.specs.Form.{Ask, metas, Form, faulty, asks, is_key, first_wo
 use Rattle.mc_parse.specs.Meaning.{is_ended, value_of, alone_meta, value_meta, value_command, command_for, block_command_for, large_command_for, line_command, block_command, large_command}
 use Rattle.mc_parse.specs.OnAll.{made_by}
 use Rattle.mc_parse.specs.Deed.{Deed, does_nothing, makes_one, gets_each, makes_on_all, deed_of}
-use Rattle.mc_parse.specs.Saying.{Saying, says_marks, says_of}
+use Rattle.mc_parse.specs.Saying.{Saying, says_marks}
+use Rattle.mc_parse.specs.Deed.{says_of}
 use Rattle.mc_parse.specs.Calls.{calls_of, calls_by, call_alone, on_shard, get_at}
 use Rattle.mc_parse.proofs.AskLemmas.{meta_width, ask_width, Reads, reads, keys_by_name}
 

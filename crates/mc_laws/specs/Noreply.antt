@@ -1,5 +1,5 @@
 -- Lines that may ask for no answer, and the word noreply (docs/PROFILE.md, "noreply").
-use Rattle.std.specs.Prelude.{◌≡◌, ℕ, Bool, true, false, not, ◌&&◌, List, [], ◌∷◌, ◌++◌, codes}
+use Rattle.std.specs.Prelude.{◌≡◌, ℕ, Bool, true, false, not, ◌&&◌, ◌||◌, List, [], ◌∷◌, ◌++◌, codes}
 use Rattle.mc_parse.specs.declared.command.Command.{Command}
 use Rattle.mc_parse.specs.declared.command.Command.TheVariants.{Store, Cas, Get, Delete, Count, Version}
 use Rattle.mc_parse.specs.declared.command.Command.TheVariants.{Verbosity, Flush, Fault, Meta, Stats}
@@ -7,7 +7,8 @@ use Rattle.mc_parse.specs.declared.need.Need.TheVariants.{Nothing}
 use Rattle.mc_parse.specs.Words.{words}
 use Rattle.mc_parse.specs.Need.{need}
 use Rattle.mc_parse.specs.Meaning.{line_command, block_command, large_command, IsBlockFor, IsTooLarge}
-use Rattle.mc_parse.specs.Form.{Ask, gets, tells_version, tells_counts, quits}
+use Rattle.mc_parse.specs.Deed.{says_of, is_unsaid}
+use Rattle.mc_parse.specs.Form.{Ask, alone_command, value_command}
 use Rattle.mc_parse.specs.Form.{metas, Form, form_of, line_form, faulty, asks}
 
 -- ---- lines
@@ -16,14 +17,11 @@ use Rattle.mc_parse.specs.Form.{metas, Form, form_of, line_form, faulty, asks}
 abbrev pub with_noreply : List ℕ → List ℕ
 with_noreply line = line ++ codes " noreply"
 
--- what is asked for may be asked for without an answer
+-- what is asked for may be asked for without an answer: its command is then not answered, with a block or without
 abbrev pub may_be_quiet : Ask → Bool
-may_be_quiet (gets keys unique) = false
-may_be_quiet tells_version = false
-may_be_quiet tells_counts = false
-may_be_quiet quits = false
 may_be_quiet (metas ask) = false
-may_be_quiet ask = true
+may_be_quiet ask =
+    is_unsaid (says_of (alone_command ask true)) || is_unsaid (says_of (value_command ask true []))
 
 -- what a line says may be asked for without an answer, but asks for one
 abbrev pub is_loud : Form → Bool

@@ -9,29 +9,12 @@ use Rattle.mc_parse.specs.declared.need.Need.TheVariants.{Nothing}
 use Rattle.mc_parse.specs.declared.sizes.Sizes.{Sizes}
 use Rattle.mc_parse.specs.declared.verb.Verb.{Verb}
 use Rattle.mc_parse.specs.Number.{small_number_of, is_zero}
+use Rattle.mc_parse.specs.Name.{KeysAmong, no_word, one_word, each_word, which_keys}
 use Rattle.mc_parse.specs.MetaAsk.{MetaAsk, meta_gets, meta_stores, meta_exchanges, meta_deletes}
-use Rattle.mc_parse.specs.Form.{Ask, stores, exchanges, gets, deletes, counts, sets_verbosity, flushes, metas, first_word, keys_among, sizes_of, store_ask, store_words, cas_ask, cas_words, delete_words, count_words, verbosity_words, with_zero, ask_of}
+use Rattle.mc_parse.specs.Form.{Ask, exchanges, gets, deletes, sets_verbosity, flushes, metas, first_word, key_words, keys_among, ask_keys, key_zero, key_number, count_by, sizes_of, store_ask, store_words, cas_ask, cas_words, verbosity_words, with_zero, ask_of}
 use Rattle.mc_parse.specs.Need.{ask_need, takes_more}
 
 -- ---- what is asked for
-
--- the keys of what a meta line asks for
-abbrev pub meta_ask_keys : MetaAsk → List (List ℕ)
-meta_ask_keys (meta_gets key flags) = key ∷ []
-meta_ask_keys (meta_stores verb key flags bytes marks) = key ∷ []
-meta_ask_keys (meta_exchanges key flags bytes unique marks) = key ∷ []
-meta_ask_keys (meta_deletes key flags) = key ∷ []
-meta_ask_keys ask = []
-
--- the keys of what a line asks for
-abbrev pub ask_keys : Ask → List (List ℕ)
-ask_keys (stores verb key flags bytes) = key ∷ []
-ask_keys (exchanges key flags bytes unique) = key ∷ []
-ask_keys (gets keys unique) = keys
-ask_keys (deletes key) = key ∷ []
-ask_keys (counts key up amount) = key ∷ []
-ask_keys (metas ask) = meta_ask_keys ask
-ask_keys ask = []
 
 -- the number of letters of what a meta line asks for
 abbrev pub meta_width : MetaAsk → ℕ
@@ -95,16 +78,17 @@ cas_reads (key ∷ flags ∷ exptime ∷ bytes ∷ unique ∷ []) =
     (λ flags bytes number. record { keys = refl; width = omega arith; needs = λ more. absurd (true≢false more) })
 cas_reads (key ∷ flags ∷ exptime ∷ bytes ∷ unique ∷ next ∷ ws) = tt
 
-delete_reads : (ws : List (List ℕ)) → IfSome (delete_words ws) (Reads Delete ws)
-delete_reads [] = tt
-delete_reads (key ∷ ws) = zeroed (Reads Delete (key ∷ ws)) (deletes key) ws (record { keys = refl; width = omega arith; needs = λ more. refl })
+-- a key, and a zero that may follow it
+zero_reads : (name : Name) (ask : List ℕ → Ask) (ws : List (List ℕ)) → ((key : List ℕ) (rest : List (List ℕ)) → Reads name (key ∷ rest) (ask key)) → IfSome (key_zero ask ws) (Reads name ws)
+zero_reads name ask [] each = tt
+zero_reads name ask (key ∷ ws) each = zeroed (Reads name (key ∷ ws)) (ask key) ws (each key ws)
 
-count_reads : (up : Bool) (ws : List (List ℕ)) → IfSome (count_words up ws) (Reads (Count up) ws)
-count_reads up [] = tt
-count_reads up (key ∷ []) = tt
-count_reads up (key ∷ amount ∷ []) =
-    mapped (Reads (Count up) (key ∷ amount ∷ [])) (counts key up) (number_of amount) (λ number. record { keys = refl; width = omega arith; needs = λ more. refl })
-count_reads up (key ∷ amount ∷ next ∷ ws) = tt
+-- a key and a number
+number_reads : (name : Name) (ask : List ℕ → ℕ → Ask) (ws : List (List ℕ)) → ((key word : List ℕ) (number : ℕ) → Reads name (key ∷ word ∷ []) (ask key number)) → IfSome (key_number ask ws) (Reads name ws)
+number_reads name ask [] each = tt
+number_reads name ask (key ∷ []) each = tt
+number_reads name ask (key ∷ word ∷ []) each = mapped (Reads name (key ∷ word ∷ [])) (ask key) (number_of word) (each key word)
+number_reads name ask (key ∷ word ∷ next ∷ ws) each = tt
 
 verbosity_reads : (ws : List (List ℕ)) → IfSome (verbosity_words ws) (Reads Verbosity ws)
 verbosity_reads [] = tt
@@ -116,8 +100,8 @@ pub reads : (name : Name) (ws : List (List ℕ)) → IfSome (ask_of name ws) (Re
 reads (Store verb) ws = store_reads verb ws
 reads Cas ws = cas_reads ws
 reads (Get unique) ws = record { keys = refl; width = omega arith; needs = λ more. refl }
-reads Delete ws = delete_reads ws
-reads (Count up) ws = count_reads up ws
+reads Delete ws = zero_reads Delete deletes ws (λ key rest. record { keys = refl; width = omega arith; needs = λ more. refl })
+reads (Count up) ws = number_reads (Count up) (count_by up) ws (λ key word number. record { keys = refl; width = omega arith; needs = λ more. refl })
 reads Verbosity ws = verbosity_reads ws
 reads Flush ws = zeroed (Reads Flush ws) flushes ws (record { keys = refl; width = omega arith; needs = λ more. refl })
 reads Quit ws = record { keys = refl; width = omega arith; needs = λ more. absurd (true≢false more) }
@@ -125,9 +109,9 @@ reads name ws = record { keys = refl; width = omega arith; needs = λ more. refl
 
 -- the keys among words are none of them, the first, or all
 pub keys_by_name : (P : List (List ℕ) → Type 0) (name : Name) (ws : List (List ℕ)) → P [] → P (first_word ws) → P ws → P (keys_among name ws)
-keys_by_name P (Store verb) ws none first all = first
-keys_by_name P Cas ws none first all = first
-keys_by_name P (Get unique) ws none first all = all
-keys_by_name P Delete ws none first all = first
-keys_by_name P (Count up) ws none first all = first
-keys_by_name P name ws none first all = none
+keys_by_name P name ws none first all = go (which_keys name)
+  where
+    go : (keys : KeysAmong) → P (key_words keys ws)
+    go no_word = none
+    go one_word = first
+    go each_word = all

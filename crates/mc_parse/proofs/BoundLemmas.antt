@@ -24,14 +24,17 @@ use Rattle.mc_parse.specs.Words.{words, has_byte, pieces_of}
 use Rattle.mc_parse.specs.Name.{name_of, arity_of}
 use Rattle.mc_parse.specs.Arity.{Following, but_last, following, has_count, lacks_noreply, asks_silence}
 use Rattle.mc_parse.specs.MetaAsk.{MetaAsk, meta_gets, meta_stores, meta_exchanges, meta_deletes, storing_ask}
-use Rattle.mc_parse.specs.Form.{Ask, stores, exchanges, gets, deletes, counts, metas, Form, faulty, asks, is_key, first_word, keys_among, ask_of, number_fault, check, find, form_with, form_after, form_of, meta_form, form_in, line_form}
-use Rattle.mc_parse.specs.Meaning.{is_ended, value_of, alone_meta, value_meta, value_command, command_for, block_command_for, large_command_for, line_command, block_command, large_command}
+use Rattle.mc_parse.specs.Form.{meta_ask_keys, ask_keys, Ask, stores, exchanges, gets, counts, metas, Form, faulty, asks, is_key, first_word, keys_among, ask_of, number_fault, check, find, form_with, form_after, form_of, meta_form, form_in, line_form}
+use Rattle.mc_parse.specs.Meaning.{is_ended, value_of, alone_meta, value_meta, alone_command, value_command, command_for, block_command_for, large_command_for, line_command, block_command, large_command}
 use Rattle.mc_parse.specs.OnAll.{made_by}
 use Rattle.mc_parse.specs.Deed.{Deed, does_nothing, makes_one, gets_each, makes_on_all, deed_of}
 use Rattle.mc_parse.specs.Calls.{calls_of, calls_by, get_calls, call_alone, on_shard, tagged, due_at, due_from}
+use Rattle.zy_base.specs.Code.{call_value}
+use Rattle.zy_base.proofs.CodeLemmas.{call_within}
+use Rattle.mc_parse.specs.Plain.{key_list, deed_keys}
 use Rattle.mc_parse.specs.Bounds.{IsDeed, IsCommand, IsShardCall, IsDueWithin}
-use Rattle.mc_parse.proofs.AskLemmas.{meta_ask_keys, ask_keys, Reads, reads, keys_by_name}
-use Rattle.mc_parse.proofs.DeedLemmas.{stored_bound, counted_bound, on_all_bound}
+use Rattle.mc_parse.proofs.AskLemmas.{Reads, reads, keys_by_name}
+use Rattle.mc_parse.proofs.DeedLemmas.{counted_key, stored_bound, on_all_bound}
 use Rattle.mc_parse.proofs.PlainLemmas.{each-append}
 use Rattle.mc_parse.proofs.ArityLemmas.{both}
 
@@ -164,12 +167,51 @@ value_meta_bound (meta_stores verb key flags bytes marks) value is small = (stor
 value_meta_bound (meta_exchanges key flags bytes unique marks) value is small = ((is.0, small), is.0)
 value_meta_bound ask value is small = (tt, tt)
 
+-- the keys of what is done are those of what was asked for
+alone_keys : (ask : Ask) (quiet : Bool) → AllByRecursion IsKey (ask_keys ask) → AllByRecursion IsKey (deed_keys (deed_of (alone_command ask quiet)))
+alone_keys (stores verb key flags bytes) quiet is = tt
+alone_keys (exchanges key flags bytes unique) quiet is = tt
+alone_keys (counts key up amount) quiet is = rw (counted_key up key amount) is
+alone_keys (metas ask) quiet is = meta_keys ask is
+  where
+    meta_keys : (ask : MetaAsk) → AllByRecursion IsKey (meta_ask_keys ask) → AllByRecursion IsKey (deed_keys (deed_of (alone_meta ask)))
+    meta_keys (meta_gets key flags) is = is
+    meta_keys (meta_deletes key flags) is = is
+    meta_keys ask is = tt
+alone_keys ask quiet is = is
+
+-- a deed has a value within its bound
+abbrev HasFewBytes : Deed → Type 0
+HasFewBytes (makes_one call) = IfSome (call_value call) IsValue
+HasFewBytes deed = Unit {0}
+
+-- without a block there is none
+alone_bytes : (ask : Ask) (quiet : Bool) → HasFewBytes (deed_of (alone_command ask quiet))
+alone_bytes (counts key true amount) quiet = tt
+alone_bytes (counts key false amount) quiet = tt
+alone_bytes (metas ask) quiet = meta_bytes ask
+  where
+    meta_bytes : (ask : MetaAsk) → HasFewBytes (deed_of (alone_meta ask))
+    meta_bytes (meta_gets key flags) = tt
+    meta_bytes ask = tt
+alone_bytes ask quiet = tt
+
+-- what is done is within its bounds where its keys and its value are
+deed_bound : (deed : Deed) → AllByRecursion IsKey (deed_keys deed) → HasFewBytes deed → IsDeed deed
+deed_bound does_nothing keys value = tt
+deed_bound (makes_one call) keys value = call_within call (go (key_of call) keys) value
+  where
+    go : (key : Option (List ℕ)) → AllByRecursion IsKey (key_list key) → IfSome key IsKey
+    go None each = tt
+    go (Some key) each = each.0
+deed_bound (gets_each keys) each value = each
+deed_bound (makes_on_all made) keys value = tt
+
 alone_bound : (form : Form) → IsForm form → IsCommand (command_for form)
+alone_bound (faulty line) is = (tt, tt)
 alone_bound (asks (gets keys unique) quiet) is = (is, is)
-alone_bound (asks (deletes key) quiet) is = (is.0, tt)
-alone_bound (asks (counts key up amount) quiet) is = (counted_bound up key amount is.0, tt)
 alone_bound (asks (metas ask) quiet) is = alone_meta_bound ask is
-alone_bound form is = (tt, tt)
+alone_bound (asks ask quiet) is = (deed_bound (deed_of (alone_command ask quiet)) (alone_keys ask quiet is) (alone_bytes ask quiet), tt)
 
 value_bound : (ask : Ask) (quiet : Bool) (value : List ℕ) → AllByRecursion IsKey (ask_keys ask) → IsValue value → IsCommand (value_command ask quiet value)
 value_bound (stores verb key flags bytes) quiet value is small = (stored_bound verb key flags value is.0 small, tt)

@@ -50,10 +50,6 @@ stored_bound Replace key flags value is small = (is, small)
 stored_bound Append key flags value is small = (is, small)
 stored_bound Prepend key flags value is small = (is, small)
 
-pub counted_bound : (up : Bool) (key : List ℕ) (amount : ℕ) → IsKey key → IsCall (counted_by up key amount)
-counted_bound true key amount is = is
-counted_bound false key amount is = is
-
 pub on_all_bound : (made : OnAll) → IsCall (made_by made)
 on_all_bound Flush = tt
 on_all_bound Tally = tt

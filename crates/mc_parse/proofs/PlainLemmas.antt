@@ -14,11 +14,11 @@ use Rattle.mc_parse.specs.declared.verb.Verb.{Verb}
 use Rattle.mc_parse.specs.declared.shard_call.ShardCall.{ShardCall}
 use Rattle.mc_parse.specs.declared.error_line.ErrorLine.TheVariants.{BadChunk}
 use Rattle.mc_parse.specs.MetaAsk.{MetaAsk, meta_gets, meta_stores, meta_exchanges, meta_deletes}
-use Rattle.mc_parse.specs.Form.{Ask, stores, exchanges, gets, deletes, counts, flushes, tells_counts, metas, Form, faulty, asks, line_form}
+use Rattle.mc_parse.specs.Form.{ask_keys, Ask, stores, exchanges, gets, counts, flushes, tells_counts, metas, Form, faulty, asks, line_form}
 use Rattle.mc_parse.specs.Meaning.{is_ended, value_of, alone_meta, value_meta, value_command, command_for, block_command_for, large_command_for, line_command, block_command, large_command}
 use Rattle.mc_parse.specs.Deed.{Deed, does_nothing, makes_one, gets_each, makes_on_all, deed_of, stored_by, counted_by}
 use Rattle.mc_parse.specs.Calls.{Due, calls_of, calls_by, call_alone, get_at, on_shard, tag_of, tagged, due, due_from, due_at}
-use Rattle.mc_parse.specs.Plain.{key_list, deed_keys, keys_of, all_keys_of, IsSteadyDeed, IsOwnMeta, IsPlain, IsKeyed, IsDueOwn, bare, IsOwnCommand, IsOwnAsk, IsOwnForm}
+use Rattle.mc_parse.specs.Plain.{key_list, deed_keys, keys_of, all_keys_of, IsSteadyDeed, AreOwn, IsOwnMeta, IsPlain, IsKeyed, IsDueOwn, bare, IsOwnCommand, IsOwnAsk, IsOwnForm}
 use Rattle.mc_parse.proofs.DeedLemmas.{stored_key, counted_key, stored_steady, counted_steady}
 
 -- ---- lists
@@ -128,17 +128,24 @@ value_meta_own IsOwn (meta_stores verb key flags bytes marks) value own = record
 value_meta_own IsOwn (meta_exchanges key flags bytes unique marks) value own = absurd own
 value_meta_own IsOwn ask value own = record { plain = (tt, tt); keys = tt }
 
+all_own : (IsOwn : List ℕ → Type 0) (keys : List (List ℕ)) → AreOwn IsOwn keys → AllByRecursion IsOwn keys
+all_own IsOwn [] own = tt
+all_own IsOwn (key ∷ []) own = (own, tt)
+all_own IsOwn (key ∷ next ∷ keys) own = own
+
 -- the command of a plain line without a block is plain, and calls its keys alone
 alone_own : (IsOwn : List ℕ → Type 0) (form : Form) → IsOwnForm IsOwn form → IsOwnCommand IsOwn (command_for form)
+alone_own IsOwn (faulty line) own = record { plain = (tt, tt); keys = tt }
+alone_own IsOwn (asks (stores verb key flags bytes) quiet) own = record { plain = (tt, tt); keys = tt }
+alone_own IsOwn (asks (exchanges key flags bytes unique) quiet) own = absurd own
 alone_own IsOwn (asks (gets keys true) quiet) own = absurd (let is = own.0 in cc)
 alone_own IsOwn (asks (gets keys false) quiet) own = record { plain = (tt, tt); keys = own.1 }
-alone_own IsOwn (asks (deletes key) quiet) own = record { plain = (tt, tt); keys = (own, tt) }
 alone_own IsOwn (asks (counts key up amount) quiet) own =
     record { plain = (counted_steady up key amount, tt); keys = one_own IsOwn (counted_by up key amount) key (counted_key up key amount) own }
 alone_own IsOwn (asks flushes quiet) own = absurd own
 alone_own IsOwn (asks tells_counts quiet) own = absurd own
 alone_own IsOwn (asks (metas ask) quiet) own = alone_meta_own IsOwn ask own
-alone_own IsOwn form own = record { plain = (tt, tt); keys = tt }
+alone_own IsOwn (asks ask quiet) own = record { plain = (tt, tt); keys = all_own IsOwn (ask_keys ask) own }
 
 value_own : (IsOwn : List ℕ → Type 0) (ask : Ask) (quiet : Bool) (value : List ℕ) → IsOwnAsk IsOwn ask → IsOwnCommand IsOwn (value_command ask quiet value)
 value_own IsOwn (stores verb key flags bytes) quiet value own = record { plain = (stored_steady verb key flags value, tt); keys = stores_own IsOwn verb key flags value own }

@@ -5,7 +5,8 @@ use Rattle.zy_base.specs.Bounds.{IsKey, IsCall}
 use Rattle.mc_parse.specs.declared.command.Command.{Command}
 use Rattle.mc_parse.specs.declared.shard_call.ShardCall.{ShardCall}
 use Rattle.mc_parse.specs.Deed.{Deed, makes_one, gets_each, deed_of}
-use Rattle.mc_parse.specs.Saying.{Saying, says_items, says_marks, says_of}
+use Rattle.mc_parse.specs.Saying.{Saying, says_items, says_marks}
+use Rattle.mc_parse.specs.Deed.{says_of}
 use Rattle.mc_parse.specs.Calls.{Due}
 
 -- the keys and the value of what is done on the shards are within their bounds

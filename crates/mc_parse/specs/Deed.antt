@@ -1,5 +1,5 @@
--- What a command does on the shards (docs/PROFILE.md, "Calls"). Its calls, its keys, their bounds and their number
--- go by this alone.
+-- What a command does on the shards, and what answers it (docs/PROFILE.md, "Calls" and "Answers"). Its calls, its keys,
+-- their bounds and their number go by the first alone, and its text, the size of it and what it shows by the second.
 use Rattle.std.specs.Prelude.{ℕ, Bool, true, false, List}
 use Rattle.zy_base.specs.declared.call.Call.{Call}
 use Rattle.zy_base.specs.declared.call.Call.TheVariants.{Get as GetCall, Set as SetCall, Add as AddCall}
@@ -11,7 +11,10 @@ use Rattle.mc_parse.specs.declared.verb.Verb.TheVariants.{Set, Add, Replace, App
 use Rattle.mc_parse.specs.declared.on_all.OnAll.{OnAll}
 use Rattle.mc_parse.specs.declared.on_all.OnAll.TheVariants as OnEach
 use Rattle.mc_parse.specs.declared.command.Command.{Command}
-use Rattle.mc_parse.specs.declared.command.Command.TheVariants.{Store, Cas, Get, Delete, Count, Flush, Meta, Stats}
+use Rattle.mc_parse.specs.declared.command.Command.TheVariants.{Store, Cas, Get, Delete, Count, Version}
+use Rattle.mc_parse.specs.declared.command.Command.TheVariants.{Verbosity, Flush, Fault, Meta, Stats}
+use Rattle.mc_parse.specs.Saying.{Saying, says_reply, says_items, says_counts, says_line, says_marks}
+use Rattle.mc_parse.specs.Saying.{the_version, is_done, does_noop, has_fault, a_found, a_stored, a_removed}
 use Rattle.mc_parse.specs.declared.meta.Meta.{Meta as MetaCommand}
 use Rattle.mc_parse.specs.declared.meta.Meta.TheVariants as Metas
 
@@ -43,24 +46,58 @@ pub data Deed : Type 0 where
   -- a call without a key, once on each shard
   makes_on_all : OnAll → Deed
 
+-- ---- the table
+
+-- what a command does, and what answers it
+pub record CommandRow : Type 0 where
+  pub deed : Deed
+  pub says : Saying
+
+abbrev pub deed_row : Deed → Saying → CommandRow
+deed_row deed says = record { deed = deed; says = says }
+
+-- the row of each meta command
+abbrev pub meta_row : MetaCommand → CommandRow
+meta_row Metas.Noop = deed_row does_nothing (says_line does_noop false)
+meta_row (Metas.Get key flags) = deed_row (makes_one (GetCall key)) (says_marks a_found key flags)
+meta_row (Metas.Set key call marks) = deed_row (makes_one call) (says_marks a_stored key marks)
+meta_row (Metas.Delete key flags) = deed_row (makes_one (DeleteCall key)) (says_marks a_removed key flags)
+
+-- the row of each command
+abbrev pub command_row : Command → CommandRow
+command_row (Store verb key flags value quiet) = deed_row (makes_one (stored_by verb key flags value)) (says_reply quiet)
+command_row (Cas key flags unique value quiet) = deed_row (makes_one (CasCall flags key unique value)) (says_reply quiet)
+command_row (Get keys unique) = deed_row (gets_each keys) (says_items keys unique)
+command_row (Delete key quiet) = deed_row (makes_one (DeleteCall key)) (says_reply quiet)
+command_row (Count key up amount quiet) = deed_row (makes_one (counted_by up key amount)) (says_reply quiet)
+command_row Version = deed_row does_nothing (says_line the_version false)
+command_row Stats = deed_row (makes_on_all OnEach.Tally) says_counts
+command_row (Verbosity quiet) = deed_row does_nothing (says_line is_done quiet)
+command_row (Flush quiet) = deed_row (makes_on_all OnEach.Flush) (says_line is_done quiet)
+command_row (Fault line quiet) = deed_row does_nothing (says_line (has_fault line) quiet)
+command_row (Meta meta) = meta_row meta
+
 -- what a meta command does
 abbrev pub meta_deed : MetaCommand → Deed
-meta_deed Metas.Noop = does_nothing
-meta_deed (Metas.Get key flags) = makes_one (GetCall key)
-meta_deed (Metas.Set key call marks) = makes_one call
-meta_deed (Metas.Delete key flags) = makes_one (DeleteCall key)
+meta_deed meta = (meta_row meta).deed
 
--- what a command does; the version, a verbosity and a fault do nothing
+-- what answers a meta command
+abbrev pub meta_says : MetaCommand → Saying
+meta_says meta = (meta_row meta).says
+
+-- what a command does
 abbrev pub deed_of : Command → Deed
-deed_of (Store verb key flags value quiet) = makes_one (stored_by verb key flags value)
-deed_of (Cas key flags unique value quiet) = makes_one (CasCall flags key unique value)
-deed_of (Get keys unique) = gets_each keys
-deed_of (Delete key quiet) = makes_one (DeleteCall key)
-deed_of (Count key up amount quiet) = makes_one (counted_by up key amount)
-deed_of (Flush quiet) = makes_on_all OnEach.Flush
-deed_of Stats = makes_on_all OnEach.Tally
-deed_of (Meta meta) = meta_deed meta
-deed_of command = does_nothing
+deed_of command = (command_row command).deed
+
+-- what answers a command
+abbrev pub says_of : Command → Saying
+says_of command = (command_row command).says
+
+-- an answer is not given
+abbrev pub is_unsaid : Saying → Bool
+is_unsaid (says_reply quiet) = quiet
+is_unsaid (says_line line quiet) = quiet
+is_unsaid says = false
 
 -- what is done is one call at most
 abbrev pub IsOnce : Deed → Type 0

@@ -16,9 +16,14 @@ use Rattle.mc_meta.specs.declared.meta_line.MetaLine.TheVariants as Metas
 pub use Rattle.mc_meta.specs.Meta.{is_key, key_limit}
 use Rattle.mc_meta.specs.Meta.{is_meta_name, meta_line}
 use Rattle.mc_meta.specs.Key.{bytes_in}
-use Rattle.mc_parse.specs.MetaAsk.{MetaAsk, noops, meta_gets, meta_deletes, storing_ask}
+use Rattle.mc_parse.specs.declared.command.Command.{Command}
+use Rattle.mc_parse.specs.declared.command.Command.TheVariants as Commands
+use Rattle.mc_parse.specs.declared.meta.Meta.TheVariants as MetaCommands
+use Rattle.zy_base.specs.declared.call.Call.TheVariants as Calls
+use Rattle.mc_parse.specs.Deed.{stored_by}
+use Rattle.mc_parse.specs.MetaAsk.{MetaAsk, noops, meta_gets, meta_stores, meta_exchanges, meta_deletes, storing_ask}
 use Rattle.mc_parse.specs.Words.{words}
-use Rattle.mc_parse.specs.Name.{name_of, arity_of}
+use Rattle.mc_parse.specs.Name.{name_of, arity_of, which_keys, KeysAmong, no_word, one_word, each_word}
 use Rattle.mc_parse.specs.Number.{small_number_of, is_zero, is_exptime}
 use Rattle.mc_parse.specs.Arity.{Following, following_of}
 
@@ -68,6 +73,47 @@ ask_seen Asked.Verbosity = sets_verbosity
 ask_seen Asked.Flush = flushes
 ask_seen Asked.Quit = quits
 
+-- ---- what is asked for, as a command
+
+-- a fault of a line by itself
+abbrev pub fault : ErrorLine → Command
+fault line = Commands.Fault line false
+
+-- what a meta line that needs nothing asks for; one that needs a block counts as unknown
+abbrev pub alone_meta : MetaAsk → Command
+alone_meta noops = Commands.Meta MetaCommands.Noop
+alone_meta (meta_gets key flags) = Commands.Meta (MetaCommands.Get key flags)
+alone_meta (meta_deletes key flags) = Commands.Meta (MetaCommands.Delete key flags)
+alone_meta ask = fault Unknown
+
+-- what a meta line asks for with a value; one that takes no value counts as unknown
+abbrev pub value_meta : MetaAsk → List ℕ → Command
+value_meta (meta_stores verb key flags bytes marks) value =
+    Commands.Meta (MetaCommands.Set key (stored_by verb key flags value) marks)
+value_meta (meta_exchanges key flags bytes unique marks) value =
+    Commands.Meta (MetaCommands.Set key (Calls.Cas flags key unique value) marks)
+value_meta ask value = fault Unknown
+
+-- what a line that needs nothing asks for; a request that needs a block, or ends the connection,
+-- counts as unknown
+abbrev pub alone_command : Ask → Bool → Command
+alone_command (gets keys unique) quiet = Commands.Get keys unique
+alone_command (deletes key) quiet = Commands.Delete key quiet
+alone_command (counts key up amount) quiet = Commands.Count key up amount quiet
+alone_command tells_version quiet = Commands.Version
+alone_command tells_counts quiet = Commands.Stats
+alone_command sets_verbosity quiet = Commands.Verbosity quiet
+alone_command flushes quiet = Commands.Flush quiet
+alone_command (metas ask) quiet = alone_meta ask
+alone_command ask quiet = fault Unknown
+
+-- what is asked for with a value; a request that takes no value counts as unknown
+abbrev pub value_command : Ask → Bool → List ℕ → Command
+value_command (stores verb key flags bytes) quiet value = Commands.Store verb key flags value quiet
+value_command (exchanges key flags bytes unique) quiet value = Commands.Cas key flags unique value quiet
+value_command (metas ask) quiet value = value_meta ask value
+value_command ask quiet value = fault Unknown
+
 -- ---- keys
 
 -- the first word, where there is one
@@ -75,14 +121,33 @@ abbrev pub first_word : List (List ℕ) → List (List ℕ)
 first_word [] = []
 first_word (word ∷ words) = word ∷ []
 
+-- the words that are keys
+abbrev pub key_words : KeysAmong → List (List ℕ) → List (List ℕ)
+key_words no_word words = []
+key_words one_word words = first_word words
+key_words each_word words = words
+
 -- the keys among the words that follow a name
 abbrev pub keys_among : Name → List (List ℕ) → List (List ℕ)
-keys_among (Store verb) words = first_word words
-keys_among Cas words = first_word words
-keys_among (Get unique) words = words
-keys_among Delete words = first_word words
-keys_among (Count up) words = first_word words
-keys_among name words = []
+keys_among name words = key_words (which_keys name) words
+
+-- the keys of what a meta line asks for
+abbrev pub meta_ask_keys : MetaAsk → List (List ℕ)
+meta_ask_keys (meta_gets key flags) = key ∷ []
+meta_ask_keys (meta_stores verb key flags bytes marks) = key ∷ []
+meta_ask_keys (meta_exchanges key flags bytes unique marks) = key ∷ []
+meta_ask_keys (meta_deletes key flags) = key ∷ []
+meta_ask_keys ask = []
+
+-- the keys of what a line asks for
+abbrev pub ask_keys : Ask → List (List ℕ)
+ask_keys (stores verb key flags bytes) = key ∷ []
+ask_keys (exchanges key flags bytes unique) = key ∷ []
+ask_keys (gets keys unique) = keys
+ask_keys (deletes key) = key ∷ []
+ask_keys (counts key up amount) = key ∷ []
+ask_keys (metas ask) = meta_ask_keys ask
+ask_keys ask = []
 
 -- ---- numbers, from left to right
 
@@ -124,14 +189,26 @@ with_zero ask (zero ∷ []) = if is_zero zero then Some ask else None
 with_zero ask words = None
 
 -- a key, and a zero that may follow it
+abbrev pub key_zero : (List ℕ → Ask) → List (List ℕ) → Option Ask
+key_zero ask (key ∷ words) = with_zero (ask key) words
+key_zero ask words = None
+
+-- a key, and a zero that may follow it
 abbrev pub delete_words : List (List ℕ) → Option Ask
-delete_words (key ∷ words) = with_zero (deletes key) words
-delete_words words = None
+delete_words words = key_zero deletes words
+
+-- a key and a number
+abbrev pub key_number : (List ℕ → ℕ → Ask) → List (List ℕ) → Option Ask
+key_number ask (key ∷ number ∷ []) = option_map (ask key) (number_of number)
+key_number ask words = None
+
+-- this count of a key by an amount
+abbrev pub count_by : Bool → List ℕ → ℕ → Ask
+count_by up key amount = counts key up amount
 
 -- key and amount
 abbrev pub count_words : Bool → List (List ℕ) → Option Ask
-count_words up (key ∷ amount ∷ []) = option_map (counts key up) (number_of amount)
-count_words up words = None
+count_words up words = key_number (count_by up) words
 
 -- a number, which has no effect
 abbrev pub verbosity_words : List (List ℕ) → Option Ask

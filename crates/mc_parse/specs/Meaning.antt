@@ -1,21 +1,15 @@
 -- The command of a line, and of a line with its block (docs/PROFILE.md, "Commands").
-use Rattle.std.specs.Prelude.{◌≡◌, ℕ, ◌+◌, ◌-◌, ◌<◌, ◌≤◌, Bool, false, if◌then◌else◌}
+use Rattle.std.specs.Prelude.{◌≡◌, ℕ, ◌+◌, ◌-◌, ◌<◌, ◌≤◌, Bool, if◌then◌else◌}
 use Rattle.std.specs.Prelude.{List, [], ◌∷◌, length, take, drop}
 use Rattle.std.specs.Str.{bytes_eq}
 use Rattle.mc_parse.specs.declared.command.Command.{Command}
-use Rattle.mc_parse.specs.declared.command.Command.TheVariants.{Store, Cas, Get, Delete, Count, Version}
-use Rattle.mc_parse.specs.declared.command.Command.TheVariants.{Verbosity, Flush, Fault, Meta, Stats}
-use Rattle.mc_parse.specs.declared.meta.Meta.TheVariants as Metas
-use Rattle.mc_parse.specs.declared.error_line.ErrorLine.{ErrorLine}
-use Rattle.mc_parse.specs.declared.error_line.ErrorLine.TheVariants.{Unknown, LongLine, BadChunk, TooLarge}
-use Rattle.zy_base.specs.declared.call.Call.TheVariants.{Cas as CasCall}
+use Rattle.mc_parse.specs.declared.command.Command.TheVariants.{Fault}
+use Rattle.mc_parse.specs.declared.error_line.ErrorLine.TheVariants.{LongLine, BadChunk, TooLarge}
 use Rattle.zy_base.specs.Shard.{value_limit}
 use Rattle.mc_parse.specs.declared.need.Need.{Need}
 use Rattle.mc_parse.specs.declared.need.Need.TheVariants.{Nothing, Block, Quit}
-use Rattle.mc_parse.specs.Deed.{stored_by}
-use Rattle.mc_parse.specs.MetaAsk.{MetaAsk, noops, meta_gets, meta_stores, meta_exchanges, meta_deletes}
-use Rattle.mc_parse.specs.Form.{Ask, stores, exchanges, gets, deletes, counts, tells_version, tells_counts}
-use Rattle.mc_parse.specs.Form.{sets_verbosity, flushes, metas, Form, line_form, faulty, asks}
+use Rattle.mc_parse.specs.Form.{Form, line_form, faulty, asks}
+pub use Rattle.mc_parse.specs.Form.{fault, alone_meta, value_meta, alone_command, value_command}
 
 -- ---- blocks
 
@@ -44,45 +38,6 @@ IsTooLarge (Block bytes) = value_limit < bytes
 IsTooLarge Quit = ⊥
 
 -- ---- what a line says, as a command
-
--- a fault of a line by itself
-abbrev pub fault : ErrorLine → Command
-fault line = Fault line false
-
--- what a meta line that needs nothing asks for; one that needs a block counts as unknown
-abbrev pub alone_meta : MetaAsk → Command
-alone_meta noops = Meta Metas.Noop
-alone_meta (meta_gets key flags) = Meta (Metas.Get key flags)
-alone_meta (meta_deletes key flags) = Meta (Metas.Delete key flags)
-alone_meta ask = fault Unknown
-
--- what a meta line asks for with a value; one that takes no value counts as unknown
-abbrev pub value_meta : MetaAsk → List ℕ → Command
-value_meta (meta_stores verb key flags bytes marks) value =
-    Meta (Metas.Set key (stored_by verb key flags value) marks)
-value_meta (meta_exchanges key flags bytes unique marks) value =
-    Meta (Metas.Set key (CasCall flags key unique value) marks)
-value_meta ask value = fault Unknown
-
--- what a line that needs nothing asks for; a request that needs a block, or ends the connection,
--- counts as unknown
-abbrev pub alone_command : Ask → Bool → Command
-alone_command (gets keys unique) quiet = Get keys unique
-alone_command (deletes key) quiet = Delete key quiet
-alone_command (counts key up amount) quiet = Count key up amount quiet
-alone_command tells_version quiet = Version
-alone_command tells_counts quiet = Stats
-alone_command sets_verbosity quiet = Verbosity quiet
-alone_command flushes quiet = Flush quiet
-alone_command (metas ask) quiet = alone_meta ask
-alone_command ask quiet = fault Unknown
-
--- what is asked for with a value; a request that takes no value counts as unknown
-abbrev pub value_command : Ask → Bool → List ℕ → Command
-value_command (stores verb key flags bytes) quiet value = Store verb key flags value quiet
-value_command (exchanges key flags bytes unique) quiet value = Cas key flags unique value quiet
-value_command (metas ask) quiet value = value_meta ask value
-value_command ask quiet value = fault Unknown
 
 -- a line that needs nothing
 abbrev pub command_for : Form → Command

@@ -1,5 +1,5 @@
 -- The names of commands, byte for byte, and how many words may follow each: memcached's protocol.txt, "Commands".
-use Rattle.std.specs.Prelude.{ℕ, true, false, if◌then◌else◌, List, [], ◌∷◌, codes, Option, None, Some}
+use Rattle.std.specs.Prelude.{ℕ, Bool, true, false, if◌then◌else◌, List, [], ◌∷◌, codes, Option, None, Some}
 use Rattle.std.specs.Str.{bytes_eq}
 use Rattle.mc_parse.specs.declared.verb.Verb.TheVariants.{Set, Add, Replace, Append, Prepend}
 use Rattle.mc_parse.specs.declared.arity.Arity.{Arity}
@@ -26,6 +26,29 @@ name_among word (entry ∷ entries) =
 -- the name that a word is
 abbrev pub name_of : List ℕ → Option Name
 name_of word = name_among word names
+
+-- the keys among the words after a name
+pub data KeysAmong : Type 0 where
+  -- none of them
+  no_word : KeysAmong
+  -- the first
+  one_word : KeysAmong
+  -- all of them
+  each_word : KeysAmong
+
+-- which words after a name are keys
+abbrev pub which_keys : Name → KeysAmong
+which_keys (Store verb) = one_word
+which_keys Cas = one_word
+which_keys (Get unique) = each_word
+which_keys Delete = one_word
+which_keys (Count up) = one_word
+which_keys name = no_word
+
+-- the first word is a key, and no other
+abbrev pub is_one_word : KeysAmong → Bool
+is_one_word one_word = true
+is_one_word keys = false
 
 -- how many words may follow a name
 abbrev pub arity_of : Name → Arity

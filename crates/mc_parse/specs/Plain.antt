@@ -9,10 +9,11 @@ use Rattle.mc_parse.specs.declared.command.Command.{Command}
 use Rattle.mc_meta.specs.Flags.{is_among}
 use Rattle.mc_parse.specs.declared.shard_call.ShardCall.{ShardCall}
 use Rattle.mc_parse.specs.MetaAsk.{MetaAsk, meta_gets, meta_stores, meta_exchanges, meta_deletes}
-use Rattle.mc_parse.specs.Form.{Ask, stores, exchanges, gets, deletes, counts, flushes}
+use Rattle.mc_parse.specs.Form.{ask_keys, Ask, exchanges, gets, flushes}
 use Rattle.mc_parse.specs.Form.{tells_counts, metas, Form, faulty, asks}
 use Rattle.mc_parse.specs.Deed.{Deed, does_nothing, makes_one, gets_each, makes_on_all, deed_of}
-use Rattle.mc_parse.specs.Saying.{Saying, says_items, says_marks, a_found, says_of}
+use Rattle.mc_parse.specs.Saying.{Saying, says_items, says_marks, a_found}
+use Rattle.mc_parse.specs.Deed.{says_of}
 use Rattle.mc_parse.specs.Calls.{Due, on_shard}
 
 -- ---- commands
@@ -72,17 +73,20 @@ IsOwnMeta IsOwn (meta_exchanges key flags bytes unique marks) = ⊥
 IsOwnMeta IsOwn (meta_deletes key flags) = IsOwn key
 IsOwnMeta IsOwn ask = Unit {0}
 
+-- each of some keys has this property
+abbrev pub AreOwn : (List ℕ → Type 0) → List (List ℕ) → Type 0
+AreOwn IsOwn [] = Unit {0}
+AreOwn IsOwn (key ∷ []) = IsOwn key
+AreOwn IsOwn keys = AllByRecursion IsOwn keys
+
 -- what is asked for is plain, and each of its keys has this property
 abbrev pub IsOwnAsk : (List ℕ → Type 0) → Ask → Type 0
-IsOwnAsk IsOwn (stores verb key flags bytes) = IsOwn key
 IsOwnAsk IsOwn (exchanges key flags bytes unique) = ⊥
 IsOwnAsk IsOwn (gets keys unique) = (unique ≡ false) × AllByRecursion IsOwn keys
-IsOwnAsk IsOwn (deletes key) = IsOwn key
-IsOwnAsk IsOwn (counts key up amount) = IsOwn key
 IsOwnAsk IsOwn flushes = ⊥
 IsOwnAsk IsOwn tells_counts = ⊥
 IsOwnAsk IsOwn (metas ask) = IsOwnMeta IsOwn ask
-IsOwnAsk IsOwn ask = Unit {0}
+IsOwnAsk IsOwn ask = AreOwn IsOwn (ask_keys ask)
 
 -- what a line says is plain, and each of its keys has this property
 abbrev pub IsOwnForm : (List ℕ → Type 0) → Form → Type 0

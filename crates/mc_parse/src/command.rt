@@ -1,4 +1,6 @@
 //! Commands.
+ghost use Rattle.std.specs.Prelude.{◌≡◌};
+ghost use Rattle.mc_parse.specs.Deed.{says_of, is_unsaid};
 
 use crate::error_line::ErrorLine;
 use crate::meta::Meta;
@@ -65,4 +67,19 @@ pub enum Command {
     Meta {
         meta: Meta,
     },
+}
+
+impl Command {
+    /// Whether the command asks for no answer.
+    pub fn is_quiet(&self) -> bool
+        ensures value { result ≡ is_unsaid (says_of self.now) }
+    {
+        match self {
+            Command::Store { quiet, .. } | Command::Cas { quiet, .. } => *quiet,
+            Command::Delete { quiet, .. } | Command::Count { quiet, .. } => *quiet,
+            Command::Verbosity { quiet } | Command::Flush { quiet } => *quiet,
+            Command::Fault { quiet, .. } => *quiet,
+            Command::Get { .. } | Command::Version | Command::Stats | Command::Meta { .. } => false,
+        }
+    }
 }

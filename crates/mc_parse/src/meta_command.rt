@@ -11,9 +11,9 @@ ghost use Rattle.mc_parse.specs.Meaning.{block_command_for, large_command_for};
 
 use crate::command::Command;
 use crate::error_line::ErrorLine;
-use crate::listing::storing;
 use crate::meta::Meta;
 use crate::meta_ask::{MetaAsk, read_meta_ask};
+use crate::one_call::storing;
 use crate::parse::{fault, is_ended, value_of};
 use mc_meta::Letters;
 use std::alloc::Global;

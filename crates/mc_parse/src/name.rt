@@ -1,7 +1,7 @@
-//! The names of commands, and how many words may follow each.
+//! The names of commands, how many words may follow each, and whether the first of them is a key.
 ghost use Rattle.std.specs.Prelude.{◌≡◌};
 ghost use Rattle.std.specs.Str.{bytes_eq};
-ghost use Rattle.mc_parse.specs.Name.{name_among, name_of, arity_of};
+ghost use Rattle.mc_parse.specs.Name.{name_among, name_of, which_keys, is_one_word, arity_of};
 ghost use Rattle.mc_parse.specs.Line.{names_of_length};
 
 use crate::arity::{Arity, from_to};
@@ -69,6 +69,16 @@ pub(crate) fn arity_of(name: Name) -> Arity
             most: Some(0),
             noreply: false,
         },
+    }
+}
+
+/// Whether the first word after a name is a key, and no other is.
+pub(crate) fn has_one_key(name: Name) -> bool
+    ensures value { result ≡ is_one_word (which_keys name) }
+{
+    match name {
+        Name::Store { .. } | Name::Cas | Name::Delete | Name::Count { .. } => true,
+        _ => false,
     }
 }
 

@@ -1,14 +1,15 @@
-//! One call of a command.
+//! One call of a command, and how it is made.
 ghost use Rattle.std.specs.Prelude.{◌≡◌, ◌≤◌, IfOk, IfErr, IfSome, Some, Err, slice_get};
 ghost use Rattle.mc_parse.specs.OnAll.{made_by};
-ghost use Rattle.mc_parse.specs.Deed.{deed_of, meta_deed, IsOnce};
+ghost use Rattle.zy_base.specs.declared.call.Call.{Call};
+ghost use Rattle.mc_parse.specs.Deed.{stored_by, counted_by, deed_of, meta_deed, IsOnce};
 ghost use Rattle.mc_parse.specs.Calls.{calls_of, calls_by, get_calls, calls_on_all, at_key, IsOnShard};
 
 use crate::command::Command;
-use crate::listing::{counted_by, deleted, exchanged, got, stored_by};
 use crate::meta::Meta;
 use crate::on_all::OnAll;
 use crate::shard_call::ShardCall;
+use crate::verb::Verb;
 use zy_base::{Blob, Call, NoMemory, shard_of};
 
 /// The call of a command on `shards` shards that has this number in the list `calls`; `None` exactly where
@@ -84,6 +85,82 @@ fn meta_call(meta: &Meta, shards: u32) -> Result<Option<ShardCall>, NoMemory>
             None => Ok(None),
         },
         Meta::Delete { key, .. } => placed(key, deleted(key), shards),
+    }
+}
+
+// The call that stores as a verb says.
+#[inline(always)]
+fn stored_by(verb: Verb, key: &Blob, flags: u32, value: &Blob) -> Result<Call, NoMemory>
+    ensures value { IfOk result (λ call. call ≡ stored_by verb key.now flags value.now) }
+{
+    let key = key.copy()?;
+    match value.copy() {
+        Ok(value) => Ok(storing(verb, key, flags, value)),
+        Err(e) => {
+            drop(key);
+            Err(e)
+        }
+    }
+}
+
+/// The call that stores this value as a verb says.
+pub(crate) fn storing(verb: Verb, key: Blob, flags: u32, value: Blob) -> Call
+    ensures value { result ≡ stored_by verb key flags value }
+{
+    match verb {
+        Verb::Set => Call::Set { key, flags, value },
+        Verb::Add => Call::Add { key, flags, value },
+        Verb::Replace => Call::Replace { key, flags, value },
+        Verb::Append => Call::Append { key, value },
+        Verb::Prepend => Call::Prepend { key, value },
+    }
+}
+
+// The call that stores where the item there has this unique.
+#[inline(always)]
+fn exchanged(key: &Blob, flags: u32, unique: u64, value: &Blob) -> Result<Call, NoMemory>
+    ensures value { IfOk result (λ call. call ≡ Call.Cas flags key.now unique value.now) }
+{
+    let key = key.copy()?;
+    match value.copy() {
+        Ok(value) => Ok(Call::Cas {
+            key,
+            flags,
+            unique,
+            value,
+        }),
+        Err(e) => {
+            drop(key);
+            Err(e)
+        }
+    }
+}
+
+// The call that gets the item.
+fn got(key: &Blob) -> Result<Call, NoMemory>
+    ensures value { IfOk result (λ call. call ≡ Call.Get key.now) }
+{
+    let key = key.copy()?;
+    Ok(Call::Get { key })
+}
+
+// The call that removes the item.
+fn deleted(key: &Blob) -> Result<Call, NoMemory>
+    ensures value { IfOk result (λ call. call ≡ Call.Delete key.now) }
+{
+    let key = key.copy()?;
+    Ok(Call::Delete { key })
+}
+
+// The call that counts up or down.
+fn counted_by(up: bool, key: &Blob, amount: u64) -> Result<Call, NoMemory>
+    ensures value { IfOk result (λ call. call ≡ counted_by up key.now amount) }
+{
+    let key = key.copy()?;
+    if up {
+        Ok(Call::Incr { key, amount })
+    } else {
+        Ok(Call::Decr { key, amount })
     }
 }
 

@@ -24,8 +24,8 @@ use mc_meta::is_key;
 use std::alloc::Global;
 use zy_base::{Blob, NoMemory};
 
-// Room for keys is taken at first as if each had this many bytes with the space before it, and for so
-// many at most.
+// The room for keys that is taken at first is for words of `WORD_LENGTH` bytes, each with the space before it, and for
+// `WORD_ROOM` of them at most.
 const WORD_LENGTH: usize = 6;
 
 const WORD_ROOM: usize = 128;

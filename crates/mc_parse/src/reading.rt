@@ -10,7 +10,7 @@ use crate::args::Args;
 use crate::asking::{number_fault, read_ask};
 use crate::error_line::ErrorLine;
 use crate::line::Line;
-use crate::name::{Name, arity_of, name_of};
+use crate::name::{Name, arity_of, has_one_key, name_of};
 use crate::word::next_word;
 use mc_meta::is_key;
 
@@ -80,11 +80,8 @@ fn has_long_key(name: Name, words: &[&[u8]]) -> bool
     requires few { HasFew name }
     ensures value { result ≡ not (list_all is_key (keys_among name (texts words.now))) }
 {
-    match name {
-        Name::Store { .. } | Name::Cas | Name::Delete | Name::Count { .. } => match words {
-            [key, ..] => !is_key(key),
-            [] => false,
-        },
-        _ => false,
+    match words {
+        [key, ..] => has_one_key(name) && !is_key(key),
+        [] => false,
     }
 }

@@ -9,7 +9,8 @@ use Rattle.zy_base.specs.declared.entry.Entry.{Entry}
 use Rattle.zy_base.specs.Replies.{replies_at}
 use Rattle.mc_parse.specs.declared.command.Command.{Command}
 use Rattle.mc_parse.specs.Saying.{About, a_found, a_stored, a_removed}
-use Rattle.mc_parse.specs.Saying.{Saying, says_reply, says_items, says_counts, says_line, says_marks, says_of}
+use Rattle.mc_parse.specs.Saying.{Saying, says_reply, says_items, says_counts, says_line, says_marks}
+use Rattle.mc_parse.specs.Deed.{says_of}
 use Rattle.mc_reply.specs.declared.stats.Stat.{Stat}
 use Rattle.mc_reply.specs.declared.stats.Stat.TheVariants.{Gets, Sets, Hits, Misses, Items}
 use Rattle.mc_reply.specs.StatsText.{stat_in, sum_in, stat_line, stats_text}

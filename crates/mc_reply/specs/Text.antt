@@ -7,7 +7,8 @@ use Rattle.mc_parse.specs.declared.error_line.ErrorLine.{ErrorLine}
 use Rattle.mc_parse.specs.declared.error_line.ErrorLine.TheVariants as Errors
 use Rattle.mc_parse.specs.declared.command.Command.{Command}
 use Rattle.mc_parse.specs.Saying.{Fixed, the_version, is_done, does_noop, has_fault}
-use Rattle.mc_parse.specs.Saying.{Saying, says_reply, says_items, says_counts, says_line, says_marks, says_of}
+use Rattle.mc_parse.specs.Saying.{Saying, says_reply, says_items, says_counts, says_line, says_marks}
+use Rattle.mc_parse.specs.Deed.{says_of}
 pub use Rattle.mc_reply.specs.Line.{line_end, line, too_large, unless}
 use Rattle.mc_reply.specs.MetaText.{marks_answer}
 use Rattle.mc_reply.specs.StatsText.{stats_text}

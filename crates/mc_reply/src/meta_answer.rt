@@ -1,6 +1,6 @@
 //! Appends the text that answers a meta command.
 ghost use Rattle.std.specs.Prelude.{◌≡◌, ◌++◌, [], length, codes, decimal, None, Some, OnOk, OnErr};
-ghost use Rattle.mc_parse.specs.Saying.{meta_says};
+ghost use Rattle.mc_parse.specs.Deed.{meta_says};
 ghost use Rattle.mc_reply.specs.Line.{line, unless};
 ghost use Rattle.mc_reply.specs.MetaText.{marked, hit_text, get_text, set_text, delete_text, has_quiet_letter};
 ghost use Rattle.mc_reply.specs.Text.{says_text};

@@ -28,15 +28,12 @@ pub fn reply_text(out: &mut Blob, command: &Command, replies: &Replies) -> Resul
         Command::Get { keys, unique } => append_items(out, *unique, keys.items(), replies),
         Command::Stats => append_stats(out, replies),
         Command::Meta { meta } => append_meta(out, meta, replies),
-        Command::Store { quiet, .. }
-        | Command::Cas { quiet, .. }
-        | Command::Delete { quiet, .. }
-        | Command::Count { quiet, .. } => append_answer(out, unless(*quiet, only_answer(replies))),
         Command::Version => append_answer(out, Answer::Line(lines::VERSION)),
         Command::Verbosity { quiet } | Command::Flush { quiet } => {
             append_answer(out, unless(*quiet, Answer::Line(lines::OK)))
         }
         Command::Fault { line, quiet } => append_answer(out, unless(*quiet, fault_answer(*line))),
+        _ => append_answer(out, unless(command.is_quiet(), only_answer(replies))),
     }
 }
 

@@ -2,6 +2,4 @@ pub mod MapLemmas
 pub mod BucketLemmas
 pub mod RowLemmas
 pub mod SoundLemmas
-pub mod UniqueLemmas
-pub mod KeyLemmas
 pub mod CountLemmas

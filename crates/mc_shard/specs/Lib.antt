@@ -3,7 +3,3 @@ pub mod Replay
 pub mod Contents
 pub mod Buckets
 pub mod Step
-pub mod Uniques
-pub mod KeyReplies
-pub mod Laws
-pub mod Worked

@@ -1,17 +1,18 @@
 -- Calls and replies by their codes and fields, for all kinds: whoever knows a code and its fields knows the call.
 use Rattle.std.specs.Prelude.{◌==◌, if◌then◌else◌, Option, None, Some, IfSome}
-use Rattle.std.proofs.Common.{◌≡◌, ℕ, ◌≤◌, Bool, true, false, List, [], refl, arith}
+use Rattle.std.proofs.Common.{◌≡◌, ℕ, ◌≤◌, Bool, true, false, List, refl, subst, arith}
 use Rattle.std.proofs.lemmas.Bool.Decides.{nat_tests}
 use Rattle.zy_base.specs.declared.call.Call.{Call}
 use Rattle.zy_base.specs.declared.call.Call.TheVariants as Calls
 use Rattle.zy_base.specs.declared.call_kind.CallKind.{CallKind}
-use Rattle.zy_base.specs.declared.call_kind.CallKind.TheVariants.{Get, Set, Add, Replace, Append, Prepend, Cas, Incr, Decr, Delete, Flush, Tally}
+use Rattle.zy_base.specs.declared.call_kind.CallKind.TheVariants.{Flush}
 use Rattle.zy_base.specs.declared.call_reply.CallReply.{CallReply}
 use Rattle.zy_base.specs.declared.call_reply.CallReply.TheVariants as Replies
 use Rattle.zy_base.specs.declared.tallied.Tallied.{Tallied}
 use Rattle.zy_base.specs.Call.{key_of}
+use Rattle.zy_base.specs.Table.{parts_of, key_part, flags_part, number_part, value_part}
 use Rattle.zy_base.specs.Code.{code_of, kind_of, fields_of, call_of, call_kind, call_flags, call_number, call_value, hit_code, number_code, tally_code, last_call_code, last_reply_code, reply_code, reply_flags, reply_number, reply_value, reply_counts, tally, plain_reply}
-use Rattle.zy_base.specs.Bounds.{IsKey, IsValue, IsCall, IsReply}
+use Rattle.zy_base.specs.Bounds.{IsKey, IsValue, ArePartsWithin, IsCall, IsReply}
 
 -- ---- codes of calls
 
@@ -20,12 +21,10 @@ code_back code some most = grind (arith, nat_tests)
 
 pub kind_back : (kind : CallKind) → kind_of (code_of kind) ≡ kind
 kind_back Flush = refl
-kind_back Tally = refl
 kind_back kind = refl
 
 pub code_within : (kind : CallKind) → (1 ≤ code_of kind) × (code_of kind ≤ last_call_code)
 code_within Flush = (omega arith, omega arith)
-code_within Tally = (omega arith, omega arith)
 code_within kind = (omega arith, omega arith)
 
 -- ---- the fields of a call of a kind
@@ -50,71 +49,54 @@ pub record Has (kind : CallKind) (key : List ℕ) (flags number : ℕ) (value : 
 
 pub call_has : (kind : CallKind) (key : List ℕ) (flags number : ℕ) (value : List ℕ) → Has kind key flags number value (call_of kind key flags number value)
 call_has Flush key flags number value = record { kind_is = refl; key_is = refl; flags_are = refl; number_is = refl; value_is = refl }
-call_has Tally key flags number value = record { kind_is = refl; key_is = refl; flags_are = refl; number_is = refl; value_is = refl }
 call_has kind key flags number value = record { kind_is = refl; key_is = refl; flags_are = refl; number_is = refl; value_is = refl }
 
 -- fields that a kind has not are of no account
 pub call_same : (kind : CallKind) (key : List ℕ) (flags number : ℕ) (value : List ℕ) (key' : List ℕ) (flags' number' : ℕ) (value' : List ℕ)
     → call_of kind (either_of (fields_of kind).key key key') (either_of (fields_of kind).flags flags flags') (either_of (fields_of kind).number number number') (either_of (fields_of kind).value value value') ≡ call_of kind key flags number value
 call_same Flush key flags number value key' flags' number' value' = refl
-call_same Tally key flags number value key' flags' number' value' = refl
 call_same kind key flags number value key' flags' number' value' = refl
+
+-- a call has the parts that it is made of
+pub call_back : (call : Call) → call_of (parts_of call).kind (key_part (parts_of call)) (flags_part (parts_of call)) (number_part (parts_of call)) (value_part (parts_of call)) ≡ call
+call_back Calls.Flush = refl
+call_back call = refl
 
 -- every call is one of its kind
 pub of_kinds : (P : Call → Type 0) → ((kind : CallKind) (key : List ℕ) (flags number : ℕ) (value : List ℕ) → P (call_of kind key flags number value)) → (call : Call) → P call
-of_kinds P each (Calls.Get key) = each Get key 0 0 key
-of_kinds P each (Calls.Set key flags value) = each Set key flags 0 value
-of_kinds P each (Calls.Add key flags value) = each Add key flags 0 value
-of_kinds P each (Calls.Replace key flags value) = each Replace key flags 0 value
-of_kinds P each (Calls.Append key value) = each Append key 0 0 value
-of_kinds P each (Calls.Prepend key value) = each Prepend key 0 0 value
-of_kinds P each (Calls.Cas flags key unique value) = each Cas key flags unique value
-of_kinds P each (Calls.Incr key amount) = each Incr key 0 amount key
-of_kinds P each (Calls.Decr key amount) = each Decr key 0 amount key
-of_kinds P each (Calls.Delete key) = each Delete key 0 0 key
-of_kinds P each Calls.Flush = each Flush [] 0 0 []
-of_kinds P each Calls.Tally = each Tally [] 0 0 []
+of_kinds P each call =
+    subst P (call_back call) (each (parts_of call).kind (key_part (parts_of call)) (flags_part (parts_of call)) (number_part (parts_of call)) (value_part (parts_of call)))
 
 -- ---- bounds
 
+both_within : (key value : Option (List ℕ)) → IfSome key IsKey → IfSome value IsValue → ArePartsWithin key value
+both_within None None is small = tt
+both_within None (Some value) is small = small
+both_within (Some key) None is small = is
+both_within (Some key) (Some value) is small = (is, small)
+
+first_within : (key value : Option (List ℕ)) → ArePartsWithin key value → IfSome key IsKey
+first_within None None are = tt
+first_within None (Some value) are = tt
+first_within (Some key) None are = are
+first_within (Some key) (Some value) are = are.0
+
+second_within : (key value : Option (List ℕ)) → ArePartsWithin key value → IfSome value IsValue
+second_within None None are = tt
+second_within None (Some value) are = are
+second_within (Some key) None are = tt
+second_within (Some key) (Some value) are = are.1
+
 -- a call is within its bounds where its key and its value are
 pub call_within : (call : Call) → IfSome (key_of call) IsKey → IfSome (call_value call) IsValue → IsCall call
-call_within (Calls.Get key) is small = is
-call_within (Calls.Set key flags value) is small = (is, small)
-call_within (Calls.Add key flags value) is small = (is, small)
-call_within (Calls.Replace key flags value) is small = (is, small)
-call_within (Calls.Append key value) is small = (is, small)
-call_within (Calls.Prepend key value) is small = (is, small)
-call_within (Calls.Cas flags key unique value) is small = (is, small)
-call_within (Calls.Incr key amount) is small = is
-call_within (Calls.Decr key amount) is small = is
-call_within (Calls.Delete key) is small = is
-call_within Calls.Flush is small = tt
-call_within Calls.Tally is small = tt
+call_within call = both_within (key_of call) (call_value call)
 
 -- and then they are
 pub key_within : (call : Call) → IsCall call → IfSome (key_of call) IsKey
-key_within (Calls.Get key) is = is
-key_within (Calls.Set key flags value) is = is.0
-key_within (Calls.Add key flags value) is = is.0
-key_within (Calls.Replace key flags value) is = is.0
-key_within (Calls.Append key value) is = is.0
-key_within (Calls.Prepend key value) is = is.0
-key_within (Calls.Cas flags key unique value) is = is.0
-key_within (Calls.Incr key amount) is = is
-key_within (Calls.Decr key amount) is = is
-key_within (Calls.Delete key) is = is
-key_within Calls.Flush is = tt
-key_within Calls.Tally is = tt
+key_within call = first_within (key_of call) (call_value call)
 
 pub value_within : (call : Call) → IsCall call → IfSome (call_value call) IsValue
-value_within (Calls.Set key flags value) is = is.1
-value_within (Calls.Add key flags value) is = is.1
-value_within (Calls.Replace key flags value) is = is.1
-value_within (Calls.Append key value) is = is.1
-value_within (Calls.Prepend key value) is = is.1
-value_within (Calls.Cas flags key unique value) is = is.1
-value_within call is = tt
+value_within call = second_within (key_of call) (call_value call)
 
 pub reply_within : (reply : CallReply) → IfSome (reply_value reply) IsValue → IsReply reply
 reply_within (Replies.Hit flags unique value) small = small

@@ -1,26 +1,25 @@
 -- What a shard counts in a replay is counted from the entries alone.
-use Rattle.std.specs.Prelude.{◌==◌, nat_lt, count_by, is_some, Option, None, Some, ⊤}
-use Rattle.std.proofs.Common.{◌≡◌, ℕ, ◌+◌, ◌-◌, ◌≤◌, Bool, true, false, cond, List, [], ◌∷◌, ◌++◌, length, refl, sym, ap, ◌∙◌, subst, arith}
-use Rattle.std.proofs.lemmas.List.{append_assoc, append-nil}
+use Rattle.std.specs.Prelude.{count_by, is_some, unwrap_or, decimal, Option, None, Some, ⊤}
+use Rattle.std.proofs.Common.{◌≡◌, ℕ, ◌+◌, ◌-◌, ◌≤◌, Bool, true, false, cond, List, [], ◌∷◌, length, refl, sym, ap, ◌∙◌, subst, arith}
 use Rattle.std.proofs.lemmas.List.Sums.{sum_by-cons, count_by-le-length}
 use Rattle.std.specs.Ordering.{nat_cmp, eq_by_cmp}
 use Rattle.std.specs.Cmp.Lexicographic.{slice_cmp, nat_list_cmp_total}
 use Rattle.std.specs.FinMap.{empty, get, contains_key, insert, remove, len, get-empty, get-insert, get-remove, len-empty, len-insert, len-remove}
 use Rattle.zy_base.specs.declared.item.Item.{Item}
 use Rattle.zy_base.specs.declared.call.Call.{Call}
-use Rattle.zy_base.specs.declared.call.Call.TheVariants.{Get, Set, Add, Replace, Append, Prepend, Cas, Incr, Decr, Delete, Flush, Tally}
-use Rattle.zy_base.specs.declared.call_reply.CallReply.TheVariants.{TooLarge, Exists}
+use Rattle.zy_base.specs.declared.call_reply.CallReply.{CallReply}
+use Rattle.zy_base.specs.declared.call_reply.CallReply.TheVariants.{Stored, Number, Deleted}
 use Rattle.zy_base.specs.declared.entry.Entry.{Entry}
 use Rattle.zy_base.specs.declared.tallied.Tallied.{Tallied}
 use Rattle.zy_base.specs.Call.{key_of}
-use Rattle.zy_base.specs.Code.{tally}
-use Rattle.zy_base.specs.Number.{number_of}
-use Rattle.zy_base.specs.Counted.{is_get, is_set, is_hit, is_miss, one_more_if, KeySet, no_keys, keys_with, keys_after, counted}
-use Rattle.zy_base.specs.Shard.{Items, State, empty_state, tallied, Outcome, value_limit, answers, stored, counted_up, counted_down, outcome_of, item_at, reply_to, state_with, state_after}
-use Rattle.zy_base.specs.Order.{at_shard}
-use Rattle.zy_base.specs.History.{IsReplay, replayed, IsLegal, answer_after, AreAnswered}
-use Rattle.zy_base.proofs.LegalLemmas.{legal_parts}
-use Rattle.zy_base.proofs.ReplayLemmas.{IsLegal-push, IsLegal-front, IsLegal-shard, IsLegal-reply}
+use Rattle.zy_base.specs.Table.{CallParts, parts_of, key_part, Acts, clears, always, by_item}
+use Rattle.zy_base.specs.Code.{call_row, call_kind}
+use Rattle.zy_base.specs.Kind.{IsTrue}
+use Rattle.zy_base.proofs.TableLemmas.{is_mute, say_mute, rows_say, are_single, rows_single, is_clear, are_at, calls_at}
+use Rattle.zy_base.proofs.KindLemmas.{Outcomes, acts_by, bare_by}
+use Rattle.zy_base.specs.Counted.{is_get, is_set, is_hit, is_miss, one_more_if, KeySet, no_keys, keys_by, keys_past, keys_with, keys_after, counted}
+use Rattle.zy_base.specs.Shard.{Items, State, empty_state, tallied, Outcome, answers, stored, done_of, outcome_of, item_at, reply_to, state_with, state_after}
+use Rattle.zy_base.specs.History.{IsReplay, replayed}
 
 -- ---- calls
 
@@ -112,57 +111,52 @@ after_taken keys items key are = record {
 }
 
 module _ (shards number : ℕ) (state : State) (keys : KeySet) (are : AreKeys keys state.items) where
-  -- the keys after a call with this outcome
-  abbrev After : Call → Outcome → Type 0
-  After call outcome = AreKeys (keys_with keys call outcome.reply) (state_with shards number state outcome.effect).items
+  -- the keys after this outcome at a key
+  abbrev After : Option (List ℕ) → Outcome → Type 0
+  After key outcome = AreKeys (keys_by key outcome.reply keys) (state_with shards number state outcome.effect).items
 
   put : (key : List ℕ) (flags : ℕ) (value : List ℕ) → AreKeys (insert keys key tt) (state_with shards number state (stored key flags value).effect).items
   put key flags value = after_put keys state.items key _ are
 
-  joined : (call : Call) (key : List ℕ) (flags : ℕ) (value : List ℕ) (test : Bool) → After call (stored key flags value) → After call (answers TooLarge)
-      → After call (cond test (answers TooLarge) (stored key flags value))
-  joined call key flags value true small large = large
-  joined call key flags value false small large = small
+  -- a reply alone leaves the keys
+  mute_keys : (key : Option (List ℕ)) (reply : CallReply) → IsTrue (is_mute reply) → After key (answers reply)
+  mute_keys None reply mute = are
+  mute_keys (Some key) Stored mute = absurd mute
+  mute_keys (Some key) (Number number) mute = absurd mute
+  mute_keys (Some key) Deleted mute = absurd mute
+  mute_keys (Some key) reply mute = are
 
-  exchanged : (key : List ℕ) (flags unique : ℕ) (value : List ℕ) (test : Bool) → After (Cas flags key unique value) (cond test (stored key flags value) (answers Exists))
-  exchanged key flags unique value true = put key flags value
-  exchanged key flags unique value false = are
+  module _ (counts : Tallied) (call : CallParts) (found : Option Item) where
+    -- after an outcome at the key of a call
+    each : Outcomes call found (After (Some (key_part call)))
+    each = record {
+      says = mute_keys (Some (key_part call));
+      shows = λ item there. are;
+      stores = λ flags value small. put (key_part call) flags value;
+      numbers = λ item number fits. put (key_part call) item.flags (decimal number);
+      takes = after_taken keys state.items (key_part call) are;
+    }
 
-  up : (key : List ℕ) (item : Item) (amount : ℕ) (number : Option ℕ) → After (Incr key amount) (counted_up key item amount number)
-  up key item amount None = are
-  up key item amount (Some n) = put key _ _
+    at_key : (acts : Acts) (key : List ℕ) → call.key ≡ Some key → IsTrue (say_mute acts) → IsTrue (are_single acts) → (IsTrue (is_clear acts) → ⊥) → After (Some key) (done_of counts call acts found)
+    at_key acts key own mute single other =
+        subst (λ k. After (Some k) (done_of counts call acts found)) (ap (λ (k : Option (List ℕ)). unwrap_or k []) own)
+        (acts_by counts call found (After (Some (key_part call))) each acts found refl mute single (λ clear. absurd (other clear)))
 
-  down : (key : List ℕ) (item : Item) (amount : ℕ) (number : Option ℕ) → After (Decr key amount) (counted_down key item amount number)
-  down key item amount None = are
-  down key item amount (Some n) = put key _ _
+    no_key : (acts : Acts) → IsTrue (say_mute acts) → IsTrue (are_at false acts) → (IsTrue (is_clear acts) → ⊥) → After None (done_of counts call acts found)
+    no_key acts mute at other = bare_by counts call found (After None) (mute_keys None) (λ item. are) acts mute at (λ clear. absurd (other clear))
 
-  after_outcome : (counts : Tallied) (call : Call) (found : Option Item) → After call (outcome_of counts call found)
-  after_outcome counts (Get key) None = are
-  after_outcome counts (Get key) (Some item) = are
-  after_outcome counts (Set key flags value) None = put key flags value
-  after_outcome counts (Set key flags value) (Some item) = put key flags value
-  after_outcome counts (Add key flags value) None = put key flags value
-  after_outcome counts (Add key flags value) (Some item) = are
-  after_outcome counts (Replace key flags value) None = are
-  after_outcome counts (Replace key flags value) (Some item) = put key flags value
-  after_outcome counts (Append key value) None = are
-  after_outcome counts (Append key value) (Some item) =
-      joined (Append key value) key item.flags (item.value ++ value) (nat_lt value_limit (length (item.value ++ value))) (put key _ _) are
-  after_outcome counts (Prepend key value) None = are
-  after_outcome counts (Prepend key value) (Some item) =
-      joined (Prepend key value) key item.flags (value ++ item.value) (nat_lt value_limit (length (value ++ item.value))) (put key _ _) are
-  after_outcome counts (Cas flags key unique value) None = are
-  after_outcome counts (Cas flags key unique value) (Some item) = exchanged key flags unique value (item.unique == unique)
-  after_outcome counts (Incr key amount) None = are
-  after_outcome counts (Incr key amount) (Some item) = up key item amount (number_of item.value)
-  after_outcome counts (Decr key amount) None = are
-  after_outcome counts (Decr key amount) (Some item) = down key item amount (number_of item.value)
-  after_outcome counts (Delete key) None = are
-  after_outcome counts (Delete key) (Some item) = after_taken keys state.items key are
-  after_outcome counts Flush None = no_items
-  after_outcome counts Flush (Some item) = no_items
-  after_outcome counts Tally None = are
-  after_outcome counts Tally (Some item) = are
+    after_acts : (acts : Acts) (key : Option (List ℕ)) → call.key ≡ key → IsTrue (say_mute acts) → IsTrue (are_single acts) → IsTrue (are_at (is_some key) acts)
+        → AreKeys (keys_past acts key (done_of counts call acts found).reply keys) (state_with shards number state (done_of counts call acts found).effect).items
+    after_acts (always clears) key own mute single at = no_items
+    after_acts (always act) (Some key) own mute single at = at_key (always act) key own mute single (λ clear. clear)
+    after_acts (always act) None own mute single at = no_key (always act) mute at (λ clear. clear)
+    after_acts (by_item without with) (Some key) own mute single at = at_key (by_item without with) key own mute single (λ clear. clear)
+    after_acts (by_item without with) None own mute single at = no_key (by_item without with) mute at (λ clear. clear)
+
+  after_outcome : (counts : Tallied) (call : Call) (found : Option Item)
+      → AreKeys (keys_with keys call (outcome_of counts call found).reply) (state_with shards number state (outcome_of counts call found).effect).items
+  after_outcome counts call found =
+      after_acts counts (parts_of call) found (call_row call).acts (key_of call) refl (rows_say (call_kind call)) (rows_single (call_kind call)) (calls_at call)
 
 keys_are : (shards number : ℕ) (state : State) (keys : KeySet) (es : List Entry) → AreKeys keys state.items → IsReplay shards number state es
     → AreKeys (keys_after keys es) (replayed shards number state es).items
@@ -188,11 +182,7 @@ tallied-replayed shards number es replay =
     let items' = sym (keys_are shards number empty_state no_keys es no_items replay).size in
     λ i. record { gets = gets' i; sets = sets' i; hits = hits' i; misses = misses' i; items = items' i }
 
--- the items that are counted are those of the shard
-pub items-counted : (shards number : ℕ) (es : List Entry) → IsReplay shards number empty_state es → (counted es).items ≡ len (replayed shards number empty_state es).items
-items-counted shards number es replay = (keys_are shards number empty_state no_keys es no_items replay).size
-
--- there are as many gets, and as many calls that store a value, as entries at most
+-- neither the gets nor the calls that store a value are more than the entries
 pub gets_within : (shards number : ℕ) (es : List Entry) → (replayed shards number empty_state es).calls.gets ≤ length es
 gets_within shards number es =
     let is = gets_are shards number empty_state es in
@@ -204,39 +194,3 @@ sets_within shards number es =
     let is = sets_are shards number empty_state es in
     let most = count_by-le-length (λ (e : Entry). is_set e.call) es in
     omega (arith, is, most)
-
--- ---- all shards
-
--- a shard answers each call as after these entries
-answer_is : (shards number : ℕ) (before : List Entry) (call : Call) → IsReplay shards number empty_state before
-    → reply_to (replayed shards number empty_state before) call ≡ answer_after shards number before call
-answer_is shards number before Tally replay = ap tally (tallied-replayed shards number before replay)
-answer_is shards number before call replay = refl
-
--- the entries of a legal list are answered so
-answered_from : (shards : ℕ) (before es : List Entry) → IsLegal shards (before ++ es) → AreAnswered shards before es
-answered_from shards before [] legal = tt
-answered_from shards before (e ∷ es) legal =
-    let whole : IsLegal shards ((before ++ e ∷ []) ++ es) = subst (IsLegal shards) (sym (append_assoc before (e ∷ []) es)) legal in
-    let front = IsLegal-front shards (before ++ e ∷ []) es whole in (
-      IsLegal-shard shards before e front,
-      IsLegal-reply shards before e front
-          ∙ answer_is shards e.shard (at_shard e.shard before) e.call (legal_parts shards (λ number. empty_state) before (IsLegal-front shards before (e ∷ []) front) e.shard),
-      answered_from shards (before ++ e ∷ []) es whole,
-    )
-
-pub legal_answered : (shards : ℕ) (es : List Entry) → IsLegal shards es → AreAnswered shards [] es
-legal_answered shards es legal = answered_from shards [] es legal
-
--- and a list that is answered so is legal
-legal_from : (shards : ℕ) (before es : List Entry) → IsLegal shards before → AreAnswered shards before es → IsLegal shards (before ++ es)
-legal_from shards before [] legal answered = subst (IsLegal shards) (sym (append-nil before)) legal
-legal_from shards before (e ∷ es) legal answered =
-    subst (IsLegal shards) (append_assoc before (e ∷ []) es)
-    (legal_from shards (before ++ e ∷ []) es
-    (IsLegal-push shards before e legal answered.0
-    (answered.1 ∙ sym (answer_is shards e.shard (at_shard e.shard before) e.call (legal_parts shards (λ number. empty_state) before legal e.shard))))
-    answered.2)
-
-pub answered_legal : (shards : ℕ) (es : List Entry) → AreAnswered shards [] es → IsLegal shards es
-answered_legal shards es answered = legal_from shards [] es tt answered

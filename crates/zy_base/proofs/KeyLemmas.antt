@@ -1,6 +1,6 @@
 -- What is seen at one key of a shard depends on the calls with this key alone.
-use Rattle.std.proofs.Common.{◌≡◌, ℕ, ◌+◌, Bool, true, false, cond, List, length, refl, sym, ap, ◌∙◌, subst, Option, None, Some}
-use Rattle.std.specs.Prelude.{◌++◌, nat_lt}
+use Rattle.std.proofs.Common.{◌≡◌, ℕ, ◌+◌, Bool, true, false, cond, List, refl, sym, ap, ◌∙◌, subst, Option, None, Some}
+use Rattle.std.specs.Prelude.{[], unwrap_or}
 use Rattle.std.specs.Ordering.{nat_cmp, eq_by_cmp, is_eq}
 use Rattle.std.specs.declared.cmp.Ordering.{Ordering}
 use Rattle.std.specs.declared.cmp.Ordering.TheVariants.{Less, Equal, Greater}
@@ -8,72 +8,68 @@ use Rattle.std.specs.Cmp.Lexicographic.{slice_cmp, nat_list_cmp_total}
 use Rattle.std.specs.FinMap.{get, get-empty, get-insert, get-remove, nat_cmp-IsAntisymmetric, slice_cmp-IsAntisymmetric}
 use Rattle.zy_base.specs.declared.item.Item.{Item}
 use Rattle.zy_base.specs.declared.call.Call.{Call}
-use Rattle.zy_base.specs.declared.call.Call.TheVariants.{Get, Set, Add, Replace, Append, Prepend, Cas, Incr, Decr, Delete, Flush, Tally}
-use Rattle.zy_base.specs.declared.call_reply.CallReply.TheVariants.{TooLarge}
+use Rattle.zy_base.specs.Table.{CallParts, parts_of, key_part, Act, Acts, exchanges, clears, tallies, always, by_item}
+use Rattle.zy_base.specs.Code.{call_row}
+use Rattle.zy_base.specs.Kind.{IsTrue}
 use Rattle.zy_base.specs.declared.tallied.Tallied.{Tallied}
 use Rattle.zy_base.specs.Call.{key_of}
-use Rattle.zy_base.specs.Number.{number_of}
-use Rattle.zy_base.specs.Shard.{Items, State, Effect, keeps, stores, removes, empties, value_limit, unique_of, reply_to, state_after, state_with, tallied, item_at, outcome_of, outcome_on, answers, stored, counted_up, counted_down}
-use Rattle.zy_base.specs.Told.{told, seen, seen_at, seen_after, IsSteady, IsAtOnly}
+use Rattle.zy_base.specs.Shard.{Items, State, Effect, keeps, stores, removes, empties, unique_of, reply_to, state_after, state_with, tallied, item_at, done, done_of, outcome_of, outcome_on}
+use Rattle.zy_base.proofs.TableLemmas.{holds_both, is_clear}
+use Rattle.zy_base.proofs.KindLemmas.{outcome_by}
+use Rattle.zy_base.specs.Told.{told, seen, seen_at, seen_after, is_steady_act, are_steady, IsSteady, IsAtOnly}
 
 -- ---- what a call answers and does
 
--- a call's answer, without its unique, depends on what is found without its unique, and not on what the shard counts
-told-outcome_of : (counts others : Tallied) (call : Call) (found : Option Item) → IsSteady call → told (outcome_of counts call found).reply ≡ told (outcome_of others call (seen found)).reply
-told-outcome_of counts others (Cas flags key unique value) found steady = absurd steady
-told-outcome_of counts others Flush found steady = absurd steady
-told-outcome_of counts others Tally found steady = absurd steady
-told-outcome_of counts others call None steady = refl
-told-outcome_of counts others call (Some item) steady = refl
+-- what is answered, without its unique, depends on what is found without its unique, and not on what the shard counts
+told-done : (counts others : Tallied) (call : CallParts) (act : Act) (found : Option Item) → IsTrue (is_steady_act act) → told (done counts call act found).reply ≡ told (done others call act (seen found)).reply
+told-done counts others call exchanges found steady = absurd steady
+told-done counts others call clears found steady = absurd steady
+told-done counts others call tallies found steady = absurd steady
+told-done counts others call act None steady = refl
+told-done counts others call act (Some item) steady = refl
 
--- and so does its effect
+-- and so does the effect
+effect-done : (counts others : Tallied) (call : CallParts) (act : Act) (found : Option Item) → IsTrue (is_steady_act act) → (done counts call act found).effect ≡ (done others call act (seen found)).effect
+effect-done counts others call exchanges found steady = absurd steady
+effect-done counts others call clears found steady = absurd steady
+effect-done counts others call tallies found steady = absurd steady
+effect-done counts others call act None steady = refl
+effect-done counts others call act (Some item) steady = refl
+
+told-done_of : (counts others : Tallied) (call : CallParts) (acts : Acts) (found : Option Item) → IsTrue (are_steady acts) → told (done_of counts call acts found).reply ≡ told (done_of others call acts (seen found)).reply
+told-done_of counts others call (always act) found steady = told-done counts others call act found steady
+told-done_of counts others call (by_item without with) None steady = told-done counts others call without None (holds_both _ _ steady).0
+told-done_of counts others call (by_item without with) (Some item) steady = told-done counts others call with (Some item) (holds_both _ _ steady).1
+
+effect-done_of : (counts others : Tallied) (call : CallParts) (acts : Acts) (found : Option Item) → IsTrue (are_steady acts) → (done_of counts call acts found).effect ≡ (done_of others call acts (seen found)).effect
+effect-done_of counts others call (always act) found steady = effect-done counts others call act found steady
+effect-done_of counts others call (by_item without with) None steady = effect-done counts others call without None (holds_both _ _ steady).0
+effect-done_of counts others call (by_item without with) (Some item) steady = effect-done counts others call with (Some item) (holds_both _ _ steady).1
+
+told-outcome_of : (counts others : Tallied) (call : Call) (found : Option Item) → IsSteady call → told (outcome_of counts call found).reply ≡ told (outcome_of others call (seen found)).reply
+told-outcome_of counts others call found steady = told-done_of counts others (parts_of call) (call_row call).acts found steady
+
 effect-outcome_of : (counts others : Tallied) (call : Call) (found : Option Item) → IsSteady call → (outcome_of counts call found).effect ≡ (outcome_of others call (seen found)).effect
-effect-outcome_of counts others (Cas flags key unique value) found steady = absurd steady
-effect-outcome_of counts others Flush found steady = absurd steady
-effect-outcome_of counts others Tally found steady = absurd steady
-effect-outcome_of counts others call None steady = refl
-effect-outcome_of counts others call (Some item) steady = refl
+effect-outcome_of counts others call found steady = effect-done_of counts others (parts_of call) (call_row call).acts found steady
 
 -- ---- the key of an effect
 
-at-stored : (key : List ℕ) (item : Item) (value : List ℕ) (b : Bool) → IsAtOnly key (cond b (answers TooLarge) (stored key item.flags value)).effect
-at-stored key item value true = tt
-at-stored key item value false = refl
-
-at-counted_up : (key : List ℕ) (item : Item) (amount : ℕ) (number : Option ℕ) → IsAtOnly key (counted_up key item amount number).effect
-at-counted_up key item amount None = tt
-at-counted_up key item amount (Some number) = refl
-
-at-counted_down : (key : List ℕ) (item : Item) (amount : ℕ) (number : Option ℕ) → IsAtOnly key (counted_down key item amount number).effect
-at-counted_down key item amount None = tt
-at-counted_down key item amount (Some number) = refl
+-- a steady call does not remove all items
+not_clear : (acts : Acts) → IsTrue (are_steady acts) → IsTrue (is_clear acts) → ⊥
+not_clear (always clears) steady clear = absurd steady
+not_clear acts steady clear = absurd clear
 
 -- the effect of a call is at its key
 at-outcome_of : (counts : Tallied) (key : List ℕ) (call : Call) (found : Option Item) → IsSteady call → key_of call ≡ Some key → IsAtOnly key (outcome_of counts call found).effect
-at-outcome_of counts key (Get at) None steady is = tt
-at-outcome_of counts key (Get at) (Some item) steady is = tt
-at-outcome_of counts key (Set at flags value) found steady is = cc
-at-outcome_of counts key (Add at flags value) None steady is = cc
-at-outcome_of counts key (Add at flags value) (Some item) steady is = tt
-at-outcome_of counts key (Replace at flags value) None steady is = tt
-at-outcome_of counts key (Replace at flags value) (Some item) steady is = cc
-at-outcome_of counts key (Append at value) None steady is = tt
-at-outcome_of counts key (Append at value) (Some item) steady is =
-    let same : at ≡ key = cc in subst (λ k. IsAtOnly k (outcome_of counts (Append at value) (Some item)).effect) same (at-stored at item (item.value ++ value) (nat_lt value_limit (length (item.value ++ value))))
-at-outcome_of counts key (Prepend at value) None steady is = tt
-at-outcome_of counts key (Prepend at value) (Some item) steady is =
-    let same : at ≡ key = cc in subst (λ k. IsAtOnly k (outcome_of counts (Prepend at value) (Some item)).effect) same (at-stored at item (value ++ item.value) (nat_lt value_limit (length (value ++ item.value))))
-at-outcome_of counts key (Cas flags at unique value) found steady is = absurd steady
-at-outcome_of counts key (Incr at amount) None steady is = tt
-at-outcome_of counts key (Incr at amount) (Some item) steady is =
-    let same : at ≡ key = cc in subst (λ k. IsAtOnly k (outcome_of counts (Incr at amount) (Some item)).effect) same (at-counted_up at item amount (number_of item.value))
-at-outcome_of counts key (Decr at amount) None steady is = tt
-at-outcome_of counts key (Decr at amount) (Some item) steady is =
-    let same : at ≡ key = cc in subst (λ k. IsAtOnly k (outcome_of counts (Decr at amount) (Some item)).effect) same (at-counted_down at item amount (number_of item.value))
-at-outcome_of counts key (Delete at) None steady is = tt
-at-outcome_of counts key (Delete at) (Some item) steady is = cc
-at-outcome_of counts key Flush found steady is = absurd steady
-at-outcome_of counts key Tally found steady is = absurd steady
+at-outcome_of counts key call found steady is =
+    subst (λ k. IsAtOnly k (outcome_of counts call found).effect) (ap (λ (own : Option (List ℕ)). unwrap_or own []) is)
+    (outcome_by counts call found (λ outcome. IsAtOnly (key_part (parts_of call)) outcome.effect) (record {
+      says = λ reply mute. tt;
+      shows = λ item found. tt;
+      stores = λ flags value small. refl;
+      numbers = λ item number fits. refl;
+      takes = refl;
+    }) (λ clear. absurd (not_clear (call_row call).acts steady clear)))
 
 -- ---- a shard after an effect
 

@@ -4,13 +4,12 @@ pub mod KindLemmas
 pub mod LegalLemmas
 pub mod ReplayLemmas
 pub mod MergeLemmas
-pub mod MergingLemmas
 pub mod NumberLemmas
 pub mod RisingLemmas
 pub mod WritingLemmas
-pub mod WorkedLemmas
 pub mod KeyLemmas
 pub mod ReplyLemmas
 pub mod SameLemmas
 pub mod CodeLemmas
+pub mod TableLemmas
 pub mod CountedLemmas

@@ -1,21 +1,21 @@
 -- The values in the replies of a legal list are within their bound, where those in its calls are.
-use Rattle.std.specs.Prelude.{◌==◌, ◌&&◌, nat_lt, if◌then◌else◌, decimal, Option, None, Some}
+use Rattle.std.specs.Prelude.{◌==◌, if◌then◌else◌, decimal, Option, None, Some}
 use Rattle.std.specs.List.{AllByRecursion}
 use Rattle.std.specs.Ordering.{nat_cmp, eq_by_cmp}
 use Rattle.std.specs.Cmp.Lexicographic.{slice_cmp, nat_list_cmp_total}
 use Rattle.std.specs.FinMap.{get, get-empty, get-insert, get-remove}
-use Rattle.std.specs.Str.Parse.{digits_value}
-use Rattle.std.proofs.Common.{◌≡◌, ℕ, ◌+◌, ◌-◌, ◌%◌, ◌^◌, ◌<◌, List, [], ◌∷◌, ◌++◌, length, Bool, true, false, cond, refl, sym, subst, arith}
+use Rattle.std.proofs.Common.{ℕ, ◌+◌, ◌^◌, ◌<◌, List, [], ◌∷◌, Bool, true, false, cond, sym, subst, arith}
 use Rattle.std.proofs.lemmas.Fmt.{length-decimal-le}
-use borrow.Author.Tests.{ltb-true, ltb-false}
 use Rattle.zy_base.specs.declared.item.Item.{Item}
 use Rattle.zy_base.specs.declared.call.Call.{Call}
-use Rattle.zy_base.specs.declared.call.Call.TheVariants.{Get, Set, Add, Replace, Append, Prepend, Cas, Incr, Decr, Delete, Flush, Tally}
+use Rattle.zy_base.specs.declared.call_reply.CallReply.{CallReply}
 use Rattle.zy_base.specs.declared.call_reply.CallReply.TheVariants as Replies
 use Rattle.zy_base.specs.declared.entry.Entry.{Entry}
 use Rattle.zy_base.specs.declared.tallied.Tallied.{Tallied}
-use Rattle.zy_base.specs.Number.{number_of, is_numeral}
-use Rattle.zy_base.specs.Shard.{State, Outcome, Effect, keeps, stores, removes, empties, empty_state, value_limit, answers, stored, joined, counted_up, counted_down, exchanged, tallied, outcome_of, item_at, state_after, state_with, unique_of}
+use Rattle.zy_base.specs.Shard.{State, Outcome, Effect, keeps, stores, removes, empties, empty_state, tallied, outcome_of, item_at, state_after, state_with, unique_of}
+use Rattle.zy_base.specs.Kind.{IsTrue}
+use Rattle.zy_base.proofs.TableLemmas.{is_mute, value_small}
+use Rattle.zy_base.proofs.KindLemmas.{outcome_by}
 use Rattle.zy_base.specs.Call.{key_of}
 use Rattle.zy_base.specs.History.{IsLegalFrom, IsLegal, states_after}
 use Rattle.zy_base.specs.Bounds.{IsValue, IsCall, IsReply, IsFound, AreItems, IsEffect, IsCallWithin}
@@ -29,61 +29,19 @@ IsOutcome o = IsReply o.reply × IsEffect o.effect
 digits_small : (n : ℕ) → n < 2 ^ 64 → IsValue (decimal n)
 digits_small n fits = let most = length-decimal-le 20 n (omega arith) (omega arith) fits in omega arith
 
-joined_within : (key : List ℕ) (item : Item) (value : List ℕ) → IsOutcome (joined key item value)
-joined_within key item value = go (nat_lt value_limit (length value)) refl
-  where
-    go : (b : Bool) → nat_lt value_limit (length value) ≡ b → IsOutcome (if b then answers Replies.TooLarge else stored key item.flags value)
-    go true over = (tt, tt)
-    go false over = (tt, ltb-false value_limit (length value) over)
-
-up_within : (key : List ℕ) (item : Item) (amount : ℕ) (number : Option ℕ) → IsOutcome (counted_up key item amount number)
-up_within key item amount None = (tt, tt)
-up_within key item amount (Some number) = (tt, digits_small ((number + amount) % 2 ^ 64) (omega arith))
-
-number_small : (text : List ℕ) (number : ℕ) → number_of text ≡ Some number → number < 2 ^ 64
-number_small text number is = go (is_numeral text) (nat_lt (digits_value 10 text) (2 ^ 64)) refl is
-  where
-    go : (a b : Bool) → nat_lt (digits_value 10 text) (2 ^ 64) ≡ b → (if a && b then Some (digits_value 10 text) else None) ≡ Some number → number < 2 ^ 64
-    go true true below found = let same : digits_value 10 text ≡ number = cc in let less = ltb-true (digits_value 10 text) (2 ^ 64) below in omega arith
-    go true false below found = absurd (cc)
-    go false b below found = absurd (cc)
-
-down_within : (key : List ℕ) (item : Item) (amount : ℕ) (found : Option ℕ) → number_of item.value ≡ found → IsOutcome (counted_down key item amount found)
-down_within key item amount None is = (tt, tt)
-down_within key item amount (Some number) is = (tt, digits_small (number - amount) (let less = number_small item.value number is in omega arith))
-
-exchanged_within : (key : List ℕ) (item : Item) (flags unique : ℕ) (value : List ℕ) → IsValue value → IsOutcome (exchanged key item flags unique value)
-exchanged_within key item flags unique value small = go (item.unique == unique)
-  where
-    go : (b : Bool) → IsOutcome (if b then stored key flags value else answers Replies.Exists)
-    go true = (tt, small)
-    go false = (tt, tt)
+-- a reply without an item is within its bound
+mute_within : (reply : CallReply) → IsTrue (is_mute reply) → IsReply reply
+mute_within (Replies.Hit flags unique value) mute = absurd mute
+mute_within reply mute = tt
 
 outcome_within : (counts : Tallied) (call : Call) (found : Option Item) → IsCall call → IsFound found → IsOutcome (outcome_of counts call found)
-outcome_within counts (Get key) None is small = (tt, tt)
-outcome_within counts (Get key) (Some item) is small = (small, tt)
-outcome_within counts (Set key flags value) None is small = (tt, is.1)
-outcome_within counts (Set key flags value) (Some item) is small = (tt, is.1)
-outcome_within counts (Add key flags value) None is small = (tt, is.1)
-outcome_within counts (Add key flags value) (Some item) is small = (tt, tt)
-outcome_within counts (Replace key flags value) None is small = (tt, tt)
-outcome_within counts (Replace key flags value) (Some item) is small = (tt, is.1)
-outcome_within counts (Append key value) None is small = (tt, tt)
-outcome_within counts (Append key value) (Some item) is small = joined_within key item (item.value ++ value)
-outcome_within counts (Prepend key value) None is small = (tt, tt)
-outcome_within counts (Prepend key value) (Some item) is small = joined_within key item (value ++ item.value)
-outcome_within counts (Cas flags key unique value) None is small = (tt, tt)
-outcome_within counts (Cas flags key unique value) (Some item) is small = exchanged_within key item flags unique value is.1
-outcome_within counts (Incr key amount) None is small = (tt, tt)
-outcome_within counts (Incr key amount) (Some item) is small = up_within key item amount (number_of item.value)
-outcome_within counts (Decr key amount) None is small = (tt, tt)
-outcome_within counts (Decr key amount) (Some item) is small = down_within key item amount (number_of item.value) refl
-outcome_within counts (Delete key) None is small = (tt, tt)
-outcome_within counts (Delete key) (Some item) is small = (tt, tt)
-outcome_within counts Flush None is small = (tt, tt)
-outcome_within counts Flush (Some item) is small = (tt, tt)
-outcome_within counts Tally None is small = (tt, tt)
-outcome_within counts Tally (Some item) is small = (tt, tt)
+outcome_within counts call found is small = outcome_by counts call found IsOutcome (record {
+  says = λ reply mute. (mute_within reply mute, tt);
+  shows = λ item there. (subst IsFound there small, tt);
+  stores = λ flags value within. (tt, within (value_small call is));
+  numbers = λ item number fits. (tt, digits_small number fits);
+  takes = (tt, tt);
+}) (λ clear. (tt, tt))
 
 -- ---- one shard
 

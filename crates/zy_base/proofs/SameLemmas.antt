@@ -6,12 +6,12 @@ use mathlib.Core.HLevel.{×_discrete}
 use mathlib.Core.List.{List-discrete}
 use native.Mathlib.Decide.{ℕ_discrete}
 use Rattle.zy_base.specs.declared.call.Call.{Call}
-use Rattle.zy_base.specs.declared.call.Call.TheVariants.{Flush, Tally}
 use Rattle.zy_base.specs.declared.call_reply.CallReply.{CallReply}
 use Rattle.zy_base.specs.declared.call_reply.CallReply.TheVariants.{Hit, Number}
 use Rattle.zy_base.specs.declared.tallied.Tallied.{Tallied}
-use Rattle.zy_base.specs.Call.{key_of}
-use Rattle.zy_base.specs.Code.{kind_of, call_of, call_code, call_flags, call_number, call_value, hit_code, number_code, tally_code, reply_code, reply_flags, reply_number, reply_value, reply_counts, tally, plain_reply}
+use Rattle.zy_base.specs.Table.{parts_of, key_part, flags_part, number_part, value_part}
+use Rattle.zy_base.proofs.CodeLemmas.{kind_back, call_back}
+use Rattle.zy_base.specs.Code.{kind_of, call_of, call_kind, call_code, hit_code, number_code, tally_code, reply_code, reply_flags, reply_number, reply_value, reply_counts, tally, plain_reply}
 
 -- values that are read back from codes can be compared if the codes can
 pub told_by : {A B : Type 0} (code : A → B) (read : B → A) → ((a : A) → read (code a) ≡ a) → Discrete B → Discrete A
@@ -36,24 +36,22 @@ bytes_told = List-discrete ℕ_discrete
 
 -- ---- calls
 
--- the code of a call, its key, its flags, its unique or its amount, and its value
-abbrev CallParts : Type 0
-CallParts = ℕ × (List ℕ × (ℕ × (ℕ × List ℕ)))
+-- the code of a call's kind, its key, its flags, its unique or its amount, and its value
+abbrev Coded : Type 0
+Coded = ℕ × (List ℕ × (ℕ × (ℕ × List ℕ)))
 
-abbrev call_parts : Call → CallParts
-call_parts call =
-    (call_code call, (unwrap_or (key_of call) [], (unwrap_or (call_flags call) 0, (unwrap_or (call_number call) 0, unwrap_or (call_value call) []))))
+abbrev coded : Call → Coded
+coded call = (call_code call, (key_part (parts_of call), (flags_part (parts_of call), (number_part (parts_of call), value_part (parts_of call)))))
 
-abbrev call_by : CallParts → Call
+abbrev call_by : Coded → Call
 call_by (code, (key, (flags, (number, value)))) = call_of (kind_of code) key flags number value
 
-call_back : (call : Call) → call_by (call_parts call) ≡ call
-call_back Flush = refl
-call_back Tally = refl
-call_back call = refl
+coded_back : (call : Call) → call_by (coded call) ≡ call
+coded_back call =
+    ap (λ kind. call_of kind (key_part (parts_of call)) (flags_part (parts_of call)) (number_part (parts_of call)) (value_part (parts_of call))) (kind_back (call_kind call)) ∙ call_back call
 
 pub call_told : Discrete Call
-call_told = told_by call_parts call_by call_back (×_discrete ℕ_discrete (×_discrete bytes_told (×_discrete ℕ_discrete (×_discrete ℕ_discrete bytes_told))))
+call_told = told_by coded call_by coded_back (×_discrete ℕ_discrete (×_discrete bytes_told (×_discrete ℕ_discrete (×_discrete ℕ_discrete bytes_told))))
 
 -- ---- replies
 

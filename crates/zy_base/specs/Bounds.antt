@@ -3,13 +3,12 @@ use Rattle.std.specs.Prelude.{ℕ, ◌^◌, ◌<◌, ◌≤◌, List, length, Op
 use Rattle.std.specs.FinMap.{get}
 use Rattle.zy_base.specs.declared.item.Item.{Item}
 use Rattle.zy_base.specs.declared.call.Call.{Call}
-use Rattle.zy_base.specs.declared.call.Call.TheVariants.{Get, Set, Add, Replace, Append, Prepend, Cas, Incr, Decr}
-use Rattle.zy_base.specs.declared.call.Call.TheVariants.{Delete, Flush, Tally}
 use Rattle.zy_base.specs.declared.call_reply.CallReply.{CallReply}
 use Rattle.zy_base.specs.declared.call_reply.CallReply.TheVariants.{Hit}
 use Rattle.zy_base.specs.declared.entry.Entry.{Entry}
 use Rattle.zy_base.specs.declared.tallied.Tallied.{Tallied}
-use Rattle.zy_base.specs.Code.{call_flags, call_number, reply_flags, reply_number, reply_counts}
+use Rattle.zy_base.specs.Call.{key_of}
+use Rattle.zy_base.specs.Code.{call_flags, call_number, call_value, reply_flags, reply_number, reply_counts}
 use Rattle.zy_base.specs.Limits.{key_limit, value_limit}
 use Rattle.zy_base.specs.Shard.{State, Effect, keeps, stores, removes, empties}
 
@@ -23,20 +22,16 @@ IsKey key = (0 < length key) × (length key ≤ key_limit)
 abbrev pub IsValue : List ℕ → Type 0
 IsValue value = length value ≤ value_limit
 
+-- a key and a value, where they are there, are within their bounds
+abbrev pub ArePartsWithin : Option (List ℕ) → Option (List ℕ) → Type 0
+ArePartsWithin None None = Unit {0}
+ArePartsWithin None (Some value) = IsValue value
+ArePartsWithin (Some key) None = IsKey key
+ArePartsWithin (Some key) (Some value) = IsKey key × IsValue value
+
 -- the key and the value of a call are within their bounds
 abbrev pub IsCall : Call → Type 0
-IsCall (Get key) = IsKey key
-IsCall (Set key flags value) = IsKey key × IsValue value
-IsCall (Add key flags value) = IsKey key × IsValue value
-IsCall (Replace key flags value) = IsKey key × IsValue value
-IsCall (Append key value) = IsKey key × IsValue value
-IsCall (Prepend key value) = IsKey key × IsValue value
-IsCall (Cas flags key unique value) = IsKey key × IsValue value
-IsCall (Incr key amount) = IsKey key
-IsCall (Decr key amount) = IsKey key
-IsCall (Delete key) = IsKey key
-IsCall Flush = Unit {0}
-IsCall Tally = Unit {0}
+IsCall call = ArePartsWithin (key_of call) (call_value call)
 
 -- the value of a reply is within its bound
 abbrev pub IsReply : CallReply → Type 0

@@ -1,87 +1,32 @@
--- The codes of calls and replies in a journal, and the fields that follow them: docs/FORMATS.md, "Journal".
-use Rattle.std.specs.Prelude.{ℕ, ◌==◌, if◌then◌else◌, Bool, true, false, List, Option, None, Some}
+-- The codes of calls and replies in a journal, and the fields that follow them: docs/FORMATS.md, "Journal". What a call
+-- has is told by the table of calls (`Table`).
+use Rattle.std.specs.Prelude.{ℕ, ◌==◌, if◌then◌else◌, List, Option, None, Some}
 use Rattle.zy_base.specs.declared.call.Call.{Call}
-use Rattle.zy_base.specs.declared.call.Call.TheVariants as Calls
 use Rattle.zy_base.specs.declared.call_kind.CallKind.{CallKind}
-use Rattle.zy_base.specs.declared.call_kind.CallKind.TheVariants.{Get, Set, Add, Replace, Append, Prepend, Cas, Incr}
-use Rattle.zy_base.specs.declared.call_kind.CallKind.TheVariants.{Decr, Delete, Flush, Tally}
 use Rattle.zy_base.specs.declared.call_kind.CallFields.{CallFields}
 use Rattle.zy_base.specs.declared.call_reply.CallReply.{CallReply}
 use Rattle.zy_base.specs.declared.call_reply.CallReply.TheVariants as Replies
 use Rattle.zy_base.specs.declared.tallied.Tallied.{Tallied}
+use Rattle.zy_base.specs.Table.{CallRow, row_of, parts_of}
+pub use Rattle.zy_base.specs.Table.{having, kind_of, call_of, last_call_code}
 
 -- ---- calls
 
+-- the row of a call
+abbrev pub call_row : Call → CallRow
+call_row call = row_of (parts_of call).kind
+
 -- the code of each kind
 abbrev pub code_of : CallKind → ℕ
-code_of Get = 1
-code_of Set = 2
-code_of Add = 3
-code_of Replace = 4
-code_of Append = 5
-code_of Prepend = 6
-code_of Cas = 7
-code_of Incr = 8
-code_of Decr = 9
-code_of Delete = 10
-code_of Flush = 11
-code_of Tally = 12
-
--- the kind that has a code, 1 to 12
-abbrev pub kind_of : ℕ → CallKind
-kind_of code =
-    if code == 1 then Get else if code == 2 then Set else if code == 3 then Add else if code == 4 then Replace
-    else if code == 5 then Append else if code == 6 then Prepend else if code == 7 then Cas else if code == 8 then Incr
-    else if code == 9 then Decr else if code == 10 then Delete else if code == 11 then Flush else Tally
-
--- a key, flags, a number and a value, or some of these
-abbrev pub having : Bool → Bool → Bool → Bool → CallFields
-having key flags number value = record { key = key; flags = flags; number = number; value = value }
+code_of kind = (row_of kind).code
 
 -- the fields of each kind
 abbrev pub fields_of : CallKind → CallFields
-fields_of Get = having true false false false
-fields_of Set = having true true false true
-fields_of Add = having true true false true
-fields_of Replace = having true true false true
-fields_of Append = having true false false true
-fields_of Prepend = having true false false true
-fields_of Cas = having true true true true
-fields_of Incr = having true false true false
-fields_of Decr = having true false true false
-fields_of Delete = having true false false false
-fields_of Flush = having false false false false
-fields_of Tally = having false false false false
-
--- the call of a kind, with its fields
-abbrev pub call_of : CallKind → List ℕ → ℕ → ℕ → List ℕ → Call
-call_of Get key flags number value = Calls.Get key
-call_of Set key flags number value = Calls.Set key flags value
-call_of Add key flags number value = Calls.Add key flags value
-call_of Replace key flags number value = Calls.Replace key flags value
-call_of Append key flags number value = Calls.Append key value
-call_of Prepend key flags number value = Calls.Prepend key value
-call_of Cas key flags number value = Calls.Cas flags key number value
-call_of Incr key flags number value = Calls.Incr key number
-call_of Decr key flags number value = Calls.Decr key number
-call_of Delete key flags number value = Calls.Delete key
-call_of Flush key flags number value = Calls.Flush
-call_of Tally key flags number value = Calls.Tally
+fields_of kind = (row_of kind).fields
 
 -- the kind of a call
 abbrev pub call_kind : Call → CallKind
-call_kind (Calls.Get key) = Get
-call_kind (Calls.Set key flags value) = Set
-call_kind (Calls.Add key flags value) = Add
-call_kind (Calls.Replace key flags value) = Replace
-call_kind (Calls.Append key value) = Append
-call_kind (Calls.Prepend key value) = Prepend
-call_kind (Calls.Cas flags key unique value) = Cas
-call_kind (Calls.Incr key amount) = Incr
-call_kind (Calls.Decr key amount) = Decr
-call_kind (Calls.Delete key) = Delete
-call_kind Calls.Flush = Flush
-call_kind Calls.Tally = Tally
+call_kind call = (parts_of call).kind
 
 -- the code of a call
 abbrev pub call_code : Call → ℕ
@@ -89,32 +34,15 @@ call_code call = code_of (call_kind call)
 
 -- the flags of a call, where it has some
 abbrev pub call_flags : Call → Option ℕ
-call_flags (Calls.Set key flags value) = Some flags
-call_flags (Calls.Add key flags value) = Some flags
-call_flags (Calls.Replace key flags value) = Some flags
-call_flags (Calls.Cas flags key unique value) = Some flags
-call_flags call = None
+call_flags call = (parts_of call).flags
 
 -- the unique of a cas, and the amount of an incr or a decr
 abbrev pub call_number : Call → Option ℕ
-call_number (Calls.Cas flags key unique value) = Some unique
-call_number (Calls.Incr key amount) = Some amount
-call_number (Calls.Decr key amount) = Some amount
-call_number call = None
+call_number call = (parts_of call).number
 
 -- the value of a call, where it has one
 abbrev pub call_value : Call → Option (List ℕ)
-call_value (Calls.Set key flags value) = Some value
-call_value (Calls.Add key flags value) = Some value
-call_value (Calls.Replace key flags value) = Some value
-call_value (Calls.Append key value) = Some value
-call_value (Calls.Prepend key value) = Some value
-call_value (Calls.Cas flags key unique value) = Some value
-call_value call = None
-
--- the greatest code of a call
-abbrev pub last_call_code : ℕ
-last_call_code = 12
+call_value call = (parts_of call).value
 
 -- ---- replies
 

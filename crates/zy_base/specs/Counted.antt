@@ -1,43 +1,61 @@
 -- What is counted of the calls on one shard, from its entries alone: memcached's protocol.txt, "General-purpose
 -- statistics", has the five numbers as cmd_get, cmd_set, get_hits, get_misses and curr_items.
-use Rattle.std.specs.Prelude.{ℕ, ◌+◌, Bool, true, false, if◌then◌else◌, List, fold, count_by, Option, Some, ⊤}
+use Rattle.std.specs.Prelude.{ℕ, ◌+◌, ◌&&◌, Bool, true, false, if◌then◌else◌, List, fold, count_by, Option, Some, ⊤}
 use Rattle.std.specs.Ordering.{nat_cmp}
 use Rattle.std.specs.Cmp.Lexicographic.{slice_cmp}
 use Rattle.std.specs.FinMap.{FinMap, empty, insert, remove, len}
 use Rattle.zy_base.specs.declared.call.Call.{Call}
-use Rattle.zy_base.specs.declared.call.Call.TheVariants.{Get, Set, Add, Replace, Append, Prepend, Cas, Flush}
 use Rattle.zy_base.specs.declared.call_reply.CallReply.{CallReply}
 use Rattle.zy_base.specs.declared.call_reply.CallReply.TheVariants.{Miss, Hit, Stored, Deleted, Number}
 use Rattle.zy_base.specs.declared.entry.Entry.{Entry}
 use Rattle.zy_base.specs.declared.tallied.Tallied.{Tallied}
+use Rattle.zy_base.specs.declared.call_kind.CountedAs.{CountedAs}
+use Rattle.zy_base.specs.declared.call_kind.CountedAs.TheVariants.{AsGet, AsSet}
+use Rattle.zy_base.specs.Table.{Acts, always, clears}
+use Rattle.zy_base.specs.Code.{call_row}
 use Rattle.zy_base.specs.Call.{key_of}
 
 -- ---- one call
 
+-- what a call is counted as
+abbrev pub counted_as : Call → CountedAs
+counted_as call = (call_row call).counted
+
+-- it is counted as a get
+abbrev pub is_as_get : CountedAs → Bool
+is_as_get AsGet = true
+is_as_get other = false
+
+-- it is counted as a call that stores
+abbrev pub is_as_set : CountedAs → Bool
+is_as_set AsSet = true
+is_as_set other = false
+
 -- the call gets the item of a key
 abbrev pub is_get : Call → Bool
-is_get (Get key) = true
-is_get call = false
+is_get call = is_as_get (counted_as call)
 
 -- the call stores a value, where its shard lets it
 abbrev pub is_set : Call → Bool
-is_set (Set key flags value) = true
-is_set (Add key flags value) = true
-is_set (Replace key flags value) = true
-is_set (Append key value) = true
-is_set (Prepend key value) = true
-is_set (Cas flags key unique value) = true
-is_set call = false
+is_set call = is_as_set (counted_as call)
+
+-- the reply is an item
+abbrev pub is_item : CallReply → Bool
+is_item (Hit flags unique value) = true
+is_item reply = false
+
+-- the reply is that there is no item
+abbrev pub is_no_item : CallReply → Bool
+is_no_item Miss = true
+is_no_item reply = false
 
 -- the call is a get, and found an item
 abbrev pub is_hit : Call → CallReply → Bool
-is_hit (Get key) (Hit flags unique value) = true
-is_hit call reply = false
+is_hit call reply = is_get call && is_item reply
 
 -- the call is a get, and found none
 abbrev pub is_miss : Call → CallReply → Bool
-is_miss (Get key) Miss = true
-is_miss call reply = false
+is_miss call reply = is_get call && is_no_item reply
 
 -- ---- the keys of the items
 
@@ -57,10 +75,14 @@ keys_by (Some key) (Number number) keys = insert keys key tt
 keys_by (Some key) Deleted keys = remove keys key
 keys_by key reply keys = keys
 
+-- the keys after what a call did, by its key and its reply: to remove all items leaves none
+abbrev pub keys_past : Acts → Option (List ℕ) → CallReply → KeySet → KeySet
+keys_past (always clears) key reply keys = no_keys
+keys_past acts key reply keys = keys_by key reply keys
+
 -- the keys after an entry: a flush leaves none
 abbrev pub keys_with : KeySet → Call → CallReply → KeySet
-keys_with keys Flush reply = no_keys
-keys_with keys call reply = keys_by (key_of call) reply keys
+keys_with keys call reply = keys_past (call_row call).acts (key_of call) reply keys
 
 -- the keys after these entries
 abbrev pub keys_after : KeySet → List Entry → KeySet

@@ -1,15 +1,10 @@
 -- Histories of calls: what each shard's replies replay, and what all shards' together.
-use Rattle.std.specs.Prelude.{◌≡◌, ℕ, ◌<◌, ◌==◌, if◌then◌else◌, List, [], ◌∷◌, length, ◌++◌}
+use Rattle.std.specs.Prelude.{◌≡◌, ℕ, ◌<◌, ◌==◌, if◌then◌else◌, List, [], ◌∷◌, length}
 use Rattle.zy_base.specs.declared.entry.Entry.{Entry}
-use Rattle.zy_base.specs.declared.call.Call.{Call}
-use Rattle.zy_base.specs.declared.call.Call.TheVariants.{Tally}
-use Rattle.zy_base.specs.declared.call_reply.CallReply.{CallReply}
-use Rattle.zy_base.specs.Code.{tally}
-use Rattle.zy_base.specs.Counted.{counted}
 use Rattle.zy_base.specs.Shard.{State, empty_state, reply_to, state_after}
 use Rattle.std.specs.List.{AllByRecursion}
 use Rattle.zy_base.specs.Bounds.{FitsEntry}
-use Rattle.zy_base.specs.Order.{AreAt, at_shard, StampsRise, AreStampsBelow, history_of}
+use Rattle.zy_base.specs.Order.{AreAt, StampsRise, AreStampsBelow, history_of}
 use Rattle.zy_base.specs.Limits.{stamp_limit}
 
 -- ---- one shard
@@ -54,19 +49,6 @@ IsLegalFrom shards states (e ∷ es) =
 -- the entries are those of one run of calls on `shards` shards, which are empty at first
 abbrev pub IsLegal : ℕ → List Entry → Type 0
 IsLegal shards es = IsLegalFrom shards (λ number. empty_state) es
-
--- what a shard answers to a call after these entries of it: to a tally, what is counted of them
-abbrev pub answer_after : ℕ → ℕ → List Entry → Call → CallReply
-answer_after shards number before Tally = tally (counted before)
-answer_after shards number before call = reply_to (replayed shards number empty_state before) call
-
--- each entry's shard is one of `shards` shards, and its reply is the one after the entries of this
--- shard that come before it
-abbrev pub AreAnswered : ℕ → List Entry → List Entry → Type 0
-AreAnswered shards before [] = Unit {0}
-AreAnswered shards before (e ∷ es) =
-    (e.shard < shards) × (e.reply ≡ answer_after shards e.shard (at_shard e.shard before) e.call)
-    × AreAnswered shards (before ++ e ∷ []) es
 
 -- the histories are those of `shards` shards
 pub record AreHistories (shards : ℕ) (histories : List (List Entry)) : Type 0 where

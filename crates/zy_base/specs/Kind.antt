@@ -1,43 +1,19 @@
 -- The kinds of reply that the table of calls gives for each call, whatever the shard has.
-use Rattle.std.specs.Prelude.{List, [], ◌∷◌}
+use Rattle.std.specs.Prelude.{Bool, true, false, List, [], ◌∷◌}
 use Rattle.zy_base.specs.declared.call.Call.{Call}
-use Rattle.zy_base.specs.declared.call.Call.TheVariants.{Get, Set, Add, Replace, Append, Prepend, Cas, Incr, Decr}
-use Rattle.zy_base.specs.declared.call.Call.TheVariants.{Delete, Flush, Tally}
 use Rattle.zy_base.specs.declared.call_reply.CallReply.{CallReply}
-use Rattle.zy_base.specs.declared.call_reply.CallReply.TheVariants.{Miss, Hit, Stored, NotStored, Exists, NotFound}
-use Rattle.zy_base.specs.declared.call_reply.CallReply.TheVariants.{Deleted, Number, NotNumber, TooLarge, Flushed}
-use Rattle.zy_base.specs.declared.call_reply.CallReply.TheVariants as Replies
 use Rattle.zy_base.specs.declared.entry.Entry.{Entry}
+use Rattle.zy_base.specs.Code.{call_row}
+use Rattle.zy_base.specs.Shard.{may_say}
+
+-- the test holds
+abbrev pub IsTrue : Bool → Type 0
+IsTrue true = Unit {0}
+IsTrue false = ⊥
 
 -- a call may get this reply
 abbrev pub MayAnswer : Call → CallReply → Type 0
-MayAnswer (Get key) Miss = Unit {0}
-MayAnswer (Get key) (Hit flags unique value) = Unit {0}
-MayAnswer (Set key flags value) Stored = Unit {0}
-MayAnswer (Add key flags value) Stored = Unit {0}
-MayAnswer (Add key flags value) NotStored = Unit {0}
-MayAnswer (Replace key flags value) Stored = Unit {0}
-MayAnswer (Replace key flags value) NotStored = Unit {0}
-MayAnswer (Append key value) Stored = Unit {0}
-MayAnswer (Append key value) NotStored = Unit {0}
-MayAnswer (Append key value) TooLarge = Unit {0}
-MayAnswer (Prepend key value) Stored = Unit {0}
-MayAnswer (Prepend key value) NotStored = Unit {0}
-MayAnswer (Prepend key value) TooLarge = Unit {0}
-MayAnswer (Cas flags key unique value) Stored = Unit {0}
-MayAnswer (Cas flags key unique value) Exists = Unit {0}
-MayAnswer (Cas flags key unique value) NotFound = Unit {0}
-MayAnswer (Incr key amount) (Number number) = Unit {0}
-MayAnswer (Incr key amount) NotNumber = Unit {0}
-MayAnswer (Incr key amount) NotFound = Unit {0}
-MayAnswer (Decr key amount) (Number number) = Unit {0}
-MayAnswer (Decr key amount) NotNumber = Unit {0}
-MayAnswer (Decr key amount) NotFound = Unit {0}
-MayAnswer (Delete key) Deleted = Unit {0}
-MayAnswer (Delete key) NotFound = Unit {0}
-MayAnswer Flush Flushed = Unit {0}
-MayAnswer Tally (Replies.Tally gets sets hits misses items) = Unit {0}
-MayAnswer call reply = ⊥
+MayAnswer call reply = IsTrue (may_say (call_row call).acts reply)
 
 -- each entry's call may get its reply
 abbrev pub AreAnswers : List Entry → Type 0

@@ -4,6 +4,7 @@ pub mod Memory
 pub mod Key
 pub mod Number
 pub mod Limits
+pub mod Table
 pub mod Call
 pub mod Counted
 pub mod Shard
@@ -16,5 +17,4 @@ pub mod Replies
 pub mod History
 pub mod Reserved
 pub mod Filling
-pub mod Worked
 pub mod Held

@@ -2,20 +2,20 @@
 -- "Retrieval command", "Deletion", "Increment/Decrement" and "General-purpose statistics". Uniques, the limit of a
 -- value and the form of counted values are this project's (docs/PROFILE.md).
 use Rattle.std.specs.Prelude.{ℕ, ◌+◌, ◌-◌, ◌*◌, ◌%◌, ◌^◌, ◌==◌, nat_lt, if◌then◌else◌, List, ◌++◌, length, decimal}
-use Rattle.std.specs.Prelude.{Option, None, Some}
+use Rattle.std.specs.Prelude.{Option, None, Some, Bool, true, false, ◌||◌}
 use Rattle.std.specs.Ordering.{nat_cmp}
 use Rattle.std.specs.Cmp.Lexicographic.{slice_cmp}
 use Rattle.std.specs.FinMap.{FinMap, empty, get, insert, remove, len}
 use Rattle.zy_base.specs.declared.item.Item.{Item}
 use Rattle.zy_base.specs.declared.call.Call.{Call}
-use Rattle.zy_base.specs.declared.call.Call.TheVariants.{Get, Set, Add, Replace, Append, Prepend, Cas, Incr, Decr}
-use Rattle.zy_base.specs.declared.call.Call.TheVariants.{Delete, Flush, Tally}
 use Rattle.zy_base.specs.declared.call_reply.CallReply.{CallReply}
 use Rattle.zy_base.specs.declared.tallied.Tallied.{Tallied}
 use Rattle.zy_base.specs.declared.call_reply.CallReply.TheVariants.{Miss, Hit, Stored, NotStored, Exists, NotFound}
-use Rattle.zy_base.specs.declared.call_reply.CallReply.TheVariants.{Deleted, Number, NotNumber, TooLarge, Flushed}
+use Rattle.zy_base.specs.declared.call_reply.CallReply.TheVariants.{Deleted, Number, NotNumber, TooLarge, Flushed, Tally}
+use Rattle.zy_base.specs.Table.{CallParts, parts_of, key_part, flags_part, number_part, value_part, Act, says, shows, puts, appends, prepends, exchanges, counts_up, counts_down, takes, clears, tallies}
+use Rattle.zy_base.specs.Table.{Acts, always, by_item}
 use Rattle.zy_base.specs.Call.{key_of}
-use Rattle.zy_base.specs.Code.{tally}
+use Rattle.zy_base.specs.Code.{tally, call_row, reply_code}
 use Rattle.zy_base.specs.Counted.{CallCounts, no_calls, calls_with}
 use Rattle.zy_base.specs.Number.{number_of}
 pub use Rattle.zy_base.specs.Limits.{value_limit}
@@ -50,7 +50,7 @@ tallied state = record {
 abbrev pub unique_of : ℕ → ℕ → ℕ → ℕ
 unique_of shards number count = shards * count + number
 
--- ---- the table of calls
+-- ---- what a call comes to
 
 -- what a call does to the items of its shard
 pub data Effect : Type 0 where
@@ -98,29 +98,77 @@ counted_down key item amount (Some number) = renumbered key item (number - amoun
 abbrev pub exchanged : List ℕ → Item → ℕ → ℕ → List ℕ → Outcome
 exchanged key item flags unique value = if item.unique == unique then stored key flags value else answers Exists
 
--- the table: each call, on a shard that counts this, where its key has no item and where it has one
+-- what an act answers and does, for a call with these parts, on a shard that counts this, where its key has no item or
+-- has this one
+abbrev pub done : Tallied → CallParts → Act → Option Item → Outcome
+done counts call (says reply) found = answers reply
+done counts call shows None = answers Miss
+done counts call shows (Some item) = answers (Hit item.flags item.unique item.value)
+done counts call puts found = stored (key_part call) (flags_part call) (value_part call)
+done counts call appends None = answers NotStored
+done counts call appends (Some item) = joined (key_part call) item (item.value ++ (value_part call))
+done counts call prepends None = answers NotStored
+done counts call prepends (Some item) = joined (key_part call) item ((value_part call) ++ item.value)
+done counts call exchanges None = answers NotFound
+done counts call exchanges (Some item) = exchanged (key_part call) item (flags_part call) (number_part call) (value_part call)
+done counts call counts_up None = answers NotFound
+done counts call counts_up (Some item) = counted_up (key_part call) item (number_part call) (number_of item.value)
+done counts call counts_down None = answers NotFound
+done counts call counts_down (Some item) = counted_down (key_part call) item (number_part call) (number_of item.value)
+done counts call takes None = answers NotFound
+done counts call takes (Some item) = record { reply = Deleted; effect = removes (key_part call) }
+done counts call clears found = record { reply = Flushed; effect = empties }
+done counts call tallies found = answers (tally counts)
+
+-- where the key has no item, this may be answered
+abbrev pub says_without : Act → CallReply → Bool
+says_without (says own) reply = reply_code own == reply_code reply
+says_without shows Miss = true
+says_without puts Stored = true
+says_without appends NotStored = true
+says_without prepends NotStored = true
+says_without exchanges NotFound = true
+says_without counts_up NotFound = true
+says_without counts_down NotFound = true
+says_without takes NotFound = true
+says_without clears Flushed = true
+says_without tallies (Tally gets sets hits misses items) = true
+says_without act reply = false
+
+-- where it has one, this may be answered
+abbrev pub says_with : Act → CallReply → Bool
+says_with (says own) reply = reply_code own == reply_code reply
+says_with shows (Hit flags unique value) = true
+says_with puts Stored = true
+says_with appends Stored = true
+says_with appends TooLarge = true
+says_with prepends Stored = true
+says_with prepends TooLarge = true
+says_with exchanges Stored = true
+says_with exchanges Exists = true
+says_with counts_up (Number number) = true
+says_with counts_up NotNumber = true
+says_with counts_down (Number number) = true
+says_with counts_down NotNumber = true
+says_with takes Deleted = true
+says_with clears Flushed = true
+says_with tallies (Tally gets sets hits misses items) = true
+says_with act reply = false
+
+-- what is done of these acts
+abbrev pub done_of : Tallied → CallParts → Acts → Option Item → Outcome
+done_of counts call (always act) found = done counts call act found
+done_of counts call (by_item without with) None = done counts call without None
+done_of counts call (by_item without with) (Some item) = done counts call with (Some item)
+
+-- a call of these acts may get this reply
+abbrev pub may_say : Acts → CallReply → Bool
+may_say (always act) reply = says_without act reply || says_with act reply
+may_say (by_item without with) reply = says_without without reply || says_with with reply
+
+-- each call, on a shard that counts this, where its key has no item and where it has one
 abbrev pub outcome_of : Tallied → Call → Option Item → Outcome
-outcome_of counts (Get key) None = answers Miss
-outcome_of counts (Get key) (Some item) = answers (Hit item.flags item.unique item.value)
-outcome_of counts (Set key flags value) found = stored key flags value
-outcome_of counts (Add key flags value) None = stored key flags value
-outcome_of counts (Add key flags value) (Some item) = answers NotStored
-outcome_of counts (Replace key flags value) None = answers NotStored
-outcome_of counts (Replace key flags value) (Some item) = stored key flags value
-outcome_of counts (Append key value) None = answers NotStored
-outcome_of counts (Append key value) (Some item) = joined key item (item.value ++ value)
-outcome_of counts (Prepend key value) None = answers NotStored
-outcome_of counts (Prepend key value) (Some item) = joined key item (value ++ item.value)
-outcome_of counts (Cas flags key unique value) None = answers NotFound
-outcome_of counts (Cas flags key unique value) (Some item) = exchanged key item flags unique value
-outcome_of counts (Incr key amount) None = answers NotFound
-outcome_of counts (Incr key amount) (Some item) = counted_up key item amount (number_of item.value)
-outcome_of counts (Decr key amount) None = answers NotFound
-outcome_of counts (Decr key amount) (Some item) = counted_down key item amount (number_of item.value)
-outcome_of counts (Delete key) None = answers NotFound
-outcome_of counts (Delete key) (Some item) = record { reply = Deleted; effect = removes key }
-outcome_of counts Flush found = record { reply = Flushed; effect = empties }
-outcome_of counts Tally found = answers (tally counts)
+outcome_of counts call found = done_of counts (parts_of call) (call_row call).acts found
 
 -- ---- the step
 

@@ -1,14 +1,16 @@
 -- Items, replies and entries without uniques, shards and stamps.
-use Rattle.std.specs.Prelude.{◌≡◌, ℕ, List, map, if◌then◌else◌, Option, None, Some}
+use Rattle.std.specs.Prelude.{◌≡◌, ◌&&◌, ℕ, Bool, true, false, List, map, if◌then◌else◌, Option, None, Some}
 use Rattle.std.specs.Ordering.{nat_cmp, eq_by_cmp}
 use Rattle.std.specs.Cmp.Lexicographic.{slice_cmp}
 use Rattle.std.specs.FinMap.{get}
 use Rattle.zy_base.specs.declared.item.Item.{Item}
 use Rattle.zy_base.specs.declared.call.Call.{Call}
-use Rattle.zy_base.specs.declared.call.Call.TheVariants.{Cas, Flush, Tally}
 use Rattle.zy_base.specs.declared.call_reply.CallReply.{CallReply}
 use Rattle.zy_base.specs.declared.call_reply.CallReply.TheVariants.{Hit}
 use Rattle.zy_base.specs.declared.entry.Entry.{Entry}
+use Rattle.zy_base.specs.Table.{Act, Acts, exchanges, clears, tallies, always, by_item}
+use Rattle.zy_base.specs.Code.{call_row}
+use Rattle.zy_base.specs.Kind.{IsTrue}
 use Rattle.zy_base.specs.Shard.{State, Effect, keeps, stores, removes, empties}
 
 -- ---- values
@@ -37,13 +39,22 @@ seen_at key state = seen (get state.items key)
 
 -- ---- calls and effects
 
+-- what is done depends on the key's item alone, and is at this key alone
+abbrev pub is_steady_act : Act → Bool
+is_steady_act exchanges = false
+is_steady_act clears = false
+is_steady_act tallies = false
+is_steady_act act = true
+
+-- so it is of these acts
+abbrev pub are_steady : Acts → Bool
+are_steady (always act) = is_steady_act act
+are_steady (by_item without with) = is_steady_act without && is_steady_act with
+
 -- the reply to the call depends on its key's item alone, and not on a unique, except for the unique that it
 -- shows, and its effect is at one key
 abbrev pub IsSteady : Call → Type 0
-IsSteady (Cas flags key unique value) = ⊥
-IsSteady Flush = ⊥
-IsSteady Tally = ⊥
-IsSteady call = Unit {0}
+IsSteady call = IsTrue (are_steady (call_row call).acts)
 
 -- the item at a key after an effect, without its unique, from that before it
 abbrev pub seen_after : Effect → List ℕ → Option Item → Option Item

@@ -77,16 +77,11 @@ impl Call {
         ensures value { option_copied result ≡ key_of self.now }
     {
         match self {
-            Call::Get { key } => Some(key),
-            Call::Set { key, .. } => Some(key),
-            Call::Add { key, .. } => Some(key),
-            Call::Replace { key, .. } => Some(key),
-            Call::Append { key, .. } => Some(key),
-            Call::Prepend { key, .. } => Some(key),
+            Call::Get { key } | Call::Delete { key } => Some(key),
+            Call::Set { key, .. } | Call::Add { key, .. } | Call::Replace { key, .. } => Some(key),
+            Call::Append { key, .. } | Call::Prepend { key, .. } => Some(key),
             Call::Cas { key, .. } => Some(key),
-            Call::Incr { key, .. } => Some(key),
-            Call::Decr { key, .. } => Some(key),
-            Call::Delete { key } => Some(key),
+            Call::Incr { key, .. } | Call::Decr { key, .. } => Some(key),
             Call::Flush | Call::Tally => None,
         }
     }

@@ -1,6 +1,7 @@
-//! The kinds of calls, with the code and the fields of each.
+//! The kinds of calls, with the code and the fields of each, and what it is counted as.
 ghost use Rattle.std.specs.Prelude.{◌≡◌};
-ghost use Rattle.zy_base.specs.Code.{kind_of, code_of, fields_of, having, call_of};
+ghost use Rattle.zy_base.specs.Table.{kind_of, row_of, having, call_of};
+ghost use Rattle.zy_base.specs.Code.{code_of, fields_of};
 
 use crate::blob::Blob;
 use crate::call::Call;
@@ -35,6 +36,22 @@ pub struct CallFields {
     pub value: bool,
 }
 
+/// What a call is counted as by its shard.
+#[derive(Clone, Copy)]
+pub enum CountedAs {
+    AsGet,
+    AsSet,
+    Uncounted,
+}
+
+// A kind's code, its fields, and what it is counted as.
+#[derive(Clone, Copy)]
+struct KindRow {
+    code: u8,
+    fields: CallFields,
+    counted: CountedAs,
+}
+
 impl CallKind {
     /// The kind that has this code, 1 to 12.
     pub fn of(code: u8) -> CallKind
@@ -56,38 +73,47 @@ impl CallKind {
         }
     }
 
+    // The row of the kind.
+    fn row(self) -> KindRow
+        ensures code { result.code ≡ (row_of self).code }
+        ensures fields { result.fields ≡ (row_of self).fields }
+        ensures counted { result.counted ≡ (row_of self).counted }
+    {
+        match self {
+            CallKind::Get => row(1, having(true, false, false, false), CountedAs::AsGet),
+            CallKind::Set => row(2, having(true, true, false, true), CountedAs::AsSet),
+            CallKind::Add => row(3, having(true, true, false, true), CountedAs::AsSet),
+            CallKind::Replace => row(4, having(true, true, false, true), CountedAs::AsSet),
+            CallKind::Append => row(5, having(true, false, false, true), CountedAs::AsSet),
+            CallKind::Prepend => row(6, having(true, false, false, true), CountedAs::AsSet),
+            CallKind::Cas => row(7, having(true, true, true, true), CountedAs::AsSet),
+            CallKind::Incr => row(8, having(true, false, true, false), CountedAs::Uncounted),
+            CallKind::Decr => row(9, having(true, false, true, false), CountedAs::Uncounted),
+            CallKind::Delete => row(10, having(true, false, false, false), CountedAs::Uncounted),
+            CallKind::Flush => row(11, having(false, false, false, false), CountedAs::Uncounted),
+            CallKind::Tally => row(12, having(false, false, false, false), CountedAs::Uncounted),
+        }
+    }
+
     /// The code of the kind.
     pub fn code(self) -> u8
         ensures value { result ≡ code_of self }
     {
-        match self {
-            CallKind::Get => 1,
-            CallKind::Set => 2,
-            CallKind::Add => 3,
-            CallKind::Replace => 4,
-            CallKind::Append => 5,
-            CallKind::Prepend => 6,
-            CallKind::Cas => 7,
-            CallKind::Incr => 8,
-            CallKind::Decr => 9,
-            CallKind::Delete => 10,
-            CallKind::Flush => 11,
-            CallKind::Tally => 12,
-        }
+        self.row().code
     }
 
     /// The fields of the kind.
     pub fn fields(self) -> CallFields
         ensures value { result ≡ fields_of self }
     {
-        match self {
-            CallKind::Get | CallKind::Delete => having(true, false, false, false),
-            CallKind::Set | CallKind::Add | CallKind::Replace => having(true, true, false, true),
-            CallKind::Append | CallKind::Prepend => having(true, false, false, true),
-            CallKind::Cas => having(true, true, true, true),
-            CallKind::Incr | CallKind::Decr => having(true, false, true, false),
-            CallKind::Flush | CallKind::Tally => having(false, false, false, false),
-        }
+        self.row().fields
+    }
+
+    /// What the kind is counted as.
+    pub fn counted(self) -> CountedAs
+        ensures value { result ≡ (row_of self).counted }
+    {
+        self.row().counted
     }
 
     /// The call of the kind with these fields, of which it takes those that it has.
@@ -135,6 +161,19 @@ impl CallKind {
                 Call::Tally
             }
         }
+    }
+}
+
+// These, as a row.
+fn row(code: u8, fields: CallFields, counted: CountedAs) -> KindRow
+    ensures code { result.code ≡ code }
+    ensures fields { result.fields ≡ fields }
+    ensures counted { result.counted ≡ counted }
+{
+    KindRow {
+        code,
+        fields,
+        counted,
     }
 }
 

@@ -3,6 +3,7 @@ ghost use Rattle.std.specs.Prelude.{◌≡◌};
 ghost use Rattle.zy_base.specs.Counted.{is_get, is_set, is_hit};
 
 use crate::call::Call;
+use crate::call_kind::CountedAs;
 use crate::call_reply::CallReply;
 
 impl Call {
@@ -10,27 +11,20 @@ impl Call {
     pub fn is_get(&self) -> bool
         ensures value { result ≡ is_get self.now }
     {
-        matches!(self, Call::Get { .. })
+        matches!(self.kind().counted(), CountedAs::AsGet)
     }
 
     /// Whether the call stores a value, where its shard lets it.
     pub fn is_set(&self) -> bool
         ensures value { result ≡ is_set self.now }
     {
-        match self {
-            Call::Set { .. } | Call::Add { .. } | Call::Replace { .. } => true,
-            Call::Append { .. } | Call::Prepend { .. } | Call::Cas { .. } => true,
-            _ => false,
-        }
+        matches!(self.kind().counted(), CountedAs::AsSet)
     }
 
     /// Whether the call is a get that found an item by this reply.
     pub fn is_hit(&self, reply: &CallReply) -> bool
         ensures value { result ≡ is_hit self.now reply.now }
     {
-        match self {
-            Call::Get { .. } => matches!(reply, CallReply::Hit { .. }),
-            _ => false,
-        }
+        self.is_get() && matches!(reply, CallReply::Hit { .. })
     }
 }

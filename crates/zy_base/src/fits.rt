@@ -1,5 +1,5 @@
 //! That numbers fit their types, for proofs: these functions do nothing.
-ghost use Rattle.std.specs.Prelude.{◌<◌, ◌^◌};
+ghost use Rattle.std.specs.Prelude.{◌<◌, ◌^◌, IfSome};
 ghost use Rattle.zy_base.specs.Bounds.{FitsCall, FitsReply};
 
 use crate::call::Call;
@@ -21,18 +21,25 @@ pub fn numbers_fit(tag: Tag, call: &Call, reply: &CallReply)
 fn call_fits(call: &Call)
     ensures value { FitsCall call.now }
 {
-    match call {
-        Call::Set { flags, .. } | Call::Add { flags, .. } | Call::Replace { flags, .. } => {
-            let _flags = *flags;
-        }
-        Call::Cas { flags, unique, .. } => {
-            let _flags = *flags;
-            let _unique = *unique;
-        }
-        Call::Incr { amount, .. } | Call::Decr { amount, .. } => {
-            let _amount = *amount;
-        }
-        _ => {}
+    flags_fit(call.flags());
+    number_fits(call.number());
+}
+
+// Flags, where there are some.
+fn flags_fit(flags: Option<u32>)
+    ensures value { IfSome flags (λ n. n < 2 ^ 32) }
+{
+    if let Some(flags) = flags {
+        let _flags = flags;
+    }
+}
+
+// A number, where there is one.
+fn number_fits(number: Option<u64>)
+    ensures value { IfSome number (λ n. n < 2 ^ 64) }
+{
+    if let Some(number) = number {
+        let _number = number;
     }
 }
 

@@ -16,7 +16,6 @@ mod hold;
 mod item;
 mod items;
 mod key;
-pub mod laws;
 mod limits;
 mod mem_sink;
 mod mem_source;

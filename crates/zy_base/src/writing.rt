@@ -4,7 +4,7 @@ ghost use Rattle.zy_base.specs.Outside.{Writes};
 
 use crate::outside::{Failed, Sink};
 
-/// Writes the whole piece, in as many writes as the sink needs. Takes no memory.
+/// Writes the whole piece, in one write or several. Takes no memory.
 pub fn write_whole<K: Sink>(sink: &mut K, piece: &[u8]) -> Result<(), Failed>
     ensures writes { Writes K.holds K.faults K.finishes sink.old sink.new result piece.now }
 {

@@ -74,7 +74,7 @@ pub record HasRead (kept : List Counting) (all left : List Entry) : Type 0 where
 pub none_read : (kept : List Counting) (all : List Entry) → kept ≡ [] → HasRead kept all all
 none_read kept all none = record { read = []; split = refl; counts = none_counted kept none }
 
--- so few entries can be counted, at each shard
+-- fewer entries than 2^64 can be counted, at each shard
 pub room_at : (kept : List Counting) (all left rest : List Entry) (e : Entry) → HasRead kept all left → left ≡ e ∷ rest → length all ≤ 2 ^ 64 - 1 → CanCount (kept_at kept e.shard)
 room_at kept all left rest e has is few =
     let size : length all ≡ length has.read + suc (length rest) = ap length (has.split ∙ ap (λ l. has.read ++ l) is) ∙ length-append has.read (e ∷ rest) in

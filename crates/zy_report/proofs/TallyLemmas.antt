@@ -101,7 +101,7 @@ module _ (old new : List (Bor (List ℕ))) (key : Bor (List ℕ)) (keys : KeySet
 few_of : (test : Entry → Bool) (es : List Entry) (count : ℕ) → count ≡ count_by test es → length es < 2 ^ 64 - 1 → count < 2 ^ 64 - 1
 few_of test es count is few = let most = count_by-le-length test es in omega (arith, is, few, most)
 
--- so few entries can be counted
+-- fewer entries than 2^64 - 1 can be counted
 pub has_room : (kept : Counting) (es : List Entry) → CountsEntries kept es → length es < 2 ^ 64 - 1 → CanCount kept
 has_room kept es are few = record {
   gets = few_of (λ (e : Entry). is_get e.call) es kept.calls.gets (ap (λ (c : CallCounts). c.gets) are.calls) few;

@@ -1,9 +1,8 @@
 //! What is counted of the entries of one shard.
-ghost use Rattle.std.specs.Prelude.{◌≡◌, ◌++◌, ◌∷◌, [], List, OnOk};
+ghost use Rattle.std.specs.Prelude.{◌≡◌, true, ◌++◌, ◌∷◌, [], List, OnOk};
 ghost use Rattle.zy_base.specs.declared.entry.Entry.{Entry};
 ghost use Rattle.std.specs.FinMap.{insert, remove};
-ghost use Rattle.zy_base.specs.declared.call.Call.TheVariants.{Get};
-ghost use Rattle.zy_base.specs.Counted.{KeySet, calls_with, keys_with, counted};
+ghost use Rattle.zy_base.specs.Counted.{KeySet, is_get, calls_with, keys_with, counted};
 ghost use Rattle.zy_report.specs.Tally.{CanCount, CountsEntries, AreKeysOf, calls_kept, none_kept};
 
 use mc_stats::Counts;
@@ -57,23 +56,19 @@ impl<'j> Tally<'j> {
         ensures calls { calls_kept self.new ≡ calls_with (calls_kept self.old) call.now reply.now }
         ensures keys { self.new.keys ≡ self.old.keys }
     {
-        match call {
-            Call::Get { .. } => self.count_get(reply),
-            Call::Set { .. }
-            | Call::Add { .. }
-            | Call::Replace { .. }
-            | Call::Append { .. }
-            | Call::Prepend { .. }
-            | Call::Cas { .. } => self.calls.stored(),
-            _ => {}
+        if call.is_get() {
+            self.count_get(call, reply);
+        } else if call.is_set() {
+            self.calls.stored();
         }
     }
 
     // Counts a get. The file of a journal may have one with another reply, which is neither a hit nor
     // a miss.
-    fn count_get(&mut self, reply: &CallReply)
+    fn count_get(&mut self, call: &Call, reply: &CallReply)
         requires room { CanCount self.old }
-        ensures calls { (key : _) → calls_kept self.new ≡ calls_with (calls_kept self.old) (Get key) reply.now }
+        requires get { is_get call.now ≡ true }
+        ensures calls { calls_kept self.new ≡ calls_with (calls_kept self.old) call.now reply.now }
         ensures keys { self.new.keys ≡ self.old.keys }
     {
         match reply {

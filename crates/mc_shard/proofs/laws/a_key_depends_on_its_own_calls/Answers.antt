@@ -1,8 +1,0 @@
-use Rattle.zy_base.specs.Shard.{empty_state}
-use Rattle.mc_shard.proofs.KeyLemmas.{replies_agree}
-use Rattle.mc_shard.proofs.laws.a_key_depends_on_its_own_calls.Goals as goal
-
-pub returns : goal.returns
-returns c = record {
-  alone = λ shards number shards' number' key calls calls' without without' same. replies_agree shards number shards' number' empty_state key calls calls' without without' same;
-}

@@ -1,5 +1,0 @@
-use Rattle.zy_base.proofs.ReplayLemmas.{counts_calls}
-use Rattle.mc_shard.proofs.laws.the_counter_counts_calls.Goals as goal
-
-pub returns : goal.returns
-returns c = record { count = counts_calls }

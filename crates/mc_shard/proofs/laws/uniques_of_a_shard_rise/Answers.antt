@@ -1,5 +1,0 @@
-use Rattle.mc_shard.proofs.UniqueLemmas.{uniques_rise_from_empty}
-use Rattle.mc_shard.proofs.laws.uniques_of_a_shard_rise.Goals as goal
-
-pub returns : goal.returns
-returns c = record { rise = λ shards number es legal. uniques_rise_from_empty shards number es legal }

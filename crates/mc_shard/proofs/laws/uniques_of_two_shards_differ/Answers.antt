@@ -1,9 +1,0 @@
-use Rattle.zy_base.specs.Shard.{empty_state}
-use Rattle.mc_shard.proofs.UniqueLemmas.{uniques_are_of, of_one_shard}
-use Rattle.mc_shard.proofs.laws.uniques_of_two_shards_differ.Goals as goal
-
-pub returns : goal.returns
-returns c = record {
-  differ = λ shards a b unique es legal of_a of_b. of_one_shard shards a b unique
-      (uniques_are_of shards a unique (λ _. empty_state) es legal of_a) (uniques_are_of shards b unique (λ _. empty_state) es legal of_b);
-}

@@ -1,0 +1,5 @@
+use Rattle.zy_base.proofs.ReplyLemmas.{replies_within}
+use Rattle.shard_laws.proofs.replies.replies_are_within_their_bounds.Goals as goal
+
+pub returns : goal.returns
+returns c = record { each = replies_within }

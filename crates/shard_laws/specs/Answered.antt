@@ -1,0 +1,24 @@
+-- Lists of entries whose replies are those of the entries before them.
+use Rattle.std.specs.Prelude.{◌≡◌, ℕ, ◌<◌, List, [], ◌∷◌, ◌++◌}
+use Rattle.zy_base.specs.declared.entry.Entry.{Entry}
+use Rattle.zy_base.specs.declared.call.Call.{Call}
+use Rattle.zy_base.specs.declared.call.Call.TheVariants.{Tally}
+use Rattle.zy_base.specs.declared.call_reply.CallReply.{CallReply}
+use Rattle.zy_base.specs.Code.{tally}
+use Rattle.zy_base.specs.Counted.{counted}
+use Rattle.zy_base.specs.Shard.{empty_state, reply_to}
+use Rattle.zy_base.specs.History.{replayed}
+use Rattle.zy_base.specs.Order.{at_shard}
+
+-- what a shard answers to a call after these entries of it: to a tally, what is counted of them
+abbrev pub answer_after : ℕ → ℕ → List Entry → Call → CallReply
+answer_after shards number before Tally = tally (counted before)
+answer_after shards number before call = reply_to (replayed shards number empty_state before) call
+
+-- each entry's shard is one of `shards` shards, and its reply is the one after the entries of this
+-- shard that come before it
+abbrev pub AreAnswered : ℕ → List Entry → List Entry → Type 0
+AreAnswered shards before [] = Unit {0}
+AreAnswered shards before (e ∷ es) =
+    (e.shard < shards) × (e.reply ≡ answer_after shards e.shard (at_shard e.shard before) e.call)
+    × AreAnswered shards (before ++ e ∷ []) es

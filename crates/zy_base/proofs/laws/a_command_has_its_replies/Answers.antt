@@ -1,6 +1,0 @@
-use Rattle.std.proofs.Common.{refl}
-use Rattle.zy_base.proofs.EntryLemmas.{replies_at-here, replies_at-other}
-use Rattle.zy_base.proofs.laws.a_command_has_its_replies.Goals as goal
-
-pub returns : goal.returns
-returns c = record { none = λ index. refl; here = replies_at-here; other = replies_at-other }

@@ -1,5 +1,0 @@
-use Rattle.zy_base.proofs.ReplayLemmas.{IsLegal-push, IsLegal-front, IsLegal-shard, IsLegal-reply}
-use Rattle.zy_base.proofs.laws.a_legal_list_grows_by_a_reply.Goals as goal
-
-pub returns : goal.returns
-returns c = record { more = IsLegal-push; front = IsLegal-front; within = IsLegal-shard; reply = IsLegal-reply }

@@ -1,5 +1,0 @@
-use Rattle.zy_base.proofs.MergeLemmas.{merge_keeps_calls}
-use Rattle.zy_base.proofs.laws.a_merge_keeps_the_calls_of_a_connection.Goals as goal
-
-pub returns : goal.returns
-returns c = record { calls = merge_keeps_calls }

@@ -1,5 +1,0 @@
-use Rattle.zy_base.proofs.MergeLemmas.{merge_is_legal, merge_is_below}
-use Rattle.zy_base.proofs.laws.a_merge_of_histories_is_legal.Goals as goal
-
-pub returns : goal.returns
-returns c = record { legal = merge_is_legal; limit = merge_is_below }

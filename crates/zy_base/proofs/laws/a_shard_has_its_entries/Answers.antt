@@ -1,6 +1,0 @@
-use Rattle.std.proofs.Common.{refl}
-use Rattle.zy_base.proofs.EntryLemmas.{at_shard-here, at_shard-other}
-use Rattle.zy_base.proofs.laws.a_shard_has_its_entries.Goals as goal
-
-pub returns : goal.returns
-returns c = record { none = λ shard. refl; here = at_shard-here; other = at_shard-other }
