@@ -1,5 +1,5 @@
 -- The buckets in which a shard has its items. No public clause cites this module.
-use Rattle.std.specs.Prelude.{◌≡◌, ◌≢◌, ◌⊎◌, ℕ, zero, suc, ◌/◌, ◌^◌, List, [], ◌∷◌, ◌++◌, length, Option, None, true, false, cond, ⊤}
+use Rattle.std.specs.Prelude.{◌≡◌, ◌≢◌, ◌⊎◌, ℕ, zero, suc, ◌/◌, ◌%◌, ◌^◌, List, [], ◌∷◌, ◌++◌, length, Option, None, true, false, cond, ⊤}
 use Rattle.std.specs.Map.{lookup}
 use Rattle.std.specs.BTreeMap.{is_at}
 use Rattle.zy_base.specs.declared.item.Item.{Item}
@@ -41,6 +41,18 @@ HaveOwnKeys at (bucket ∷ buckets) = HasOwnKeys at bucket × HaveOwnKeys (suc a
 pub record AreBuckets (buckets : List Keyed) : Type 0 where
   pub count : (buckets ≡ []) ⊎ (length buckets ≡ 256)
   pub own : HaveOwnKeys 0 buckets
+
+-- ---- tags
+
+-- the tag of a key: the second eight bits of its hash
+abbrev pub tag_of : List ℕ → ℕ
+tag_of key = hash_of key / 2 ^ 16 % 2 ^ 8
+
+-- the entries have the first tags, each that of its key
+abbrev pub AreTags : List ℕ → Keyed → Type 0
+AreTags tags [] = ⊤
+AreTags [] (entry ∷ entries) = ⊥
+AreTags (tag ∷ tags) (entry ∷ entries) = (tag ≡ tag_of entry.0) × AreTags tags entries
 
 -- ---- one bucket
 

@@ -5,7 +5,7 @@ ghost use Rattle.std.specs.Cmp.{partial_equiv_from_equiv, partial_order_from_tot
 ghost use Rattle.zy_base.specs.Call.{key_of};
 ghost use Rattle.zy_base.specs.Key.{hash_of};
 ghost use Rattle.mc_shard.specs.Contents.{hashed_cmp, hashed_total};
-ghost use Rattle.mc_shard.specs.Buckets.{bucket_of};
+ghost use Rattle.mc_shard.specs.Buckets.{bucket_of, tag_of};
 
 use std::cmp::Ordering;
 use std::marker::Model;
@@ -47,6 +47,13 @@ impl Hashed {
         ensures within { result < 256 }
     {
         (self.hash / 16_777_216) as usize
+    }
+
+    /// Its tag: the second eight bits of the hash.
+    pub fn tag(&self) -> u8
+        ensures value { result ≡ tag_of self.now }
+    {
+        (self.hash / 65_536 % 256) as u8
     }
 
     /// A copy of a key that has this hash.
