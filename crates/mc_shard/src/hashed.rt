@@ -89,6 +89,7 @@ impl PartialEq for Hashed {
 
     ghost laws = { partial_equiv_from_equiv (eq_by_cmp_equiv hashed_total) };
 
+    #[inline(always)]
     fn eq(&self, other: &Hashed) -> bool {
         self.hash == other.hash && self.key == other.key
     }

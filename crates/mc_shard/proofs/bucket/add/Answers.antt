@@ -1,4 +1,4 @@
-use Rattle.std.proofs.Common.{◌∙◌, ◌++◌}
+use Rattle.std.proofs.Common.{◌∙◌}
 use Rattle.std.specs.Prelude.{Some}
 use Rattle.mc_shard.proofs.RowLemmas.{row_longer, tree_changed}
 use Rattle.mc_shard.proofs.bucket.add.Goals as goal

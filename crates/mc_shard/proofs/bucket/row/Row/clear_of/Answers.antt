@@ -1,4 +1,4 @@
-use Rattle.std.proofs.Common.{ap, ◌∙◌, arith}
+use Rattle.std.proofs.Common.{ap, ◌∙◌}
 use Rattle.mc_shard.specs.Buckets.{Keyed, item_in}
 use Rattle.mc_shard.proofs.RowLemmas.{within_row, one_out, all_out}
 use Rattle.mc_shard.proofs.bucket.row.Row.clear_of.Goals as goal

@@ -1,4 +1,4 @@
-use Rattle.std.proofs.Common.{◌<◌, length, subst, sym, arith}
+use Rattle.std.proofs.Common.{subst, sym, arith}
 use Rattle.mc_shard.specs.Buckets.{Keyed, IsFirstAt}
 use Rattle.mc_shard.proofs.BucketLemmas.{got_at}
 use Rattle.mc_shard.proofs.RowLemmas.{within_row, item_got}

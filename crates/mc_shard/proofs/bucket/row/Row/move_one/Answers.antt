@@ -1,4 +1,4 @@
-use Rattle.std.proofs.Common.{ap, subst, sym, ◌∙◌, List, ℕ, ◌++◌}
+use Rattle.std.proofs.Common.{ap, subst, sym, ◌∙◌, ◌++◌}
 use Rattle.mc_shard.specs.Buckets.{Keyed, AreTags, item_in}
 use Rattle.mc_shard.proofs.RowLemmas.{entry_moved}
 use Rattle.mc_shard.proofs.TagLemmas.{tags_popped}

@@ -1,5 +1,5 @@
-use Rattle.std.proofs.Common.{◌<◌, List, ℕ, length, set, subst, sym, ◌∙◌, arith}
-use Rattle.mc_shard.specs.Buckets.{Keyed, AreTags}
+use Rattle.std.proofs.Common.{◌<◌, length, subst, sym, arith}
+use Rattle.mc_shard.specs.Buckets.{Keyed}
 use Rattle.mc_shard.proofs.TagLemmas.{tags_pushed}
 use Rattle.mc_shard.proofs.bucket.row.Row.push.Goals as goal
 

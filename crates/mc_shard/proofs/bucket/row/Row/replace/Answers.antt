@@ -1,9 +1,8 @@
 use Rattle.std.proofs.Common.{◌≡◌, ◌<◌, length, slice_get, ap, subst, sym, ◌∙◌}
 use Rattle.std.specs.Prelude.{Some}
-use Rattle.zy_base.specs.declared.item.Item.{Item}
-use Rattle.mc_shard.specs.Buckets.{Keyed, IsFirstAt, AreTags, IsWith}
+use Rattle.mc_shard.specs.Buckets.{Keyed}
 use Rattle.mc_shard.proofs.BucketLemmas.{got_at}
-use Rattle.mc_shard.proofs.RowLemmas.{Pair, item_got, item_put}
+use Rattle.mc_shard.proofs.RowLemmas.{item_got, item_put}
 use Rattle.mc_shard.proofs.TagLemmas.{tags_replaced}
 use Rattle.mc_shard.proofs.bucket.row.Row.replace.Goals as goal
 
