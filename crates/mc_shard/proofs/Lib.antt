@@ -1,7 +1,7 @@
 pub mod MapLemmas
 pub mod BucketLemmas
 pub mod RowLemmas
-pub mod TagLemmas
+pub mod FingerprintLemmas
 pub mod SoundLemmas
 pub mod UniqueLemmas
 pub mod KeyLemmas

@@ -42,17 +42,17 @@ pub record AreBuckets (buckets : List Keyed) : Type 0 where
   pub count : (buckets ≡ []) ⊎ (length buckets ≡ 256)
   pub own : HaveOwnKeys 0 buckets
 
--- ---- tags
+-- ---- fingerprints
 
--- the tag of a key: the second eight bits of its hash
-abbrev pub tag_of : List ℕ → ℕ
-tag_of key = hash_of key / 2 ^ 16 % 2 ^ 8
+-- the fingerprint of a key: the second eight bits of its hash
+abbrev pub fingerprint_of : List ℕ → ℕ
+fingerprint_of key = hash_of key / 2 ^ 16 % 2 ^ 8
 
--- the entries have the first tags, each that of its key
-abbrev pub AreTags : List ℕ → Keyed → Type 0
-AreTags tags [] = ⊤
-AreTags [] (entry ∷ entries) = ⊥
-AreTags (tag ∷ tags) (entry ∷ entries) = (tag ≡ tag_of entry.0) × AreTags tags entries
+-- the entries have the first fingerprints, each that of its key
+abbrev pub AreFingerprints : List ℕ → Keyed → Type 0
+AreFingerprints fingerprints [] = ⊤
+AreFingerprints [] (entry ∷ entries) = ⊥
+AreFingerprints (fingerprint ∷ fingerprints) (entry ∷ entries) = (fingerprint ≡ fingerprint_of entry.0) × AreFingerprints fingerprints entries
 
 -- ---- one bucket
 

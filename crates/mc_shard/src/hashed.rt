@@ -5,7 +5,7 @@ ghost use Rattle.std.specs.Cmp.{partial_equiv_from_equiv, partial_order_from_tot
 ghost use Rattle.zy_base.specs.Call.{key_of};
 ghost use Rattle.zy_base.specs.Key.{hash_of};
 ghost use Rattle.mc_shard.specs.Contents.{hashed_cmp, hashed_total};
-ghost use Rattle.mc_shard.specs.Buckets.{bucket_of, tag_of};
+ghost use Rattle.mc_shard.specs.Buckets.{bucket_of, fingerprint_of};
 
 use std::cmp::Ordering;
 use std::marker::Model;
@@ -49,9 +49,9 @@ impl Hashed {
         (self.hash / 16_777_216) as usize
     }
 
-    /// Its tag: the second eight bits of the hash.
-    pub fn tag(&self) -> u8
-        ensures value { result ≡ tag_of self.now }
+    /// Its fingerprint: the second eight bits of the hash.
+    pub fn fingerprint(&self) -> u8
+        ensures value { result ≡ fingerprint_of self.now }
     {
         (self.hash / 65_536 % 256) as u8
     }

@@ -1,5 +1,5 @@
-//! The first items of a bucket, in a row with tags.
-ghost use Rattle.std.specs.Prelude.{◌≡◌, ◌<◌, [], ◌∷◌, ◌++◌, List, ℕ, length, None, Some, IfSome, IfNone, OnOk, OnErr, option_copied, true};
+//! The first items of a bucket, in a row with fingerprints.
+ghost use Rattle.std.specs.Prelude.{◌≡◌, ◌↔◌, ◌<◌, [], ◌∷◌, ◌++◌, List, ℕ, length, None, Some, IfSome, IfNone, OnOk, OnErr, option_copied, true};
 ghost use Rattle.std.specs.List.{remove};
 ghost use Rattle.mc_shard.specs.Buckets.{item_in, IsFirstAt, IsWith, SameItems};
 
@@ -16,22 +16,22 @@ const FEW: usize = 16;
 /// Up to 16 items by their keys. Contracts see them as a list of keys with their items, where the first
 /// entry of a key counts.
 ///
-/// Each entry has a tag, which is eight bits of the hash of its key. The tags are together, so that a
-/// lookup reads them alone and then an entry with the tag that it looks for.
+/// Each entry has a fingerprint, eight bits of the hash of its key. The fingerprints are in one place,
+/// so that a lookup reads them and then the entries alone that have the one it looks for.
 #[derive(Drop)]
 pub(crate) struct Row {
-    tags: [u8; 16],
+    fingerprints: [u8; 16],
     entries: Vec<(Hashed, Item)>,
 }
 
 impl Model for Row {
-    ghost use Rattle.mc_shard.specs.Buckets.{Keyed, AreTags};
+    ghost use Rattle.mc_shard.specs.Buckets.{Keyed, AreFingerprints};
 
     ghost Value = { Keyed };
 
     ghost view = { λ r. r.entries.items };
 
-    ghost invariant = { λ r. AreTags r.tags r.entries.items };
+    ghost invariant = { λ r. AreFingerprints r.fingerprints r.entries.items };
 }
 
 impl Row {
@@ -40,14 +40,14 @@ impl Row {
         ensures value { result ≡ [] }
     {
         Row {
-            tags: [0; 16],
+            fingerprints: [0; 16],
             entries: Vec::new(alloc),
         }
     }
 
     /// Whether there is room for one more item.
     pub(crate) fn has_room(&self) -> bool
-        ensures value { result ≡ true → length self.now < 16 }
+        ensures value { (result ≡ true) ↔ (length self.now < 16) }
     {
         self.entries.len() < FEW
     }
@@ -58,10 +58,10 @@ impl Row {
         ensures some { IfSome result (IsFirstAt self.now key.now) }
         ensures none { IfNone result (item_in self.now key.now ≡ None) }
     {
-        let tag = key.tag();
-        let tags = self.tags.as_slice();
+        let fingerprint = key.fingerprint();
+        let fingerprints = self.fingerprints.as_slice();
         for at in 0..self.entries.len() {
-            if tags[at] == tag && *key == self.entries[at].0 {
+            if fingerprints[at] == fingerprint && *key == self.entries[at].0 {
                 return Some(at);
             }
         }
@@ -95,10 +95,10 @@ impl Row {
         ensures err { OnErr result (self.new ≡ self.old) }
     {
         let at = self.entries.len();
-        let tag = key.tag();
+        let fingerprint = key.fingerprint();
         match self.entries.push((key, item)) {
             Ok(()) => {
-                self.tags[at] = tag;
+                self.fingerprints[at] = fingerprint;
                 Ok(())
             }
             Err(back) => {
@@ -133,14 +133,14 @@ impl Row {
         }
     }
 
-    // Removes the entry at a place. The tags after it move down with their entries.
+    // Removes the entry at a place. Those after it move down with their fingerprints.
     fn take_out(&mut self, at: usize)
         requires within { at < length self.old }
         ensures value { self.new ≡ remove self.old at }
         ensures less { length self.new < length self.old }
     {
         drop(self.entries.remove(at));
-        self.tags.copy_within(at + 1.., at);
+        self.fingerprints.copy_within(at + 1.., at);
     }
 }
 

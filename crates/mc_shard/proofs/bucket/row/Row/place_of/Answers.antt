@@ -3,14 +3,14 @@ use Rattle.std.specs.Prelude.{Some}
 use Rattle.mc_shard.specs.Buckets.{Keyed, NoneBefore}
 use Rattle.mc_shard.proofs.BucketLemmas.{got_at}
 use Rattle.mc_shard.proofs.RowLemmas.{before_next, first_found, none_found}
-use Rattle.mc_shard.proofs.TagLemmas.{tags_cover, tag_differs}
+use Rattle.mc_shard.proofs.FingerprintLemmas.{prints_cover, print_differs}
 use Rattle.mc_shard.proofs.bucket.row.Row.place_of.Goals as goal
-use Rattle.mc_shard.proofs.bucket.row.Row.place_of.Goals.{else-tags-at-via-then-tags-at+else-eq, else-tags-at-via-else-tags-at}
+use Rattle.mc_shard.proofs.bucket.row.Row.place_of.Goals.{else-fingerprints-at-via-then-fingerprints-at+else-eq, else-fingerprints-at-via-else-fingerprints-at}
 
-pub bounds-tags-at : goal.bounds-tags-at
-bounds-tags-at c =
-    let cover = tags_cover c.self.inside.tags c.self.inside.entries.items c.self.invariant in
-    rw (c.as_slice-tags.ensures) (omega (arith, c.loop-at-test.true, c.len-at-end.ensures, c.self.inside.entries.ok.0, cover))
+pub bounds-fingerprints-at : goal.bounds-fingerprints-at
+bounds-fingerprints-at c =
+    let cover = prints_cover c.self.inside.fingerprints c.self.inside.entries.items c.self.invariant in
+    rw (c.as_slice-fingerprints.ensures) (omega (arith, c.loop-at-test.true, c.len-at-end.ensures, c.self.inside.entries.ok.0, cover))
 
 pub returns-then-eq-clause-some : goal.returns-then-eq-clause-some
 returns-then-eq-clause-some c =
@@ -26,11 +26,11 @@ loop-at-preserved c =
     let within : c.loop-at.at < length row = omega (arith, c.loop-at-test.true, c.len-at-end.ensures, c.self.inside.entries.ok.0) in
     let none = subst (λ (entries : Keyed). NoneBefore entries c.args.key.now c.loop-at.at) (sym c.self.view_is) c.loop-at.invariant.none in
     rw (← c.self.view_is) (record {
-      none = elim c.else-tags-at.branch [
-        | else-tags-at-via-then-tags-at+else-eq w ↦ before_next row c.args.key.now c.loop-at.at w.index.result.now none
+      none = elim c.else-fingerprints-at.branch [
+        | else-fingerprints-at-via-then-fingerprints-at+else-eq w ↦ before_next row c.args.key.now c.loop-at.at w.index.result.now none
             (got_at row c.loop-at.at w.index.result.now within w.index.ensures) (sym w.eq.ensures ∙ w.if-eq.false)
-        | else-tags-at-via-else-tags-at w ↦ tag_differs c.self.inside.tags row c.args.key.now c.loop-at.at 0 c.self.invariant
-            (λ same. w.if-tags-at.false (ap (λ (tags : List ℕ). get_or tags c.loop-at.at 0) c.as_slice-tags.ensures ∙ same ∙ sym c.tag-tag.ensures.value)) none
+        | else-fingerprints-at-via-else-fingerprints-at w ↦ print_differs c.self.inside.fingerprints row c.args.key.now c.loop-at.at 0 c.self.invariant
+            (λ same. w.if-fingerprints-at.false (ap (λ (prints : List ℕ). get_or prints c.loop-at.at 0) c.as_slice-fingerprints.ensures ∙ same ∙ sym c.fingerprint-fingerprint.ensures.value)) none
       ];
       within = omega (arith, within);
     })

@@ -3,7 +3,7 @@ use Rattle.std.specs.Prelude.{Some}
 use Rattle.mc_shard.specs.Buckets.{Keyed}
 use Rattle.mc_shard.proofs.BucketLemmas.{got_at}
 use Rattle.mc_shard.proofs.RowLemmas.{item_got, item_put}
-use Rattle.mc_shard.proofs.TagLemmas.{tags_replaced}
+use Rattle.mc_shard.proofs.FingerprintLemmas.{prints_replaced}
 use Rattle.mc_shard.proofs.bucket.row.Row.replace.Goals as goal
 
 there : (c : goal.After-self-1) → slice_get c.self.inside.entries.items c.args.at ≡ Some c.index_mut.result.now
@@ -13,7 +13,7 @@ there c =
 
 pub invariant_of-self : goal.invariant_of-self
 invariant_of-self c =
-    tags_replaced c.self.inside.tags c.self.inside.entries.items c.args.at c.index_mut.result.now c.replace.new.dest c.self.invariant (there c)
+    prints_replaced c.self.inside.fingerprints c.self.inside.entries.items c.args.at c.index_mut.result.now c.replace.new.dest c.self.invariant (there c)
 
 pub returns-clause-old : goal.returns-clause-old
 returns-clause-old c =

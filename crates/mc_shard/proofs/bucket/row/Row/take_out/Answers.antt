@@ -1,12 +1,12 @@
 use Rattle.std.proofs.Common.{◌<◌, ◌≤◌, ◌+◌, length, subst, sym, arith}
 use Rattle.mc_shard.specs.Buckets.{Keyed}
-use Rattle.mc_shard.proofs.TagLemmas.{tags_cover, tags_closed}
+use Rattle.mc_shard.proofs.FingerprintLemmas.{prints_cover, prints_closed}
 use Rattle.mc_shard.proofs.bucket.row.Row.take_out.Goals as goal
 
-within : (c : goal.After-copy_within-arg-1) → c.args.at + 1 ≤ length c.self.inside.tags
+within : (c : goal.After-copy_within-arg-1) → c.args.at + 1 ≤ length c.self.inside.fingerprints
 within c =
     let below : c.args.at < length c.self.inside.entries.items = subst (λ (row : Keyed). c.args.at < length row) (sym c.self.view_is) c.requires.within in
-    let cover = tags_cover c.self.inside.tags c.self.inside.entries.items c.self.invariant in
+    let cover = prints_cover c.self.inside.fingerprints c.self.inside.entries.items c.self.invariant in
     omega (arith, below, cover)
 
 pub copy_within-requires-clause-start_le_end : goal.copy_within-requires-clause-start_le_end
@@ -17,4 +17,4 @@ copy_within-requires-clause-dest_in_bounds c = let here = within c in omega (ari
 
 pub invariant_of-self : goal.invariant_of-self
 invariant_of-self c =
-    rw (c.copy_within.ensures.after, c.remove.ensures.items) (tags_closed c.self.inside.tags c.self.inside.entries.items c.args.at c.self.invariant)
+    rw (c.copy_within.ensures.after, c.remove.ensures.items) (prints_closed c.self.inside.fingerprints c.self.inside.entries.items c.args.at c.self.invariant)
