@@ -122,20 +122,20 @@ entries_same [] n bucket bucket' is same = cc
 entries_same (t ∷ buckets) zero bucket bucket' is same = ap (λ es. es ++ entries_among buckets) (same ∙ sym (same_Some t bucket is))
 entries_same (t ∷ buckets) (suc n) bucket bucket' is same = ap (λ es. t ++ es) (entries_same buckets n bucket bucket' is same)
 
--- keys of two buckets differ
-apart_by : (key q : List ℕ) (found : Bool) → found ≡ is_at (hashed_cmp key) q → bucket_of q ≢ bucket_of key → found ≡ false
-apart_by key q true is differ = absurd (differ (ap bucket_of (sym (same_at key q (sym is)))))
-apart_by key q false is differ = refl
+-- keys with two numbers of a kind differ
+apart_by : (number : List ℕ → ℕ) (key q : List ℕ) (found : Bool) → found ≡ is_at (hashed_cmp key) q → number q ≢ number key → found ≡ false
+apart_by number key q true is differ = absurd (differ (ap number (sym (same_at key q (sym is)))))
+apart_by number key q false is differ = refl
 
-apart : (key q : List ℕ) → bucket_of q ≢ bucket_of key → is_at (hashed_cmp key) q ≡ false
-apart key q differ = apart_by key q (is_at (hashed_cmp key) q) refl differ
+pub apart : (number : List ℕ → ℕ) (key q : List ℕ) → number q ≢ number key → is_at (hashed_cmp key) q ≡ false
+apart number key q differ = apart_by number key q (is_at (hashed_cmp key) q) refl differ
 
 -- the bucket of a key was changed at that key
 module _ (buckets : List Keyed) (key : List ℕ) (bucket bucket' : Keyed) (item : Option Item) (are : AreBuckets buckets) (there : slice_get buckets (bucket_of key) ≡ Some bucket)
     (changed : (q : List ℕ) → item_in bucket' q ≡ cond (is_at (hashed_cmp key) q) item (item_in bucket q)) where
   own_changed : HasOwnKeys (bucket_of key) bucket'
   own_changed q differ =
-      changed q ∙ ap (λ b. cond b item (item_in bucket q)) (apart key q differ) ∙ own_there buckets (bucket_of key) bucket are.own there q differ
+      changed q ∙ ap (λ b. cond b item (item_in bucket q)) (apart bucket_of key q differ) ∙ own_there buckets (bucket_of key) bucket are.own there q differ
 
   pub are_changed : AreBuckets (set buckets (bucket_of key) bucket')
   are_changed = record {
@@ -152,7 +152,7 @@ module _ (buckets : List Keyed) (key : List ℕ) (bucket bucket' : Keyed) (item 
       ∙ ap (λ es. cond (is_at (hashed_cmp key) q) item (item_in es q)) (sym (entries_some buckets (bucket_of key) bucket there) ∙ ap (entries_at buckets) (sym same))
   at_changed q (inr differ) =
       ap (λ es. item_in es q) (set_other buckets (bucket_of key) (bucket_of q) bucket' differ)
-      ∙ ap (λ b. cond b item (item_in (entries_at buckets (bucket_of q)) q)) (sym (apart key q differ))
+      ∙ ap (λ b. cond b item (item_in (entries_at buckets (bucket_of q)) q)) (sym (apart bucket_of key q differ))
 
   among_changed : (q : List ℕ) → item_in (entries_among (set buckets (bucket_of key) bucket')) q ≡ cond (is_at (hashed_cmp key) q) item (item_in (entries_among buckets) q)
   among_changed q =

@@ -1,5 +1,6 @@
 pub mod MapLemmas
 pub mod BucketLemmas
 pub mod RowLemmas
+pub mod FingerprintLemmas
 pub mod SoundLemmas
 pub mod CountLemmas

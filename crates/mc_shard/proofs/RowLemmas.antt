@@ -63,28 +63,28 @@ within_row [] key at first = absurd first
 within_row (y ∷ row) key zero first = omega arith
 within_row (y ∷ row) key (suc at) first = let rest = within_row row key at first.1 in omega (arith, rest)
 
-pub item_got : (row tree : Keyed) (key : List ℕ) (at : ℕ) (x : Pair) → IsFirstAt row key at → slice_get row at ≡ Some x → item_in (row ++ tree) key ≡ Some x.1
-item_got [] tree key at x first is = absurd first
-item_got (y ∷ row) tree key zero x first is =
-    ap (λ b. cond b (Some y.1) (item_in (row ++ tree) key)) first ∙ ap (λ (p : Pair). Some p.1) (same_Some y x is)
-item_got (y ∷ row) tree key (suc at) x first is =
-    ap (λ b. cond b (Some y.1) (item_in (row ++ tree) key)) first.0 ∙ item_got row tree key at x first.1 is
+pub item_got : (row : Keyed) (key : List ℕ) (at : ℕ) (x : Pair) → IsFirstAt row key at → slice_get row at ≡ Some x → item_in row key ≡ Some x.1
+item_got [] key at x first is = absurd first
+item_got (y ∷ row) key zero x first is =
+    ap (λ b. cond b (Some y.1) (item_in row key)) first ∙ ap (λ (p : Pair). Some p.1) (same_Some y x is)
+item_got (y ∷ row) key (suc at) x first is =
+    ap (λ b. cond b (Some y.1) (item_in row key)) first.0 ∙ item_got row key at x first.1 is
 
 -- another item takes the place of one in the row
-pub item_put : (row tree : Keyed) (key : List ℕ) (at : ℕ) (x : Pair) (item : Item) → IsFirstAt row key at → slice_get row at ≡ Some x
-    → IsWith (row ++ tree) key (Some item) (set row at (x.0, item) ++ tree)
-item_put [] tree key at x item first is q = absurd first
-item_put (y ∷ row) tree key zero x item first is q =
+pub item_put : (row : Keyed) (key : List ℕ) (at : ℕ) (x : Pair) (item : Item) → IsFirstAt row key at → slice_get row at ≡ Some x
+    → IsWith row key (Some item) (set row at (x.0, item))
+item_put [] key at x item first is q = absurd first
+item_put (y ∷ row) key zero x item first is q =
     let same : key ≡ y.0 = same_at key y.0 first in
     let key_is : x.0 ≡ key = ap (λ (p : Pair). p.0) (sym (same_Some y x is)) ∙ sym same in
-    let rest = item_in (row ++ tree) q in
+    let rest = item_in row q in
     ap (λ (k : List ℕ). cond (is_at (hashed_cmp q) k) (Some item) rest) key_is
     ∙ twice (is_at (hashed_cmp q) key) (Some item) (Some y.1) rest
     ∙ ap (λ (k : List ℕ). cond (is_at (hashed_cmp q) key) (Some item) (cond (is_at (hashed_cmp q) k) (Some y.1) rest)) same
     ∙ ap (λ b. cond b (Some item) (cond (is_at (hashed_cmp q) y.0) (Some y.1) rest)) (both_ways key q)
-item_put (y ∷ row) tree key (suc at) x item first is q =
-    ap (λ o. cond (is_at (hashed_cmp q) y.0) (Some y.1) o) (item_put row tree key at x item first.1 is q)
-    ∙ swap (is_at (hashed_cmp key) q) (is_at (hashed_cmp q) y.0) (Some item) (Some y.1) (item_in (row ++ tree) q) (not_both key q y.0 (is_at (hashed_cmp q) y.0) first.0 refl)
+item_put (y ∷ row) key (suc at) x item first is q =
+    ap (λ o. cond (is_at (hashed_cmp q) y.0) (Some y.1) o) (item_put row key at x item first.1 is q)
+    ∙ swap (is_at (hashed_cmp key) q) (is_at (hashed_cmp q) y.0) (Some item) (Some y.1) (item_in row q) (not_both key q y.0 (is_at (hashed_cmp q) y.0) first.0 refl)
 
 -- ---- an item after the row
 
@@ -105,6 +105,21 @@ tree_changed row tree tree' key item none changed q =
     ∙ ap (first_of (item_in row q)) (changed q)
     ∙ changed_by (is_at (hashed_cmp key) q) (item_in row q) (item_in tree q) item (none_at row key q none)
     ∙ ap (λ o. cond (is_at (hashed_cmp key) q) item o) (sym (joined row tree q))
+
+put_by : (b : Bool) (one two : Option Item) (item : Item) → first_of (cond b (Some item) one) two ≡ cond b (Some item) (first_of one two)
+put_by true one two item = refl
+put_by false one two item = refl
+
+-- the row gets an item at a key
+pub row_changed : (row row' tree : Keyed) (key : List ℕ) (item : Item) → IsWith row key (Some item) row' → IsWith (row ++ tree) key (Some item) (row' ++ tree)
+row_changed row row' tree key item changed q =
+    joined row' tree q
+    ∙ ap (λ o. first_of o (item_in tree q)) (changed q)
+    ∙ put_by (is_at (hashed_cmp key) q) (item_in row q) (item_in tree q) item
+    ∙ ap (λ o. cond (is_at (hashed_cmp key) q) (Some item) o) (sym (joined row tree q))
+
+pub item_before : (row tree : Keyed) (key : List ℕ) (item : Item) → item_in row key ≡ Some item → item_in (row ++ tree) key ≡ Some item
+item_before row tree key item is = joined row tree key ∙ ap (λ o. first_of o (item_in tree key)) is
 
 pub item_after : (row tree : Keyed) (key : List ℕ) → item_in row key ≡ None → item_in (row ++ tree) key ≡ item_in tree key
 item_after row tree key none = joined row tree key ∙ ap (λ o. first_of o (item_in tree key)) none

@@ -1,5 +1,5 @@
 -- The buckets in which a shard has its items. No public clause cites this module.
-use Rattle.std.specs.Prelude.{◌≡◌, ◌≢◌, ◌⊎◌, ℕ, zero, suc, ◌/◌, ◌^◌, List, [], ◌∷◌, ◌++◌, length, Option, None, true, false, cond, ⊤}
+use Rattle.std.specs.Prelude.{◌≡◌, ◌≢◌, ◌⊎◌, ℕ, zero, suc, ◌/◌, ◌%◌, ◌^◌, List, [], ◌∷◌, ◌++◌, length, Option, None, true, false, cond, ⊤}
 use Rattle.std.specs.Map.{lookup}
 use Rattle.std.specs.BTreeMap.{is_at}
 use Rattle.zy_base.specs.declared.item.Item.{Item}
@@ -41,6 +41,18 @@ HaveOwnKeys at (bucket ∷ buckets) = HasOwnKeys at bucket × HaveOwnKeys (suc a
 pub record AreBuckets (buckets : List Keyed) : Type 0 where
   pub count : (buckets ≡ []) ⊎ (length buckets ≡ 256)
   pub own : HaveOwnKeys 0 buckets
+
+-- ---- fingerprints
+
+-- the fingerprint of a key: the second eight bits of its hash
+abbrev pub fingerprint_of : List ℕ → ℕ
+fingerprint_of key = hash_of key / 2 ^ 16 % 2 ^ 8
+
+-- the entries have the first fingerprints, each that of its key
+abbrev pub AreFingerprints : List ℕ → Keyed → Type 0
+AreFingerprints fingerprints [] = ⊤
+AreFingerprints [] (entry ∷ entries) = ⊥
+AreFingerprints (fingerprint ∷ fingerprints) (entry ∷ entries) = (fingerprint ≡ fingerprint_of entry.0) × AreFingerprints fingerprints entries
 
 -- ---- one bucket
 

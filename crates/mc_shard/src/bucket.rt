@@ -1,17 +1,15 @@
 //! The items of one bucket: some of the keys of a shard.
-ghost use Rattle.std.specs.Prelude.{◌≡◌, [], ◌++◌, None, Some, is_some, IfSome, IfNone, IfOk, OnOk, OnErr, option_copied, false};
-ghost use Rattle.zy_base.specs.declared.item.Item.{Item};
-ghost use Rattle.mc_shard.specs.Buckets.{item_in, IsFirstAt, IsWith, SameItems};
+ghost use Rattle.std.specs.Prelude.{◌≡◌, [], ◌++◌, None, Some, is_some, IfOk, OnOk, OnErr, option_copied};
+ghost use Rattle.mc_shard.specs.Buckets.{item_in, IsWith};
+
+mod row;
 
 use crate::hashed::Hashed;
+use row::Row;
 use std::alloc::Global;
 use std::collections::BTreeMap;
 use std::marker::Model;
-use std::mem;
 use zy_base::{Item, NoMemory};
-
-// The most items that are kept in a row.
-const FEW: usize = 16;
 
 /// Items by their keys. Contracts see them as a list of keys with their items, where the first entry
 /// of a key counts.
@@ -21,7 +19,7 @@ const FEW: usize = 16;
 /// the tree, whatever the keys are.
 #[derive(Drop)]
 pub(crate) struct Bucket {
-    row: Vec<(Hashed, Item)>,
+    row: Row,
     tree: BTreeMap<Hashed, Item>,
 }
 
@@ -31,7 +29,7 @@ impl Model for Bucket {
 
     ghost Value = { Keyed };
 
-    ghost view = { λ b. b.row.items ++ b.tree.entries };
+    ghost view = { λ b. b.row ++ b.tree.entries };
 }
 
 impl Bucket {
@@ -40,17 +38,18 @@ impl Bucket {
         ensures value { result ≡ [] }
     {
         Bucket {
-            row: Vec::new(alloc),
+            row: Row::new(alloc),
             tree: BTreeMap::new(alloc),
         }
     }
 
     /// The item of a key.
+    #[inline(always)]
     pub(crate) fn get(&self, key: &Hashed) -> Option<&Item>
         ensures value { option_copied result ≡ item_in self.now key.now }
     {
-        match place_of(&self.row, key) {
-            Some(at) => Some(&self.row[at].1),
+        match self.row.get(key) {
+            Some(item) => Some(item),
             None => self.tree.get(key),
         }
     }
@@ -61,10 +60,10 @@ impl Bucket {
         ensures ok { OnOk result (IsWith self.old key (Some item) self.new) }
         ensures err { OnErr result (self.new ≡ self.old) }
     {
-        match place_of(&self.row, &key) {
+        match self.row.place_of(&key) {
             Some(at) => {
                 drop(key);
-                Ok(Some(mem::replace(&mut self.row[at].1, item)))
+                Ok(Some(self.row.replace(at, item)))
             }
             None => add(&mut self.row, &mut self.tree, key, item),
         }
@@ -76,7 +75,7 @@ impl Bucket {
         ensures value { IsWith self.old key.now None self.new }
     {
         let found = self.get(key).is_some();
-        clear_of(&mut self.row, key);
+        self.row.clear_of(key);
         drop(self.tree.remove(key));
         found
     }
@@ -84,82 +83,28 @@ impl Bucket {
 
 // Puts an item at a key that is not in the row.
 fn add(
-    row: &mut Vec<(Hashed, Item)>,
+    row: &mut Row,
     tree: &mut BTreeMap<Hashed, Item>,
     key: Hashed,
     item: Item,
 ) -> Result<Option<Item>, NoMemory>
-    requires none { item_in row.old.items key ≡ None }
+    requires none { item_in row.old key ≡ None }
     ensures old { IfOk result (λ old. old ≡ item_in tree.old.entries key) }
-    ensures ok { OnOk result (IsWith (row.old.items ++ tree.old.entries) key (Some item) (row.new.items
-        ++ tree.new.entries)) }
-    ensures err { OnErr result ((row.new.items ≡ row.old.items) × (tree.new.entries ≡ tree.old.entries)) }
+    ensures ok { OnOk result (IsWith (row.old ++ tree.old.entries) key (Some item) (row.new ++ tree.new.entries)) }
+    ensures err { OnErr result ((row.new ≡ row.old) × (tree.new.entries ≡ tree.old.entries)) }
 {
-    if row.len() < FEW && tree.is_empty() {
-        return match row.push((key, item)) {
-            Ok(()) => Ok(None),
-            Err(back) => {
-                drop(back);
-                Err(NoMemory)
-            }
-        };
+    if row.has_room() && tree.is_empty() {
+        row.push(key, item)?;
+        return Ok(None);
     }
     match tree.insert(key, item) {
         Ok(before) => {
-            move_one(row, tree);
+            row.move_one(tree);
             Ok(before)
         }
         Err(back) => {
             drop(back);
             Err(NoMemory)
         }
-    }
-}
-
-// Moves the last item of the row into the tree, if there is one and memory for it.
-fn move_one(row: &mut Vec<(Hashed, Item)>, tree: &mut BTreeMap<Hashed, Item>)
-    ensures same { SameItems (row.old.items ++ tree.old.entries) (row.new.items ++ tree.new.entries) }
-{
-    let Some((key, item)) = row.pop() else {
-        return;
-    };
-    match tree.insert(key, item) {
-        Ok(before) => {
-            drop(before);
-            give_room(row);
-        }
-        Err(back) => row.push_reserved(back.value),
-    }
-}
-
-// Gives the room of the row back if it has no item.
-fn give_room(row: &mut Vec<(Hashed, Item)>)
-    ensures value { row.new.items ≡ row.old.items }
-{
-    if row.is_empty() {
-        let none = Vec::new(*row.allocator());
-        drop(mem::replace(row, none));
-    }
-}
-
-// The place of the first entry with a key.
-fn place_of(row: &[(Hashed, Item)], key: &Hashed) -> Option<usize>
-    ensures some { IfSome result (IsFirstAt row.now key.now) }
-    ensures none { IfNone result (item_in row.now key.now ≡ None) }
-{
-    for at in 0..row.len() {
-        if *key == row[at].0 {
-            return Some(at);
-        }
-    }
-    None
-}
-
-// Removes the entries of a key.
-fn clear_of(row: &mut Vec<(Hashed, Item)>, key: &Hashed)
-    ensures value { IsWith row.old.items key.now None row.new.items }
-{
-    while let Some(at) = place_of(row, key) {
-        drop(row.remove(at));
     }
 }

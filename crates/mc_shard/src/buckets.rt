@@ -48,6 +48,7 @@ impl Buckets {
     }
 
     /// The item of a key.
+    #[inline(always)]
     pub fn get(&self, key: &Hashed) -> Option<&Item>
         ensures value { option_copied result ≡ get self.now key.now }
     {

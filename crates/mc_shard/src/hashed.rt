@@ -5,7 +5,7 @@ ghost use Rattle.std.specs.Cmp.{partial_equiv_from_equiv, partial_order_from_tot
 ghost use Rattle.zy_base.specs.Call.{key_of};
 ghost use Rattle.zy_base.specs.Key.{hash_of};
 ghost use Rattle.mc_shard.specs.Contents.{hashed_cmp, hashed_total};
-ghost use Rattle.mc_shard.specs.Buckets.{bucket_of};
+ghost use Rattle.mc_shard.specs.Buckets.{bucket_of, fingerprint_of};
 
 use std::cmp::Ordering;
 use std::marker::Model;
@@ -49,6 +49,13 @@ impl Hashed {
         (self.hash / 16_777_216) as usize
     }
 
+    /// Its fingerprint: the second eight bits of the hash.
+    pub fn fingerprint(&self) -> u8
+        ensures value { result ≡ fingerprint_of self.now }
+    {
+        (self.hash / 65_536 % 256) as u8
+    }
+
     /// A copy of a key that has this hash.
     #[inline(always)]
     pub fn with_hash(key: &Blob, hash: u32) -> Result<Hashed, NoMemory>
@@ -82,6 +89,7 @@ impl PartialEq for Hashed {
 
     ghost laws = { partial_equiv_from_equiv (eq_by_cmp_equiv hashed_total) };
 
+    #[inline(always)]
     fn eq(&self, other: &Hashed) -> bool {
         self.hash == other.hash && self.key == other.key
     }
