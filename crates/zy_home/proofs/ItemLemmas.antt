@@ -18,9 +18,9 @@ use Rattle.zy_home.specs.Link.{Link, IsFor, TakesIn, StandsOn, conn_of}
 use Rattle.zy_home.specs.Offer.{WaitsFull}
 use Rattle.zy_home.specs.Own.{IsOfOthers, item_conn, is_end}
 use Rattle.zy_home.specs.Idle.{IsIdleWith, due_mark, mark_in}
-use Rattle.zy_home.specs.Home.{Homed, IsSoundHome, HomeStands, StandsMore, IsAt}
+use Rattle.zy_home.specs.Home.{Homed, IsSoundHome, HomeStands, StandsMore, IsAt, SameFor}
 use Rattle.zy_home.specs.Place.{ComesTo, Forwards, SameHand, Settles}
-use Rattle.zy_home.specs.Items.{CutsOne, CutsEach, ReceivesAll, RefusedAmid, SameFor, SameParts, StandsAll}
+use Rattle.zy_home.specs.Items.{CutsOne, CutsEach, ReceivesAll, RefusedAmid, SameParts, StandsAll}
 use Rattle.zy_home.specs.Turn.{IsDue, IsSettled, IsPutBack, Turns, home_turned}
 use Rattle.zy_home.specs.Between.{IsBetween, Between, StaysIdle, CutsFor, CutsIn, CutsAll, CutsFrom, IsTouched, SettlesAt, SettlesIn, SettlesOn}
 use Rattle.zy_home.proofs.TurnLemmas.{at_else, turned_conns, turned_keeps, turned_stands}

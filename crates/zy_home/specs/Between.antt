@@ -8,9 +8,9 @@ use Rattle.zy_shuffle.specs.Pass.{Held}
 use Rattle.zy_conn.specs.Block.{Blocked}
 use Rattle.zy_home.specs.Link.{Link}
 use Rattle.zy_home.specs.Idle.{IsIdleWith, due_mark, mark_in}
-use Rattle.zy_home.specs.Home.{Homed, IsAt, StandsHome, StandsMore}
+use Rattle.zy_home.specs.Home.{Homed, IsAt, StandsHome, StandsMore, SameFor}
 use Rattle.zy_home.specs.Place.{Settles}
-use Rattle.zy_home.specs.Items.{CutsOne, CutsEach, SameFor, SameParts, SettlesEach, StandsAll}
+use Rattle.zy_home.specs.Items.{CutsOne, CutsEach, SameParts, SettlesEach, StandsAll}
 
 -- ---- places
 

@@ -1,9 +1,9 @@
 //! Receiving many items in one call.
 ghost use Rattle.std.specs.Prelude.{◌≡◌, ◌<◌, ◌≤◌, ◌^◌, [], true, false, length, is_err};
 ghost use Rattle.std.specs.Prelude.{OnOk, OnErr, IfOk, Ok};
-ghost use Rattle.zy_home.specs.Home.{SameHome};
+ghost use Rattle.zy_home.specs.Home.{SameHome, SameFor};
 ghost use Rattle.zy_home.specs.Place.{ComesTo, SameHand};
-ghost use Rattle.zy_home.specs.Items.{ReceivesAll, RefusedAmid, SameFor};
+ghost use Rattle.zy_home.specs.Items.{ReceivesAll, RefusedAmid};
 ghost use Rattle.zy_home.specs.Between.{Between, CutsFor, CutsFrom, CutsIn, IsTouched, SettlesAt, SettlesOn};
 
 use super::Home;
