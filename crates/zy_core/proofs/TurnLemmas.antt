@@ -3,29 +3,30 @@ use Rattle.std.proofs.Common.{◌≡◌, List, Bool, true, false, ◌||◌, refl
 use Rattle.std.specs.Prelude.{Option, None, Some}
 use Rattle.zy_conn.specs.declared.hold_end.HoldEnd.{HoldEnd}
 use Rattle.zy_conn.specs.declared.hold_end.HoldEnd.TheVariants.{Drained, Limit, Spent, Busy}
+use Rattle.zy_home.specs.declared.own.Own.{Own}
+use Rattle.zy_home.specs.declared.own.Own.TheVariants as Owns
 use Rattle.zy_home.specs.Home.{Homed, is_settled}
+use Rattle.zy_home.specs.Place.{OwnsTo}
 use Rattle.zy_steal.specs.declared.looks.Look.{Look}
 use Rattle.zy_steal.specs.Look.{IsBlank, NotesAll}
 use Rattle.zy_steal.specs.Steal.{AllLookedOver}
 use Rattle.zy_steal.proofs.LookLemmas.{noted_alone}
 use Rattle.zy_core.specs.declared.steps.AtHome.{AtHome}
-use Rattle.zy_core.specs.declared.steps.Claimed.{Claimed}
-use Rattle.zy_core.specs.declared.steps.Claimed.TheVariants.{Held, Missed}
 use Rattle.zy_core.specs.declared.turn.Turn.TheVariants.{Worked}
 use Rattle.zy_core.specs.declared.turn.Came.{Came}
 use Rattle.zy_core.specs.Core.{Cored}
 use Rattle.zy_core.specs.Steal.{Steals, StealsTo}
-use Rattle.zy_core.specs.Step.{ServesHome, HasHomeSteps}
-use Rattle.zy_core.specs.Turn.{ReceivesTo, CollectsAll, HasSteps, TurnTo, FindsNothing, places_of, came_without_hold, came_to, held_to, is_busy, CameTo, ShowsBusy}
+use Rattle.zy_core.specs.Step.{HasHomeSteps}
+use Rattle.zy_core.specs.Turn.{ReceivesTo, CollectsAll, HasSteps, TurnTo, FindsNothing, places_of, own_of, came_without_hold, came_to, held_to, is_busy, CameTo, ShowsBusy}
 
 -- the steps of a turn at home: items received, blocks collected, and the claim with this answer
-pub record AtHomeBy (a b : Cored) (h m : Homed) (received collected : Bool) (claimed : Claimed) : Type 0 where
+pub record AtHomeBy (a b : Cored) (h m : Homed) (received collected : Bool) (own : Own) : Type 0 where
   pub receives : ReceivesTo a.home a.outlet h b.outlet received
   pub collects : CollectsAll (places_of a) h m collected
-  pub claims : ServesHome (places_of a) m b.home claimed
+  pub claims : OwnsTo (places_of a) m b.home own
 
-pub at_home_by : (a b : Cored) (came : AtHome) (claimed : Claimed) → came.claimed ≡ claimed → (s : HasHomeSteps a.home a.outlet b.home b.outlet came) → AtHomeBy a b s.received s.collected came.received came.collected claimed
-at_home_by a b came claimed is s = record { receives = s.receives; collects = s.collects; claims = subst (ServesHome (places_of a) s.collected b.home) is s.claims }
+pub at_home_by : (a b : Cored) (came : AtHome) (own : Own) → came.own ≡ own → (s : HasHomeSteps a.home a.outlet b.home b.outlet came) → AtHomeBy a b s.received s.collected came.received came.collected own
+at_home_by a b came own is s = record { receives = s.receives; collects = s.collects; claims = subst (OwnsTo (places_of a) s.collected b.home) is s.claims }
 
 -- where nothing was received the home is as it was
 collects_from : (a b : Cored) (h m : Homed) (collected : Bool) → ReceivesTo a.home a.outlet h b.outlet false → CollectsAll (places_of a) h m collected → CollectsAll (places_of a) a.home m collected
@@ -33,7 +34,7 @@ collects_from a b h m collected r c = subst (λ (x : Homed). CollectsAll (places
 
 -- ---- a block was held
 
-held_turn : (a b : Cored) (h m : Homed) (received collected : Bool) (end : HoldEnd) → AtHomeBy a b h m received collected (Held end) → TurnTo a b Worked
+held_turn : (a b : Cored) (h m : Homed) (received collected : Bool) (end : HoldEnd) → AtHomeBy a b h m received collected (Owns.Took end) → TurnTo a b Worked
 held_turn a b h m true collected end t = inl t.receives.some
 held_turn a b h m false true end t = inr (inl (m, collects_from a b h m true t.receives t.collects))
 held_turn a b h m false false end t = inr (inr (inl (m, collects_from a b h m false t.receives t.collects, (end, t.claims))))
@@ -46,10 +47,10 @@ came_held a b looks looks' Spent t = t
 came_held a b looks looks' (Busy shard loaded found) t = t
 
 -- a turn in which a block was claimed
-pub held_came : (a b : Cored) (h m : Homed) (received collected : Bool) (end : HoldEnd) (looks looks' : List (Option Look)) → AtHomeBy a b h m received collected (Held end) → CameTo a b looks looks' (held_to end)
+pub held_came : (a b : Cored) (h m : Homed) (received collected : Bool) (end : HoldEnd) (looks looks' : List (Option Look)) → AtHomeBy a b h m received collected (Owns.Took end) → CameTo a b looks looks' (held_to end)
 held_came a b h m received collected end looks looks' t = came_held a b looks looks' end (held_turn a b h m received collected end t)
 
-abbrev held_steps : (a b : Cored) (h m : Homed) (received collected : Bool) (end : HoldEnd) → AtHomeBy a b h m received collected (Held end) → b.passes ≡ a.passes → HasSteps a b
+abbrev held_steps : (a b : Cored) (h m : Homed) (received collected : Bool) (end : HoldEnd) → AtHomeBy a b h m received collected (Owns.Took end) → b.passes ≡ a.passes → HasSteps a b
 held_steps a b h m received collected end t same = record {
   is_received = received;
   is_collected = collected;
@@ -60,13 +61,13 @@ held_steps a b h m received collected end t same = record {
   serves = inl ((end, t.claims), same);
 }
 
-pub held_busy : (a b : Cored) (h m : Homed) (received collected : Bool) (end : HoldEnd) → AtHomeBy a b h m received collected (Held end) → b.passes ≡ a.passes → ShowsBusy a b (held_to end)
+pub held_busy : (a b : Cored) (h m : Homed) (received collected : Bool) (end : HoldEnd) → AtHomeBy a b h m received collected (Owns.Took end) → b.passes ≡ a.passes → ShowsBusy a b (held_to end)
 held_busy a b h m received collected end t same = record { steps = held_steps a b h m received collected end t same; busy = refl }
 
 -- ---- none was claimed
 
 -- what was stolen, or looked at
-abbrev missed_steps : (a b : Cored) (h m : Homed) (received collected : Bool) (own : Look) (looks : Option (List (Option Look))) → AtHomeBy a b h m received collected (Missed own) → StealsTo a.passes b.passes looks → HasSteps a b
+abbrev missed_steps : (a b : Cored) (h m : Homed) (received collected : Bool) (own : Look) (looks : Option (List (Option Look))) → AtHomeBy a b h m received collected (own_of own) → StealsTo a.passes b.passes looks → HasSteps a b
 missed_steps a b h m received collected own looks t steals = record {
   is_received = received;
   is_collected = collected;
@@ -78,15 +79,12 @@ missed_steps a b h m received collected own looks t steals = record {
 }
 
 -- a turn in which a block was stolen
-pub stolen_came : (a b : Cored) (end : HoldEnd) (looks looks' : List (Option Look)) → Steals a.passes b.passes → CameTo a b looks looks' (held_to end)
-stolen_came a b end looks looks' s = came_held a b looks looks' end (inr (inr (inr s)))
-
-pub stolen_busy : (a b : Cored) (h m : Homed) (received collected : Bool) (own : Look) (end : HoldEnd) → AtHomeBy a b h m received collected (Missed own) → (s : Steals a.passes b.passes) → s.end ≡ end → ShowsBusy a b (held_to end)
+pub stolen_busy : (a b : Cored) (h m : Homed) (received collected : Bool) (own : Look) (end : HoldEnd) → AtHomeBy a b h m received collected (own_of own) → (s : Steals a.passes b.passes) → s.end ≡ end → ShowsBusy a b (held_to end)
 stolen_busy a b h m received collected own end t s is =
     record { steps = missed_steps a b h m received collected own None t s; busy = ap (λ e. is_busy (held_to e)) (sym is) }
 
 -- a turn in which none was stolen either
-pub missed_came : (a b : Cored) (h m : Homed) (received collected settled : Bool) (own : Look) (looks looks' : List (Option Look)) → AtHomeBy a b h m received collected (Missed own) → AllLookedOver a.passes b.passes looks looks' → settled ≡ is_settled b.home
+pub missed_came : (a b : Cored) (h m : Homed) (received collected settled : Bool) (own : Look) (looks looks' : List (Option Look)) → AtHomeBy a b h m received collected (own_of own) → AllLookedOver a.passes b.passes looks looks' → settled ≡ is_settled b.home
     → CameTo a b looks looks' (came_without_hold (received || collected) own settled)
 missed_came a b h m true collected settled own looks looks' t l is = inl t.receives.some
 missed_came a b h m false true settled own looks looks' t l is = inr (inl (m, collects_from a b h m true t.receives t.collects))
@@ -106,7 +104,7 @@ missed_came a b h m false false settled own looks looks' t l is = go settled is
     go true e = (l.made, l.notes, ((own, nothing), sym e))
     go false e = (l.made, l.notes, (nothing, sym e))
 
-pub missed_busy : (a b : Cored) (h m : Homed) (received collected settled : Bool) (own : Look) (looks looks' : List (Option Look)) → AtHomeBy a b h m received collected (Missed own) → AllLookedOver a.passes b.passes looks looks' → ShowsBusy a b (came_without_hold (received || collected) own settled)
+pub missed_busy : (a b : Cored) (h m : Homed) (received collected settled : Bool) (own : Look) (looks looks' : List (Option Look)) → AtHomeBy a b h m received collected (own_of own) → AllLookedOver a.passes b.passes looks looks' → ShowsBusy a b (came_without_hold (received || collected) own settled)
 missed_busy a b h m received collected settled own looks looks' t l =
     record { steps = missed_steps a b h m received collected own (Some l.made) t l.looked; busy = plain (received || collected) settled }
   where

@@ -33,7 +33,7 @@ cored home thief passes outlet control turns =
 abbrev pub stepped : control.Held → Cored → Cored
 stepped pass c = cored c.home c.thief c.passes c.outlet pass c.turns
 
--- the core after it counted itself as done, when so many had done so
+-- the core after it counted itself as done, when `done` cores had done so
 abbrev pub with_count : ℕ → Cored → Cored
 with_count done c = stepped (control.counting done c.control) c
 

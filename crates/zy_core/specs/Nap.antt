@@ -21,12 +21,12 @@ stays_awake counted (Settled looks) = not counted
 abbrev pub is_ending : ℕ → ℕ → ℕ → Bool
 is_ending cores done stop = (done == cores) || not (stop == 0)
 
--- the answer of a nap of a core, one of so many, with this turn, and with these values of done and stop
+-- the answer of a nap among `cores` cores, with this turn, and with these values of done and stop
 abbrev pub nap_of : ℕ → Bool → Turn → ℕ → ℕ → Nap
 nap_of cores counted turn done stop =
     if stays_awake counted turn then Awake turn else (if is_ending cores done stop then Ending done stop else Rested)
 
--- what the turn and the rest of a core that has announced itself came to, among so many cores
+-- what the turn and the rest of a core that has announced itself came to, among `cores` cores
 pub record RestTo (cores : ℕ) (before after : Cored) (nap : Nap) : Type 0 where
   -- the turn that it took, and the core right after it
   pub turn : Turn
@@ -47,7 +47,7 @@ bell_after control (Awake turn) p = p
 bell_after control (Ending done stop) p = p
 bell_after control Rested p = bells.resting (Some control.trace.steps) p
 
--- what a nap came to, among so many cores, with the core's pass at the bells before and after it: the core announced
+-- what a nap came to, among `cores` cores, with the core's pass at the bells before and after it: the core announced
 -- itself, took its turn, loaded done and stop, rested or not, and then withdrew
 pub record NapTo (cores : ℕ) (before after : Cored) (bell bell' : bells.Passed) (nap : Nap) : Type 0 where
   pub set : ℕ

@@ -33,13 +33,14 @@ abbrev pub ReceivesTo : Homed → Taking → Homed → Taking → Bool → Type 
 ReceivesTo h o h' o' true = Receives o o'
 ReceivesTo h o h' o' false = (h' ≡ h) × (o'.taken ≡ o.taken) × (o'.known ≡ [])
 
--- so many blocks were collected, each from the home as the one before left it
+-- `count` blocks were collected, each from the home as the one before left it
 abbrev pub CollectsCount : ℕ → ℕ → Homed → Homed → Type 0
 CollectsCount places zero h h' = h' ≡ h
 CollectsCount places (suc count) h h' =
     (between : Homed) × CollectsCount places count h between × CollectsTo places between h' true
 
--- why collecting ended after this number of blocks: the ring's collect took nothing; or there were as many as places
+-- why collecting ended after this number of blocks: the ring's collect took nothing; or it is the number
+-- of places
 abbrev pub CollectingEnds : ℕ → ℕ → Homed → Homed → Type 0
 CollectingEnds places count h h' = CollectsTo places h h' false ⊎ ((count ≡ places) × (h' ≡ h))
 

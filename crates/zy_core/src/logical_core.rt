@@ -14,17 +14,17 @@ ghost use Rattle.zy_rx.specs.Feed.{rings_of};
 use crate::nap::Nap;
 use crate::shared::Shared;
 use crate::stealing::steal_once;
-use crate::steps::{Claimed, serve_home};
+use crate::steps::serve_home;
 use crate::turn::{Came, Turn};
 use std::marker::Model;
 use std::sync::Wait;
 use zy_base::{Gate, NoMemory};
 use zy_conn::Block;
 use zy_control::ControlPass;
-use zy_home::Home;
+use zy_home::{Home, Own};
 use zy_park::{BellPass, Bells};
 use zy_rx::{Feeder, Outlet};
-use zy_steal::{Looks, Passes, Victims};
+use zy_steal::{Look, Looks, Passes, Victims};
 
 /// A core: its home, its passes on the other cores' rings, the end of its receive ring, and its pass
 /// on the control words. Contracts see it as `Cored`.
@@ -124,9 +124,10 @@ impl Core {
         let ring = shared.rings.ring(self.number);
         self.turns += 1;
         let at_home = serve_home(&mut self.home, &mut self.outlet, ring, &shared.store, gate)?;
-        let own = match at_home.claimed {
-            Claimed::Missed(look) => look,
-            Claimed::Held(end) => return Ok(Came::held(end)),
+        let own = match at_home.own {
+            Own::Took { held } => return Ok(Came::held(held)),
+            Own::Empty { at } => Look::Empty { at },
+            Own::Raced { saw, found } => Look::Raced { saw, found },
         };
         let stolen = steal_once(
             &mut self.victims,

@@ -5,7 +5,7 @@ use Rattle.std.proofs.Common.{append-nil}
 use Rattle.std.proofs.lemmas.List.{take_all, map-append}
 use Rattle.mc_parse.specs.declared.command.Command.{Command}
 use Rattle.mc_parse.specs.Calls.{due}
-use Rattle.mc_reply.specs.Texts.{texts_from, texts_of}
+use Rattle.mc_reply.specs.Texts.{texts_of}
 use Rattle.mc_reply.proofs.TextLemmas.{length-texts_from}
 use Rattle.zy_frame.specs.Frame.{command_of}
 use Rattle.zy_frame.specs.Cut.{commands_of, frames_of}

@@ -1,10 +1,9 @@
 -- What a home keeps while it cuts items, and while it settles the blocks that these touched.
-use Rattle.std.specs.Prelude.{◌||◌, ◌==◌}
-use Rattle.std.proofs.Common.{◌≡◌, ◌≢◌, ℕ, ◌+◌, ◌<◌, ◌≤◌, List, [], ◌∷◌, ◌++◌, length, drop, set, get_or, Bool, true, false, Option, Some, None, slice_get, refl, sym, ap, ◌∙◌, subst, arith, append_assoc, append-nil, length-append, length-set}
-use Rattle.std.specs.List.{slice_index_or}
-use Rattle.std.proofs.lemmas.List.{drop_more}
+use Rattle.std.specs.Prelude.{◌||◌, ◌==◌, map, is_some, Result, Ok, Err, IfOk, OnOk}
+use Rattle.std.proofs.Common.{◌≡◌, ◌≢◌, ℕ, ◌+◌, ◌<◌, ◌≤◌, List, [], ◌∷◌, ◌++◌, length, set, get_or, Bool, true, false, Option, Some, None, slice_get, refl, sym, ap, ◌∙◌, subst, arith, append_assoc, append-nil, length-append, length-set}
 use mathlib.Core.Logic.{dite}
 use native.Mathlib.Decide.{ℕ_discrete}
+use Rattle.zy_base.specs.declared.outside.NoMemory.{NoMemory}
 use Rattle.zy_table.specs.Member.{is_in}
 use Rattle.zy_table.proofs.MemberLemmas.{in_cons, in_front, in_more}
 use Rattle.zy_table.proofs.SliceLemmas.{get_at, get_below, get_set_else, get_set_same, set_there}
@@ -19,14 +18,14 @@ use Rattle.zy_home.specs.Link.{Link, IsFor, TakesIn, StandsOn, conn_of}
 use Rattle.zy_home.specs.Offer.{WaitsFull}
 use Rattle.zy_home.specs.Own.{IsOfOthers, item_conn, is_end}
 use Rattle.zy_home.specs.Idle.{IsIdleWith, due_mark, mark_in}
-use Rattle.zy_home.specs.Home.{Homed, IsSoundHome, HomeStands, StandsMore, IsAt}
-use Rattle.zy_home.specs.Place.{ComesTo, SameHand}
-use Rattle.zy_home.specs.Items.{CutsOne, CutsEach, ReceivesAll, RefusedAmid, SameFor, SameParts, StandsAll}
+use Rattle.zy_home.specs.Home.{Homed, IsSoundHome, HomeStands, StandsMore, IsAt, SameFor}
+use Rattle.zy_home.specs.Place.{ComesTo, Forwards, SameHand, Settles}
+use Rattle.zy_home.specs.Items.{CutsOne, CutsEach, ReceivesAll, RefusedAmid, SameParts, StandsAll}
 use Rattle.zy_home.specs.Turn.{IsDue, IsSettled, IsPutBack, Turns, home_turned}
-use Rattle.zy_home.specs.Between.{IsBetween, Between, StaysIdle, CutsIn, CutsAll, CutsFrom, SettlesIn, SettlesOn}
+use Rattle.zy_home.specs.Between.{IsBetween, Between, StaysIdle, CutsFor, CutsIn, CutsAll, CutsFrom, IsTouched, SettlesAt, SettlesIn, SettlesOn}
 use Rattle.zy_home.proofs.TurnLemmas.{at_else, turned_conns, turned_keeps, turned_stands}
 use Rattle.zy_home.proofs.SettleLemmas.{Stepped, stepped, same_hand, same_turns, settled_turns, back_turns, settles}
-use Rattle.zy_home.proofs.ReceiveLemmas.{for_is, is_for, is_the_end, link_own, more_at, more_behind, more_end, more_none, no_end, not_others, apart}
+use Rattle.zy_home.proofs.ReceiveLemmas.{for_is, is_for, is_the_end, link_own, more_at, more_behind, more_end, more_none, no_end, not_others, comes_once}
 
 -- ---- an item that is for no place
 
@@ -143,7 +142,7 @@ between_else touched touched' v w q l (Some c) hand kept same b = (b.0, λ e. b.
 
 -- ---- an item is cut
 
-module _ (h : Homed) (k : IsSoundHome h) (amid : h.refused ≡ true) (touched : List ℕ) (b : Between h touched) (p : ℕ) (item : Rx) (comes : ComesTo h p item) (l m : Link) (x0 : Option Blocked) (slot : x0 ≡ get_or h.blocks p x0) (at : l ≡ get_or h.links p l) where
+module _ (h : Homed) (k : IsSoundHome h) (amid : h.refused ≡ true) (p : ℕ) (item : Rx) (comes : ComesTo h p item) (l m : Link) (x0 : Option Blocked) (slot : x0 ≡ get_or h.blocks p x0) (at : l ≡ get_or h.links p l) where
   there_is : slice_get h.links p ≡ Some l
   there_is = get_at h.links p l l (get_below h.links p comes.link comes.there) at
 
@@ -186,61 +185,67 @@ module _ (h : Homed) (k : IsSoundHome h) (amid : h.refused ≡ true) (touched : 
     blocks = refl;
     ended = comes_no_end h p item comes;
     away = λ q c none n e.
-        let same : q ≡ p = apart h k q p c.link comes.link c.there comes.there (let one = for_is (conn_of c.link) item c.own in let two = for_is (conn_of comes.link) item comes.own in cc) in
+        let same = comes_once h k p q item comes c in
         subst WaitsFull (get_set_same h.links p m n (ap (slice_get (set h.links p m)) (sym same) ∙ e))
         (full (let here : slice_get h.blocks p ≡ Some None = ap (slice_get h.blocks) (sym same) ∙ none in let x : Some x0 ≡ Some None = sym slot_is ∙ here in cc));
     dropped = λ none. absurd (none p comes);
   }
 
-  cut_between : (touched' : List ℕ) → ((q : ℕ) → q ≢ p → is_in q touched' ≡ is_in q touched) → IsBetween touched' h.pass p m x0 → Between cut_home touched'
-  cut_between touched' others here = record {
-    each = λ q y n eb el. dite (ℕ_discrete q p)
-        (λ same.
-        let one : m ≡ n = get_set_same h.links p m n (ap (slice_get (set h.links p m)) (sym same) ∙ el) in
-        let two : x0 ≡ y = (let e : Some x0 ≡ Some y = sym slot_is ∙ ap (slice_get h.blocks) (sym same) ∙ eb in cc) in
-        subst (λ z. IsBetween touched' h.pass z n y) (sym same) (subst (λ z. IsBetween touched' h.pass p z y) one (subst (IsBetween touched' h.pass p m) two here)))
-        (λ ne. between_else touched touched' h.pass h.pass q n y refl refl (others q ne) (b.each q y n eb (sym (get_set_else h.links p q m ne) ∙ el)));
-    near = λ q e. dite (ℕ_discrete q p)
-        (λ same. subst (λ z. z < length h.blocks) (sym same) near_is)
-        (λ ne. b.near q (sym (others q ne) ∙ e));
-  }
-
-  here_at : (touched' : List ℕ) → due_mark m ≡ due_mark l → ((c : Blocked) → x0 ≡ Some c → is_in p touched' ≡ false → IsIdleWith c.work m) → IsBetween touched' h.pass p m x0
-  here_at touched' due idle = go x0 slot_is (λ c e. idle c e)
-    where
-      go : (y : Option Blocked) → slice_get h.blocks p ≡ Some y → ((c : Blocked) → y ≡ Some c → is_in p touched' ≡ false → IsIdleWith c.work m) → IsBetween touched' h.pass p m y
-      go None e idle = λ out. b.each p None l e there_is out ∙ ap Some (sym due)
-      go (Some c) e idle = ((b.each p (Some c) l e there_is).0 ∙ sym due, idle c refl)
-
-  idle_before : (c : Blocked) → x0 ≡ Some c → is_in p touched ≡ false → IsIdleWith c.work l
-  idle_before c e = go x0 slot_is e
-    where
-      go : (y : Option Blocked) → slice_get h.blocks p ≡ Some y → y ≡ Some c → is_in p touched ≡ false → IsIdleWith c.work l
-      go None at e = absurd (cc)
-      go (Some d) at e = let same : d ≡ c = cc in subst (λ (z : Blocked). is_in p touched ≡ false → IsIdleWith z.work l) same (b.each p (Some d) l at there_is).1
-
   stands_at : due_mark m ≡ due_mark l → TakesIn item l m → StandsMore h item cut_home
   stands_at due takes = subst (StandsMore h item) turned_is (more_at h p x0 l m h.pass h.refused (cut_turns (ap (λ (z : Mark). z.0) due)) k comes.live item cut_own takes)
 
-  -- the block of the place, if it is in its slot, is idle still
-  pub cut_idle : due_mark m ≡ due_mark l → TakesIn item l m → (x0 ≡ None → WaitsFull m) → StaysIdle x0 l m → CutsIn h touched item cut_home touched
-  cut_idle due takes full idle = record {
-    cuts = cut_cuts full;
-    stands = stands_at due takes;
-    between = cut_between touched (λ q ne. refl) (here_at touched due (λ c e out. idle c e (idle_before c e out)));
-    room = omega arith;
-    still = λ e. absurd (let live = comes.live in cc);
-  }
+  -- these places were touched before
+  module _ (touched : List ℕ) (b : Between h touched) where
+    cut_between : (touched' : List ℕ) → ((q : ℕ) → q ≢ p → is_in q touched' ≡ is_in q touched) → IsBetween touched' h.pass p m x0 → Between cut_home touched'
+    cut_between touched' others here = record {
+      each = λ q y n eb el. dite (ℕ_discrete q p)
+          (λ same.
+          let one : m ≡ n = get_set_same h.links p m n (ap (slice_get (set h.links p m)) (sym same) ∙ el) in
+          let two : x0 ≡ y = (let e : Some x0 ≡ Some y = sym slot_is ∙ ap (slice_get h.blocks) (sym same) ∙ eb in cc) in
+          subst (λ z. IsBetween touched' h.pass z n y) (sym same) (subst (λ z. IsBetween touched' h.pass p z y) one (subst (IsBetween touched' h.pass p m) two here)))
+          (λ ne. between_else touched touched' h.pass h.pass q n y refl refl (others q ne) (b.each q y n eb (sym (get_set_else h.links p q m ne) ∙ el)));
+      near = λ q e. dite (ℕ_discrete q p)
+          (λ same. subst (λ z. z < length h.blocks) (sym same) near_is)
+          (λ ne. b.near q (sym (others q ne) ∙ e));
+    }
 
-  -- and if not, the place is touched
-  pub cut_touched : due_mark m ≡ due_mark l → TakesIn item l m → (x0 ≡ None → WaitsFull m) → CutsIn h touched item cut_home (touched ++ p ∷ [])
-  cut_touched due takes full = record {
-    cuts = cut_cuts full;
-    stands = stands_at due takes;
-    between = cut_between (touched ++ p ∷ []) (λ q ne. in_append q p touched ne) (here_at (touched ++ p ∷ []) due (λ c e out. absurd (let is = in_last p touched in cc)));
-    room = (let size = length-append touched (p ∷ []) in omega arith);
-    still = λ e. absurd (let live = comes.live in cc);
-  }
+    here_at : (touched' : List ℕ) → due_mark m ≡ due_mark l → ((c : Blocked) → x0 ≡ Some c → is_in p touched' ≡ false → IsIdleWith c.work m) → IsBetween touched' h.pass p m x0
+    here_at touched' due idle = go x0 slot_is (λ c e. idle c e)
+      where
+        go : (y : Option Blocked) → slice_get h.blocks p ≡ Some y → ((c : Blocked) → y ≡ Some c → is_in p touched' ≡ false → IsIdleWith c.work m) → IsBetween touched' h.pass p m y
+        go None e idle = λ out. b.each p None l e there_is out ∙ ap Some (sym due)
+        go (Some c) e idle = ((b.each p (Some c) l e there_is).0 ∙ sym due, idle c refl)
+
+    idle_before : (c : Blocked) → x0 ≡ Some c → is_in p touched ≡ false → IsIdleWith c.work l
+    idle_before c e = go x0 slot_is e
+      where
+        go : (y : Option Blocked) → slice_get h.blocks p ≡ Some y → y ≡ Some c → is_in p touched ≡ false → IsIdleWith c.work l
+        go None at e = absurd (cc)
+        go (Some d) at e = let same : d ≡ c = cc in subst (λ (z : Blocked). is_in p touched ≡ false → IsIdleWith z.work l) same (b.each p (Some d) l at there_is).1
+
+    -- the block of the place, if it is in its slot, is idle still
+    cut_idle : due_mark m ≡ due_mark l → TakesIn item l m → (x0 ≡ None → WaitsFull m) → StaysIdle x0 l m → CutsIn h touched item cut_home touched
+    cut_idle due takes full idle = record {
+      cuts = cut_cuts full;
+      stands = stands_at due takes;
+      between = cut_between touched (λ q ne. refl) (here_at touched due (λ c e out. idle c e (idle_before c e out)));
+      room = omega arith;
+      still = λ e. absurd (let live = comes.live in cc);
+    }
+
+    -- and if not, the place is touched
+    cut_touched : due_mark m ≡ due_mark l → TakesIn item l m → (x0 ≡ None → WaitsFull m) → CutsIn h touched item cut_home (touched ++ p ∷ [])
+    cut_touched due takes full = record {
+      cuts = cut_cuts full;
+      stands = stands_at due takes;
+      between = cut_between (touched ++ p ∷ []) (λ q ne. in_append q p touched ne) (here_at (touched ++ p ∷ []) due (λ c e out. absurd (let is = in_last p touched in cc)));
+      room = (let size = length-append touched (p ∷ []) in omega arith);
+      still = λ e. absurd (let live = comes.live in cc);
+    }
+
+  pub cut_answer : (r : Result Bool NoMemory) → due_mark m ≡ due_mark l → OnOk r (TakesIn item l m) → OnOk r (x0 ≡ None → WaitsFull m) → IfOk r (λ touched. touched ≡ false → StaysIdle x0 l m) → IfOk r (CutsFor p item h cut_home)
+  cut_answer (Ok touched) due takes full idle = λ before b. (cut_touched before b due takes full, λ no. cut_idle before b due takes full (idle no))
+  cut_answer (Err e) due takes full idle = tt
 
 -- an item that is for no place
 pub cut_past : (h : Homed) → (touched : List ℕ) → Between h touched → (item : Rx) → ((p : ℕ) → ComesTo h p item → ⊥) → CutsIn h touched item (record h { ended = h.ended || is_end item }) touched
@@ -296,11 +301,6 @@ cut_refused first h m h' taken now touched count s hand = record { items = first
 -- nothing was to be settled
 pub settles_none : (h : Homed) (rest : List ℕ) → Between h rest → SettlesIn h h rest
 settles_none h rest b = record { between = b; stands = λ items s. s; ended = refl; chain = λ places last s. (places, s) }
-
--- the first of the places that are left
-pub between_first : (h h0 : Homed) → h ≡ h0 → (ts items : List ℕ) (at : ℕ) → at < length ts → items ≡ ts → Between h0 (drop at ts) → Between h (slice_index_or items at 0 ∷ drop (at + 1) ts)
-between_first h h0 same ts items at lt is b =
-    subst (Between h) (drop_more ts at 0 lt ∙ ap (λ xs. slice_index_or xs at 0 ∷ drop (at + 1) ts) (sym is)) (subst (λ z. Between z (drop at ts)) (sym same) b)
 
 module _ (h : Homed) (k : IsSoundHome h) (amid : h.refused ≡ true) (p : ℕ) (rest : List ℕ) (b : Between h (p ∷ rest)) (l m : Link) (x0 : Option Blocked) (slot : x0 ≡ get_or h.blocks p x0) (at : l ≡ get_or h.links p l) where
   pub touched_near : p < length h.blocks
@@ -358,7 +358,7 @@ module _ (h : Homed) (k : IsSoundHome h) (amid : h.refused ≡ true) (p : ℕ) (
     pub touched_back : (c : Blocked) → x0 ≡ Some c → IsPutBack h.pass w x → Stepped h settled_home l m × SameHand h settled_home
     touched_back c e s = (
       stepped h p x l m w h.refused k (back_turns h p l m w x h.refused touched_there conn amid (touched_due c e).hand s),
-      same_hand h p m w x (Some c) h.refused (touched_slot ∙ ap Some e) s,
+      same_hand h p m w x c h.refused (touched_slot ∙ ap Some e) s,
     )
 
     pub touched_step : (c : Blocked) → x0 ≡ Some c → IsSettled was_idle p c m h.pass w x → Stepped h settled_home l m
@@ -389,6 +389,25 @@ module _ (h : Homed) (k : IsSoundHome h) (amid : h.refused ≡ true) (p : ℕ) (
           chain = λ places last rest. (p ∷ places, (settled_home, record { given = c; there = touched_slot ∙ ap Some e; settles = settles h p l m w x h.refused touched_there conn c s }, rest));
         }
 
+module _ (h : Homed) (k : IsSoundHome h) (amid : h.refused ≡ true) (p : ℕ) (t : IsTouched p h) (l m : Link) (x0 : Option Blocked) (slot : x0 ≡ get_or h.blocks p x0) (at : l ≡ get_or h.links p l) where
+  -- no block was in the slot of the place
+  pub place_empty : (x : Option Blocked) → x ≡ x0 → x0 ≡ None → SettlesAt p h (record h { blocks = set h.blocks p x; links = set h.links p l })
+  place_empty x same none = record {
+    here = λ d e. absurd (let is = touched_slot h k amid p t.0 t.1 l m x0 slot at in cc);
+    away = λ _. home_same h k amid p t.0 t.1 l m x0 slot at x same;
+    on = λ rest b. rest_home h k amid p rest b l m x0 slot at x same none;
+  }
+
+  -- the block that was there was settled
+  pub place_settled : (w : Held Blocked) (x : Option Blocked) (conn : conn_of m ≡ conn_of l) (c : Blocked) → x0 ≡ Some c → IsSettled was_idle p c m h.pass w x → StandsOn l m → SettlesAt p h (home_turned h p x m w h.refused)
+  place_settled w x conn c e s stands =
+      let there = touched_slot h k amid p t.0 t.1 l m x0 slot at ∙ ap Some e in record {
+        here = λ d e. let same : c ≡ d = (let is : Some (Some c) ≡ Some (Some d) = sym there ∙ e in cc) in
+            subst (λ z. Settles was_idle p z h (home_turned h p x m w h.refused)) same (settles h p l m w x h.refused (touched_there h k amid p t.0 t.1 l m x0 slot at) conn c s);
+        away = λ none. absurd (let is : Some (Some c) ≡ Some None = sym there ∙ none in cc);
+        on = λ rest b. touched_settles h k amid p rest b l m x0 slot at w x conn c e s stands;
+      }
+
 -- ---- the call
 
 -- memory was refused when a block was settled
@@ -407,6 +426,52 @@ amid h = record h { refused = true }
 
 abbrev pub again : Homed → Homed
 again h = record h { refused = false }
+
+-- an item was cut for the connection at a place, and the block of the place was settled
+module _ (h m : Homed) (k : IsSoundHome h) (live : h.refused ≡ false) (p : ℕ) (item : Rx) (comes : ComesTo h p item) (touched : Bool) (c : CutsFor p item (amid h) m touched) where
+  one_cut : CutsIn (amid h) [] item m (p ∷ [])
+  one_cut = (c [] (between_amid h [] k live refl)).0
+
+  pub one_touched : IsTouched p m
+  one_touched = ([], one_cut.between)
+
+  -- memory was refused at the block
+  pub one_refused : (n : Homed) → SameHand m n → SameHand h n
+  one_refused n hand = record { pass = hand.pass ∙ one_cut.cuts.pass; blocks = hand.blocks ∙ ap (map is_some) one_cut.cuts.blocks }
+
+  module _ (n : Homed) (s : SettlesAt p m n) where
+    one_settled : SettlesIn m n []
+    one_settled = s.on [] one_cut.between
+
+    pub one_keeps : IsSoundHome n → IsSoundHome (again n)
+    one_keeps kn = keeps_again n kn one_settled.between
+
+    pub one_stands : StandsMore h item (again n)
+    one_stands items e = let last = one_settled.stands (items ++ item ∷ []) (one_cut.stands items (record { ended = e.ended; links = e.links })) in record { ended = last.ended; links = last.links }
+
+    pub one_ended : n.ended ≡ (h.ended || is_end item)
+    one_ended = one_settled.ended ∙ one_cut.cuts.ended
+
+    -- what was done with the block that was there, from before the cut
+    one_here : (b : Blocked) → slice_get h.blocks p ≡ Some (Some b) → Settles was_idle p b h (again n)
+    one_here b there =
+        let cuts = one_cut.cuts in
+        let at = s.here b (ap (λ bs. slice_get bs p) cuts.blocks ∙ there) in
+        let past : Settles was_idle p b (record h { pass = m.pass; blocks = m.blocks }) (again n) = record { block = at.block; met = at.met; event = at.event; makes = at.makes; idle = at.idle; knows = at.knows; behind = at.behind } in
+        subst (λ z. Settles was_idle p b z (again n)) (λ i. record h { pass = cuts.pass i; blocks = cuts.blocks i }) past
+
+    pub one_forwards : Forwards h (again n) item
+    one_forwards = record {
+      here = λ q b to there. let same = comes_once h k p q item comes to in
+          subst (λ z. Settles was_idle z b h (again n)) (sym same) (one_here b (ap (slice_get h.blocks) (sym same) ∙ there));
+      away = λ q to none.
+          let cuts = one_cut.cuts in
+          let is = s.away (ap (λ bs. slice_get bs p) cuts.blocks ∙ ap (slice_get h.blocks) (sym (comes_once h k p q item comes to)) ∙ none) in (
+            ap (λ (z : Homed). z.pass) is ∙ cuts.pass,
+            ap (λ (z : Homed). z.blocks) is ∙ cuts.blocks,
+            λ link e. cuts.away q (comes_same h (amid h) q item refl refl to) none link (ap (λ (z : Homed). slice_get z.links q) (sym is) ∙ e),
+          );
+    }
 
 module _ (h m n : Homed) (o o1 o2 : Taking) (first : Rx) (touched : List ℕ) (count : ℕ) (live : h.refused ≡ false) (before : o1.taken ≡ o.taken ++ first ∷ []) (c : CutsFrom first (amid h) o1 m o2 touched count) where
   all_cut : CutsAll first (amid h) o1.taken m o2.taken touched count

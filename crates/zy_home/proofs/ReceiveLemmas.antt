@@ -1,23 +1,19 @@
 -- What a home may have received, and what it did, once it took an item in or dropped it.
 use Rattle.std.specs.Prelude.{◌==◌, if◌then◌else◌}
-use Rattle.std.proofs.Common.{◌≡◌, ◌≢◌, ℕ, List, [], ◌∷◌, ◌++◌, set, get_or, Bool, true, false, Option, Some, None, slice_get, refl, sym, ap, ◌∙◌, subst, ne_eqb}
-use Rattle.zy_table.proofs.SliceLemmas.{set_there, get_set_same}
+use Rattle.std.proofs.Common.{◌≡◌, ◌≢◌, ℕ, List, [], ◌∷◌, ◌++◌, Bool, true, false, Option, Some, None, slice_get, refl, sym, ap, ◌∙◌, subst, ne_eqb}
 use Rattle.zy_rx.specs.declared.rx.Rx.{Rx}
 use Rattle.zy_rx.specs.declared.rx.Rx.TheVariants.{Segment, Close, End}
 use Rattle.zy_rx.specs.Session.{Sessions, no_sessions, with_bytes, with_close, takes_in, received_by}
 use Rattle.zy_rx.proofs.SessionLemmas.{sessions-push}
-use Rattle.zy_shuffle.specs.Run.{was_idle}
 use Rattle.zy_shuffle.specs.Pass.{Held}
 use Rattle.zy_conn.specs.Block.{Blocked}
 use Rattle.zy_home.specs.Link.{Link, LinkStands, IsFor, TakesIn, conn_of}
-use Rattle.zy_home.specs.Offer.{WaitsFull}
-use Rattle.zy_home.specs.Own.{IsOwn, IsOfOthers, IsRising, item_conn, is_end}
-use Rattle.zy_home.specs.Home.{Homed, IsSoundHome, SameHome, StandsMore, conns_in}
-use Rattle.zy_home.specs.Place.{ComesTo, Forwards, SameHand, Settles}
-use Rattle.zy_home.specs.Turn.{IsFed, IsUnfed, Turns, home_turned}
+use Rattle.zy_home.specs.Own.{IsOwn, IsOfOthers, item_conn, is_end}
+use Rattle.zy_home.specs.Home.{Homed, IsSoundHome, StandsMore}
+use Rattle.zy_home.specs.Place.{ComesTo, Forwards}
+use Rattle.zy_home.specs.Turn.{Turns, home_turned}
 use Rattle.zy_home.proofs.OwnLemmas.{own_is, own_rises, conn_at, rising_apart}
 use Rattle.zy_home.proofs.TurnLemmas.{turned_more}
-use Rattle.zy_home.proofs.SettleLemmas.{Stepped, stepped, settles, same_hand, fed_link, fed_slot, fed_step, unfed_step}
 
 -- ---- what an item does to the sessions of a connection
 
@@ -98,6 +94,10 @@ link_own h k p l e = own_is h.core h.cores h.count p (conn_of l) (ap (λ ns. sli
 pub apart : (h : Homed) → IsSoundHome h → (p q : ℕ) (l m : Link) → slice_get h.links p ≡ Some l → slice_get h.links q ≡ Some m → conn_of l ≡ conn_of m → p ≡ q
 apart h k p q l m = rising_apart h.links (λ p q a b ea eb. own_rises h.core h.cores h.count p q a b (ap (λ ns. slice_get ns p) (sym k.conns) ∙ ea) (ap (λ ns. slice_get ns q) (sym k.conns) ∙ eb)) p q l m
 
+-- an item comes to one place
+pub comes_once : (h : Homed) → IsSoundHome h → (p q : ℕ) (item : Rx) → ComesTo h p item → ComesTo h q item → q ≡ p
+comes_once h k p q item c d = apart h k q p d.link c.link d.there c.there (let one = for_is (conn_of d.link) item d.own in let two = for_is (conn_of c.link) item c.own in cc)
+
 -- ---- what the home may have received
 
 -- the item is of no connection of the home
@@ -137,51 +137,3 @@ more_at h p x l m w r t k live item own takes items s =
 -- the item is for no place
 pub forwards_none : (h h' : Homed) (item : Rx) → ((p : ℕ) → ComesTo h p item → ⊥) → Forwards h h' item
 forwards_none h h' item none = record { here = λ p b comes at. absurd (none p comes); away = λ p comes at. absurd (none p comes) }
-
--- it is for a place, where it was received
-module _ (h : Homed) (k : IsSoundHome h) (p : ℕ) (x : Option Blocked) (l m : Link) (w : Held Blocked) (r : Bool) (item : Rx) (there : slice_get h.links p ≡ Some l) (conn : conn_of m ≡ conn_of l) (own : IsFor (conn_of l) item) where
-  place_is : (q : ℕ) → ComesTo h q item → q ≡ p
-  place_is q c = apart h k q p c.link l c.there there (let one = for_is (conn_of c.link) item c.own in let two = for_is (conn_of l) item own in cc)
-
-  here_at : (x0 : Option Blocked) (b : Blocked) → x0 ≡ Some b → IsFed p l m h.pass w x0 x → Settles was_idle p b h (home_turned h p x m w r)
-  here_at (Some c) b is fed = let same : c ≡ b = cc in subst (λ z. Settles was_idle p z h (home_turned h p x m w r)) same (settles h p l m w x r there conn c fed)
-  here_at None b is fed = absurd (cc)
-
-  away_at : (x0 : Option Blocked) → x0 ≡ None → slice_get h.blocks p ≡ Some x0 → IsFed p l m h.pass w x0 x → (w ≡ h.pass) × (set h.blocks p x ≡ h.blocks) × ((n : Link) → slice_get (set h.links p m) p ≡ Some n → WaitsFull n)
-  away_at (Some c) is slot fed = absurd (cc)
-  away_at None is slot fed = (fed.0, ap (set h.blocks p) fed.1 ∙ set_there h.blocks p None slot, λ n e. subst WaitsFull (get_set_same h.links p m n e) fed.3)
-
-  pub forwards_at : (x0 : Option Blocked) → slice_get h.blocks p ≡ Some x0 → IsFed p l m h.pass w x0 x → Forwards h (home_turned h p x m w r) item
-  forwards_at x0 slot fed = record {
-    here = λ q b comes at. let same = place_is q comes in subst (λ z. Settles was_idle z b h (home_turned h p x m w r)) (sym same) (here_at x0 b (let one = ap (slice_get h.blocks) (sym same) ∙ at in cc) fed);
-    away = λ q comes at. let same = place_is q comes in let r = away_at x0 (let one = ap (slice_get h.blocks) (sym same) ∙ at in cc) slot fed in
-        (r.0, r.1, λ n e. r.2 n (ap (slice_get (set h.links p m)) (sym same) ∙ e));
-  }
-
--- ---- whole steps
-
--- the result of receiving an item
-pub record Received (h h' : Homed) (item : Rx) : Type 0 where
-  pub keeps : IsSoundHome h'
-  pub same : SameHome h h'
-  pub stands : StandsMore h item h'
-  pub forwards : Forwards h h' item
-
-module _ (h : Homed) (k : IsSoundHome h) (p : ℕ) (item : Rx) (comes : ComesTo h p item) (l m : Link) (w : Held Blocked) (x0 x : Option Blocked) (slot : x0 ≡ get_or h.blocks p x0) (at : l ≡ get_or h.links p l) where
-  -- the item is for the connection at this place
-  pub comes_own : IsFor (conn_of l) item
-  comes_own = subst (λ (z : Link). IsFor (conn_of z) item) (sym (fed_link h k p comes.link l m w x0 x comes.there slot at)) comes.own
-
-  pub received : (r : Bool) → (r ≡ false → h.refused ≡ false) → conn_of m ≡ conn_of l → IsFed p l m h.pass w x0 x → TakesIn item l m → Received h (home_turned h p x m w r) item
-  received r live conn s takes =
-      let t = fed_step h k p comes.link l m w x0 x comes.there slot at r live conn s in
-      let e = stepped h p x l m w r k t in record {
-        keeps = e.keeps;
-        same = e.same;
-        stands = more_at h p x l m w r t k comes.live item comes_own takes;
-        forwards = forwards_at h k p x l m w r item t.there conn comes_own x0 (fed_slot h k p comes.link l m w x0 x comes.there slot at) s;
-      }
-
-  -- memory was refused
-  pub unreceived : conn_of m ≡ conn_of l → IsUnfed h.pass w x0 x → Stepped h (home_turned h p x m w true) l m × SameHand h (home_turned h p x m w true)
-  unreceived conn s = (unfed_step h k p comes.link l m w x0 x comes.there slot at conn s, same_hand h p m w x x0 true (fed_slot h k p comes.link l m w x0 x comes.there slot at) s)

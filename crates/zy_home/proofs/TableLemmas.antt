@@ -1,10 +1,10 @@
 -- The table of a core's connections, with one further connection, and the places that it has.
-use Rattle.std.proofs.Common.{◌≡◌, ◌≢◌, ℕ, zero, suc, ◌+◌, List, [], ◌∷◌, ◌++◌, length, Bool, false, Option, None, Some, slice_get, get_or, ◌<◌, ◌≤◌, refl, sym, ap, ◌∙◌, subst, ⊎_elim, inl, inr}
+use Rattle.std.proofs.Common.{◌≡◌, ◌≢◌, ℕ, zero, suc, ◌+◌, List, [], ◌∷◌, ◌++◌, length, false, Option, None, Some, slice_get, ◌≤◌, refl, sym, ap, ◌∙◌, subst, ⊎_elim, inl, inr}
 use Rattle.std.specs.Prelude.{◌⊎◌, IfSome, IfNone}
 use Rattle.std.proofs.lemmas.Option.{slice_get_past}
 use Rattle.zy_rx.specs.declared.rx.Rx.{Rx}
 use Rattle.zy_rx.specs.Flow.{home_of}
-use Rattle.zy_home.specs.Link.{Link, IsFor, conn_of}
+use Rattle.zy_home.specs.Link.{Link, conn_of}
 use Rattle.zy_home.specs.Own.{IsTable, own_conns, item_conn}
 use Rattle.zy_home.specs.Home.{Homed, IsSoundHome, conns_in}
 use Rattle.zy_home.specs.Place.{ComesTo}

@@ -60,7 +60,7 @@ module _ (h : Homed) (p : ℕ) (x : Option Blocked) (l m : Link) (w : Held Block
     label = t.pass.label;
     out = t.pass.out;
     conns = turned_conns;
-    once = t.pass.once;
+    few = t.pass.once;
   }
 
   -- the connection may have received what it may have received before

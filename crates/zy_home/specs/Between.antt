@@ -1,14 +1,16 @@
 -- A home while it receives items in one call. No public clause cites this module.
-use Rattle.std.specs.Prelude.{◌≡◌, ℕ, ◌+◌, ◌<◌, ◌≤◌, List, [], ◌∷◌, ◌++◌, length, true, false, Option, Some, None, slice_get}
+use Rattle.std.specs.Prelude.{◌≡◌, ℕ, ◌+◌, ◌<◌, ◌≤◌, List, [], ◌∷◌, ◌++◌, length, Bool, true, false, Option, Some, None, slice_get}
 use Rattle.zy_table.specs.Member.{is_in}
 use Rattle.zy_rx.specs.declared.rx.Rx.{Rx}
 use Rattle.zy_rx.specs.Ring.{Taking}
+use Rattle.zy_shuffle.specs.Run.{was_idle}
 use Rattle.zy_shuffle.specs.Pass.{Held}
 use Rattle.zy_conn.specs.Block.{Blocked}
 use Rattle.zy_home.specs.Link.{Link}
 use Rattle.zy_home.specs.Idle.{IsIdleWith, due_mark, mark_in}
-use Rattle.zy_home.specs.Home.{Homed, IsAt, StandsHome, StandsMore}
-use Rattle.zy_home.specs.Items.{CutsOne, CutsEach, SameFor, SameParts, SettlesEach, StandsAll}
+use Rattle.zy_home.specs.Home.{Homed, IsAt, StandsHome, StandsMore, SameFor}
+use Rattle.zy_home.specs.Place.{Settles}
+use Rattle.zy_home.specs.Items.{CutsOne, CutsEach, SameParts, SettlesEach, StandsAll}
 
 -- ---- places
 
@@ -38,6 +40,12 @@ pub record CutsIn (h : Homed) (touched : List ℕ) (item : Rx) (h' : Homed) (tou
   pub room : length touched' ≤ length touched + 1
   pub still : h.ended ≡ true → (h' ≡ h) × (touched' ≡ touched)
 
+-- an item was cut for the connection at a place, whichever places were touched before. If the answer is `false`, the
+-- place need not be touched
+abbrev pub CutsFor : ℕ → Rx → Homed → Homed → Bool → Type 0
+CutsFor place item h h' touched = (before : List ℕ) → Between h before
+    → CutsIn h before item h' (before ++ place ∷ []) × (touched ≡ false → CutsIn h before item h' before)
+
 -- this item, and those that were taken after it, were cut
 pub record CutsAll (first : Rx) (h : Homed) (taken : List Rx) (h' : Homed) (taken' : List Rx) (touched' : List ℕ)
     (count : ℕ) : Type 0 where
@@ -65,6 +73,16 @@ pub record SettlesIn (h h' : Homed) (rest : List ℕ) : Type 0 where
   pub ended : h'.ended ≡ h.ended
   pub chain : (places : List ℕ) (last : Homed) → SettlesEach h' places last
       → (all : List ℕ) × SettlesEach h all last
+
+-- the block of a place may be settled, whatever other places were touched
+abbrev pub IsTouched : ℕ → Homed → Type 0
+IsTouched place h = (rest : List ℕ) × Between h (place ∷ rest)
+
+-- the block of a place was settled, if it was in the hand, whichever places are left
+pub record SettlesAt (place : ℕ) (h h' : Homed) : Type 0 where
+  pub here : (block : Blocked) → slice_get h.blocks place ≡ Some (Some block) → Settles was_idle place block h h'
+  pub away : slice_get h.blocks place ≡ Some None → h' ≡ h
+  pub on : (rest : List ℕ) → Between h (place ∷ rest) → SettlesIn h h' rest
 
 -- blocks were settled, and what is done later follows that
 pub record SettlesOn (h h' : Homed) (rest : List ℕ) (most : ℕ) : Type 0 where

@@ -92,8 +92,8 @@ StandsHome h h' = (items : List Rx) → HomeStands h items → HomeStands h' ite
 abbrev pub StandsMore : Homed → Rx → Homed → Type 0
 StandsMore h item h' = (items : List Rx) → HomeStands h items → HomeStands h' (items ++ item ∷ [])
 
--- what no call changes; and it publishes once at most
-pub record SameHome (h h' : Homed) : Type 0 where
+-- what no call changes; and the home publishes at most this number of times
+pub record SameFor (most : ℕ) (h h' : Homed) : Type 0 where
   pub core : h'.core ≡ h.core
   pub cores : h'.cores ≡ h.cores
   pub count : h'.count ≡ h.count
@@ -101,4 +101,8 @@ pub record SameHome (h h' : Homed) : Type 0 where
   pub label : h'.pass.label ≡ h.pass.label
   pub out : h'.pass.out ≡ h.pass.out
   pub conns : conns_in h'.links ≡ conns_in h.links
-  pub once : h'.pass.count ≤ h.pass.count + 1
+  pub few : h'.pass.count ≤ h.pass.count + most
+
+-- what no call changes; and the home publishes once at most
+abbrev pub SameHome : Homed → Homed → Type 0
+SameHome h h' = SameFor 1 h h'

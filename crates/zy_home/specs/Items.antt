@@ -7,7 +7,7 @@ use Rattle.zy_conn.specs.Block.{Blocked}
 use Rattle.zy_home.specs.Link.{Link}
 use Rattle.zy_home.specs.Offer.{WaitsFull}
 use Rattle.zy_home.specs.Own.{is_end}
-use Rattle.zy_home.specs.Home.{Homed, HomeStands, conns_in}
+use Rattle.zy_home.specs.Home.{Homed, HomeStands}
 use Rattle.zy_shuffle.specs.Run.{was_idle}
 use Rattle.zy_home.specs.Place.{ComesTo, SameHand, Settles}
 
@@ -49,17 +49,6 @@ SettlesEach h (place ∷ places) h' = (next : Homed) × SettlesHere place h next
 -- whatever the home may have received, it may now have received these items too
 abbrev pub StandsAll : Homed → List Rx → Homed → Type 0
 StandsAll h items h' = (earlier : List Rx) → HomeStands h earlier → HomeStands h' (earlier ++ items)
-
--- what no number of publications up to this one changes
-pub record SameFor (most : ℕ) (h h' : Homed) : Type 0 where
-  pub core : h'.core ≡ h.core
-  pub cores : h'.cores ≡ h.cores
-  pub count : h'.count ≡ h.count
-  pub table : h'.pass.table ≡ h.pass.table
-  pub label : h'.pass.label ≡ h.pass.label
-  pub out : h'.pass.out ≡ h.pass.out
-  pub conns : conns_in h'.links ≡ conns_in h.links
-  pub few : h'.pass.count ≤ h.pass.count + most
 
 -- this number of items was taken from the outlet and received: they were cut in their order, and then blocks were
 -- settled. Fewer than 64 were taken only if no further item was known after the last look

@@ -11,7 +11,7 @@ use Rattle.zy_conn.specs.Ring.{EventInlet}
 
 -- ---- values
 
--- the end of its event ring that frames are offered to, what its framer is in the middle of, the frames that wait,
+-- the end of its event ring that frames are offered to, its unfinished frame, the frames that wait,
 -- the ends of its closed sessions, how many frames were cut, and its output
 pub record Link : Type 0 where
   pub inlet : EventInlet

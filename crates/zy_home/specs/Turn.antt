@@ -2,12 +2,12 @@
 use Rattle.std.specs.Prelude.{◌≡◌, ◌≢◌, ℕ, ◌+◌, ◌≤◌, true, false, Bool, Option, Some, None, slice_get, slice_set}
 use Rattle.zy_table.specs.Member.{is_in}
 use Rattle.zy_shuffle.specs.Hand.{marked}
-use Rattle.zy_shuffle.specs.Run.{Before, was_idle}
+use Rattle.zy_shuffle.specs.Run.{Before}
 use Rattle.zy_shuffle.specs.Pass.{Held, PublishMakes, after_publish}
 use Rattle.zy_conn.specs.Work.{has_event}
 use Rattle.zy_conn.specs.Block.{Blocked, label_in}
 use Rattle.zy_home.specs.Link.{Link, conn_of}
-use Rattle.zy_home.specs.Offer.{WaitsBehind, WaitsFull}
+use Rattle.zy_home.specs.Offer.{WaitsBehind}
 use Rattle.zy_home.specs.Idle.{IsIdleWith, due_mark, mark_in}
 use Rattle.zy_home.specs.Home.{Homed, IsAt, IsHere}
 use Rattle.zy_home.specs.Place.{MeetsInlet, KnowsAll}
@@ -42,23 +42,6 @@ pub record IsPutBack (pass pass' : Held Blocked) (slot' : Option Blocked) : Type
   pub label : label_in block ≡ pass.label
   pub pass_is : pass' ≡ pass
   pub slot_is : slot' ≡ Some block
-
--- the rule of a place in a home that was not refused memory
-pub record IsPlace (pass : Held Blocked) (place : ℕ) (link : Link) (slot : Option Blocked) : Type 0 where
-  pub here : (block : Blocked) → slot ≡ Some block → IsHere pass place block
-  pub at : IsAt pass place link slot
-
--- an item was received. If the block is in its slot, it was idle and was settled; if it is away, nothing was
--- published, the frames that wait were offered, and the expected mark is the same
-abbrev pub IsFed : ℕ → Link → Link → Held Blocked → Held Blocked → Option Blocked → Option Blocked → Type 0
-IsFed place link link' pass pass' (Some block) slot' = IsSettled was_idle place block link' pass pass' slot'
-IsFed place link link' pass pass' None slot' =
-    (pass' ≡ pass) × (slot' ≡ None) × (due_mark link' ≡ due_mark link) × WaitsFull link'
-
--- memory was refused: nothing was published, and the block is in its slot where it was
-abbrev pub IsUnfed : Held Blocked → Held Blocked → Option Blocked → Option Blocked → Type 0
-IsUnfed pass pass' (Some block) slot' = IsPutBack pass pass' slot'
-IsUnfed pass pass' None slot' = (pass' ≡ pass) × (slot' ≡ None)
 
 -- ---- the home
 

@@ -5,7 +5,7 @@ ghost use Rattle.zy_home.specs.Offer.{WaitsFull};
 ghost use Rattle.zy_home.specs.Idle.{due_mark};
 ghost use Rattle.zy_home.specs.Own.{IsRising, is_end, item_conn};
 ghost use Rattle.zy_home.specs.Home.{conns_in};
-ghost use Rattle.zy_home.specs.Turn.{IsDue, IsSettled, IsPutBack, IsPlace, IsFed, IsUnfed};
+ghost use Rattle.zy_home.specs.Turn.{IsDue, IsSettled, IsPutBack};
 ghost use Rattle.zy_home.specs.Between.{StaysIdle};
 
 use crate::link::Link;
@@ -13,7 +13,7 @@ use std::mem;
 use zy_base::NoMemory;
 use zy_conn::Block;
 use zy_rx::Rx;
-use zy_shuffle::{HomePass, Publishing, Ring, WasIdle};
+use zy_shuffle::{HomePass, Publishing, Ring};
 
 // The connection of an item; the end has none.
 pub(crate) fn conn_in(item: &Rx) -> Option<u32>
@@ -72,35 +72,6 @@ pub(crate) fn settle_at<B: Publishing>(
         Err(e) => {
             put(slot, Some(block));
             Err(e)
-        }
-    }
-}
-
-// Receives an item for the connection. Its block is settled if it is in its slot; if it is away,
-// the frames that wait are offered.
-pub(crate) fn feed_at(
-    ring: &Ring<Block>,
-    pass: &mut HomePass<Block>,
-    slot: &mut Option<Block>,
-    link: &mut Link,
-    place: u32,
-    item: &Rx,
-) -> Result<(), NoMemory>
-    requires table { pass.old.table ≡ ring.now.id }
-    requires few { pass.old.count < 2 ^ 63 }
-    requires at { IsPlace pass.old place link.old slot.old }
-    requires own { IsFor (conn_of link.old) item.now }
-    ensures ok { OnOk result (IsFed place link.old link.new pass.old pass.new slot.old slot.new) }
-    ensures err { OnErr result (IsUnfed pass.old pass.new slot.old slot.new) }
-    ensures takes { OnOk result (TakesIn item.now link.old link.new) }
-    ensures conn { conn_of link.new ≡ conn_of link.old }
-{
-    link.receive(item)?;
-    match mem::replace(slot, None) {
-        Some(block) => settle_at::<WasIdle>(ring, pass, slot, link, place, block),
-        None => {
-            link.offer_waiting();
-            Ok(())
         }
     }
 }

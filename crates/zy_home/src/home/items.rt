@@ -1,10 +1,10 @@
 //! Receiving many items in one call.
-ghost use Rattle.std.specs.Prelude.{◌≡◌, ◌+◌, ◌<◌, ◌≤◌, ◌^◌, [], true, false, length, drop, is_err};
+ghost use Rattle.std.specs.Prelude.{◌≡◌, ◌<◌, ◌≤◌, ◌^◌, [], true, false, length, is_err};
 ghost use Rattle.std.specs.Prelude.{OnOk, OnErr, IfOk, Ok};
-ghost use Rattle.zy_home.specs.Home.{SameHome};
+ghost use Rattle.zy_home.specs.Home.{SameHome, SameFor};
 ghost use Rattle.zy_home.specs.Place.{ComesTo, SameHand};
-ghost use Rattle.zy_home.specs.Items.{ReceivesAll, RefusedAmid, SameFor};
-ghost use Rattle.zy_home.specs.Between.{Between, CutsFrom, CutsIn, SettlesIn, SettlesOn};
+ghost use Rattle.zy_home.specs.Items.{ReceivesAll, RefusedAmid};
+ghost use Rattle.zy_home.specs.Between.{Between, CutsFor, CutsFrom, CutsIn, IsTouched, SettlesAt, SettlesOn};
 
 use super::Home;
 use crate::place::{cut_at, ended_by, settle_at};
@@ -101,7 +101,11 @@ impl Home {
         ensures same { SameFor 0 self.old self.new × (self.new.refused ≡ true) }
     {
         match self.place_for(item) {
-            Some(at) => self.cut_for(at, item, touched),
+            Some(at) => match self.cut_for(at, item) {
+                Ok(true) => touched.push(at),
+                Ok(false) => Ok(()),
+                Err(e) => Err(e),
+            },
             None => {
                 self.ended = ended_by(self.ended, item);
                 Ok(())
@@ -109,25 +113,16 @@ impl Home {
         }
     }
 
-    // Cuts an item for the connection at a place.
-    fn cut_for(&mut self, at: usize, item: &Rx, touched: &mut Touched) -> Result<(), NoMemory>
+    // Cuts an item for the connection at a place. Says whether its block is in the slot and was idle
+    // until now, and a frame waits for it.
+    pub(super) fn cut_for(&mut self, at: usize, item: &Rx) -> Result<bool, NoMemory>
         requires amid { self.old.refused ≡ true }
-        requires between { Between self.old touched.old }
-        requires few { length touched.old < 64 }
         requires comes { ComesTo self.old at item.now }
-        ensures value { OnOk result (CutsIn self.old touched.old item.now self.new touched.new) }
+        ensures value { IfOk result (CutsFor at item.now self.old self.new) }
         ensures err { OnErr result (SameHand self.old self.new) }
         ensures same { SameFor 0 self.old self.new × (self.new.refused ≡ true) }
     {
-        match cut_at(&self.blocks[at], &mut self.links[at], item) {
-            Ok(true) => {}
-            Ok(false) => return Ok(()),
-            Err(e) => return Err(e),
-        }
-        if let Err(e) = touched.push(at) {
-            return Err(e);
-        }
-        Ok(())
+        cut_at(&self.blocks[at], &mut self.links[at], item)
     }
 
     // Settles the blocks of the places that were touched.
@@ -143,32 +138,25 @@ impl Home {
         ensures same { SameFor 64 self.old self.new × (self.new.refused ≡ true) }
     {
         for at in 0..touched.items().len() {
-            if let Err(e) = self.settle_touched(ring, touched, at) {
+            if let Err(e) = self.settle_place(ring, touched.items()[at]) {
                 return Err(e);
             }
         }
         Ok(())
     }
 
-    // Settles the block of a touched place, if it is in its slot.
-    fn settle_touched(
-        &mut self,
-        ring: &Ring<Block>,
-        touched: &Touched,
-        at: usize,
-    ) -> Result<(), NoMemory>
+    // Settles the block of a place, if it is in its slot.
+    pub(super) fn settle_place(&mut self, ring: &Ring<Block>, place: usize) -> Result<(), NoMemory>
         requires table { self.old.pass.table ≡ ring.now.id }
         requires few { self.old.pass.count < 2 ^ 63 }
         requires amid { self.old.refused ≡ true }
-        requires between { Between self.old (drop at touched.now) }
-        requires at { at < length touched.now }
-        ensures value { OnOk result (SettlesIn self.old self.new (drop (at + 1) touched.now)) }
+        requires touched { IsTouched place self.old }
+        ensures value { OnOk result (SettlesAt place self.old self.new) }
         ensures err { OnErr result (SameHand self.old self.new) }
         ensures same { SameHome self.old self.new × (self.new.refused ≡ true) }
     {
         // The call tells the prover that the places are the slots of the ring's table, at most 4096.
         let _places = ring.places();
-        let place = touched.items()[at];
         let (pass, slot, link) = (
             &mut self.pass,
             &mut self.blocks[place],

@@ -1,14 +1,11 @@
 //! Receiving items.
-ghost use Rattle.std.specs.Prelude.{◌≡◌, ◌<◌, ◌^◌, ◌||◌, ℕ, IfSome, IfNone, List, [], ◌∷◌, ◌++◌, true, false, Ok, OnOk, OnErr, is_err, Some, slice_get, length};
-ghost use Rattle.zy_rx.specs.declared.rx.Rx.{Rx};
-ghost use Rattle.zy_rx.specs.Session.{received_by};
-ghost use Rattle.zy_home.specs.Link.{Link, IsFor, conn_of};
+ghost use Rattle.std.specs.Prelude.{◌≡◌, ◌<◌, ◌^◌, ◌||◌, ℕ, IfSome, IfNone, true, false, Ok, OnOk, OnErr, is_err};
 ghost use Rattle.zy_home.specs.Own.{IsOfOthers, is_end};
-ghost use Rattle.zy_home.specs.Home.{HomeStands, IsSoundHome, SameHome, StandsMore};
+ghost use Rattle.zy_home.specs.Home.{IsSoundHome, SameHome, StandsMore};
 ghost use Rattle.zy_home.specs.Place.{Forwards, SameHand, ComesTo};
 
 use super::Home;
-use crate::place::{conn_in, ended_by, feed_at};
+use crate::place::{conn_in, ended_by};
 use zy_base::NoMemory;
 use zy_conn::Block;
 use zy_rx::Rx;
@@ -39,31 +36,23 @@ impl Home {
         ensures refused { self.new.refused ≡ is_err result }
         ensures err { OnErr result (SameHand self.old self.new) }
     {
-        self.take_in(ring, &item)
-    }
-
-    // Receives an item.
-    fn take_in(&mut self, ring: &Ring<Block>, item: &Rx) -> Result<(), NoMemory>
-        requires table { self.old.pass.table ≡ ring.now.id }
-        requires few { self.old.pass.count < 2 ^ 63 }
-        requires live { self.old.refused ≡ false }
-        ensures stands { OnOk result (StandsMore self.old item.now self.new) }
-        ensures ended { OnOk result (self.new.ended ≡ (self.old.ended || is_end item.now)) }
-        ensures forwards { OnOk result (Forwards self.old self.new item.now) }
-        ensures still { self.old.ended ≡ true → (result ≡ Ok tt) × (self.new ≡ self.old) }
-        ensures others { IsOfOthers self.old.core self.old.cores self.old.count item.now
-            → (result ≡ Ok tt) × (self.new ≡ self.old) }
-        ensures same { SameHome self.old self.new }
-        ensures refused { self.new.refused ≡ is_err result }
-        ensures err { OnErr result (SameHand self.old self.new) }
-    {
-        match self.place_for(item) {
-            Some(at) => self.receive_at(ring, at, item),
-            None => {
-                self.ended = ended_by(self.ended, item);
-                Ok(())
-            }
+        let Some(at) = self.place_for(&item) else {
+            self.ended = ended_by(self.ended, &item);
+            drop(item);
+            return Ok(());
+        };
+        // Until the block is settled, the home is as one that was refused memory.
+        self.refused = true;
+        let cut = self.cut_for(at, &item);
+        drop(item);
+        if let Err(e) = cut {
+            return Err(e);
         }
+        if let Err(e) = self.settle_place(ring, at) {
+            return Err(e);
+        }
+        self.refused = false;
+        Ok(())
     }
 
     // The place of the connection that an item is for; `None` where the item is dropped or the end.
@@ -78,30 +67,6 @@ impl Home {
         match conn_in(item) {
             Some(conn) => self.places.place_of(conn),
             None => None,
-        }
-    }
-
-    // Receives an item for the connection at a place.
-    fn receive_at(&mut self, ring: &Ring<Block>, at: usize, item: &Rx) -> Result<(), NoMemory>
-        requires table { self.old.pass.table ≡ ring.now.id }
-        requires few { self.old.pass.count < 2 ^ 63 }
-        requires live { self.old.refused ≡ false }
-        requires comes { ComesTo self.old at item.now }
-        ensures stands { OnOk result (StandsMore self.old item.now self.new) }
-        ensures forwards { OnOk result (Forwards self.old self.new item.now) }
-        ensures same { SameHome self.old self.new × (self.new.ended ≡ self.old.ended) }
-        ensures refused { self.new.refused ≡ is_err result }
-        ensures err { OnErr result (SameHand self.old self.new) }
-    {
-        // The call tells the prover that the places are the slots of the ring's table, at most 4096.
-        let _places = ring.places();
-        let (pass, slot, link) = (&mut self.pass, &mut self.blocks[at], &mut self.links[at]);
-        match feed_at(ring, pass, slot, link, at as u32, item) {
-            Ok(()) => Ok(()),
-            Err(e) => {
-                self.refused = true;
-                Err(e)
-            }
         }
     }
 }

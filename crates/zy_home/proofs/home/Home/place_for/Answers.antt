@@ -1,5 +1,4 @@
-use Rattle.std.proofs.Common.{sym, ◌∙◌, ap}
-use Rattle.zy_home.specs.Home.{Homed}
+use Rattle.std.proofs.Common.{sym, ◌∙◌}
 use Rattle.zy_home.proofs.TableLemmas.{place_found, place_missed}
 use Rattle.zy_home.proofs.home.Home.place_for.Goals as goal
 

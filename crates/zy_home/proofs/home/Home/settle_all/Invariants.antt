@@ -1,6 +1,6 @@
 use Rattle.std.proofs.Common.{◌≡◌, drop, true}
 use Rattle.zy_home.specs.Between.{SettlesIn}
-use Rattle.zy_home.specs.Items.{SameFor}
+use Rattle.zy_home.specs.Home.{SameFor}
 use Rattle.zy_home.proofs.home.Home.settle_all.Given as goal
 
 abbrev pub invariant-loop-at : goal.invariant-loop-at

@@ -1,4 +1,4 @@
-use Rattle.std.proofs.Common.{◌≡◌, ◌≢◌, ◌+◌, ℕ, List, [], ◌∷◌, ◌++◌, length, Option, None, Some, sym, ap, ◌∙◌, subst, arith, length-append}
+use Rattle.std.proofs.Common.{◌≡◌, ◌≢◌, ◌+◌, ℕ, List, [], ◌∷◌, length, Option, None, Some, sym, ap, ◌∙◌, subst, arith, length-append}
 use Rattle.zy_rx.specs.Flow.{home_of}
 use Rattle.zy_home.specs.Own.{IsTable, own_conns}
 use Rattle.zy_home.proofs.OwnLemmas.{own-here, own-else}
