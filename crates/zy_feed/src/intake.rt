@@ -47,10 +47,7 @@ impl Intake {
             StopsIntakeBy S.rest S.faults source.old source.new stop) }
         ensures count { S.faults source.old ≤ S.faults source.new }
     {
-        let mut intake = match Intake::new(alloc) {
-            Ok(intake) => intake,
-            Err(NoMemory) => return Err(Stop::NoMemory),
-        };
+        let mut intake = Intake::new(alloc)?;
         match intake.read_header(source) {
             Ok(header) => Ok((intake, header)),
             Err(stop) => Err(stop),
@@ -99,13 +96,9 @@ impl Intake {
         ensures none { IfNone result ((given : List Record) (b : List ℕ)
             → StandsForRecords self.now.reader given b → TellsNoHeader b) }
     {
-        match self.reader.version() {
-            None => None,
-            Some(version) => match self.reader.count() {
-                None => None,
-                Some(count) => Some(Header { version, count }),
-            },
-        }
+        let version = self.reader.version()?;
+        let count = self.reader.count()?;
+        Some(Header { version, count })
     }
 
     /// Cuts the next record, for which it reads as many pieces as it needs; `None` if the capture
