@@ -40,25 +40,27 @@ closed_judged s at conn below few = ap (λ (n : ℕ). judge_closed s at n) (numb
 zero_no : (n : ℕ) → 0 < n → (n == 0) ≡ false
 zero_no n some = grind (arith, nat_tests)
 
-length_judged : (s : CaptureState) (at conn size : ℕ) → 0 < size → size ≤ segment_limit → judged (Length conn) s at (to_be_bytes w32 size) ≡ Then (to s (Payload conn (size - 1)))
-length_judged s at conn size some few = ap (λ (n : ℕ). judge_length s conn at n) (number_is size (omega (arith, few))) ∙ rw (le-ltb segment_limit size few, zero_no size some) refl
+length_judged : (s : CaptureState) (at conn size : ℕ) (sizes : List ℕ) → number sizes ≡ size → 0 < size → size ≤ segment_limit → judged (Length conn) s at sizes ≡ Then (to s (Payload conn (size - 1)))
+length_judged s at conn size sizes is some few = ap (λ (n : ℕ). judge_length s conn at n) is ∙ rw (le-ltb segment_limit size few, zero_no size some) refl
 
 count_judged : (s : CaptureState) (at count : ℕ) → count ≤ connection_limit → judged Count s at (to_be_bytes w32 count) ≡ Then (state Tag s.version count)
 count_judged s at count few = ap (λ (n : ℕ). judge_count s n) (number_is count (omega (arith, few))) ∙ rw (le-ltb connection_limit count few) refl
 
 -- ---- records
 
-rest_over : (version count at conn : ℕ) (bytes : List ℕ) → length bytes ≤ segment_limit → Over (state (Length conn) version count) at (to_be_bytes w32 (length bytes) ++ bytes) (state Tag version count) (segment conn bytes ∷ [])
-rest_over version count at conn [] short =
-    subst (λ (l : List ℕ). Over (state (Length conn) version count) at l (state Tag version count) (segment conn [] ∷ [])) (sym (append-nil (to_be_bytes w32 0)))
-    (over_gives fields (state (Length conn) version count) (state Tag version count) (segment conn []) at (to_be_bytes w32 0) refl refl)
-rest_over version count at conn (byte ∷ bytes) short =
+-- the length of a segment, and its bytes
+pub rest_over : (version count at conn : ℕ) (sizes bytes : List ℕ) → length sizes ≡ 4 → number sizes ≡ length bytes → length bytes ≤ segment_limit
+    → Over (state (Length conn) version count) at (sizes ++ bytes) (state Tag version count) (segment conn bytes ∷ [])
+rest_over version count at conn sizes [] four is short =
+    let l : CaptureState = state (Length conn) version count in
+    subst (λ (t : List ℕ). Over l at t (state Tag version count) (segment conn [] ∷ [])) (sym (append-nil sizes))
+    (over_gives fields l (state Tag version count) (segment conn []) at sizes four (ap (λ (n : ℕ). judge_length l conn at n) is))
+rest_over version count at conn sizes (byte ∷ bytes) four is short =
     let size : ℕ = length (byte ∷ bytes) in
     let l : CaptureState = state (Length conn) version count in
     let p : CaptureState = state (Payload conn (size - 1)) version count in
-    over_join fields l p (state Tag version count) at (to_be_bytes w32 size) (byte ∷ bytes) [] (segment conn (byte ∷ bytes) ∷ [])
-    (over_then fields l p at (to_be_bytes w32 size) refl (length_judged l at conn size (omega arith) short))
-    (over_gives fields p (state Tag version count) (segment conn (byte ∷ bytes)) (at + length (to_be_bytes w32 size)) (byte ∷ bytes) (omega arith) refl)
+    over_join fields l p (state Tag version count) at sizes (byte ∷ bytes) [] (segment conn (byte ∷ bytes) ∷ []) (over_then fields l p at sizes four (length_judged l at conn size sizes is (omega arith) short))
+    (over_gives fields p (state Tag version count) (segment conn (byte ∷ bytes)) (at + length sizes) (byte ∷ bytes) (omega arith) refl)
 
 -- the tag of a segment, and its connection
 pub conn_over : (version count at conn : ℕ) → conn < count → count ≤ connection_limit → Over (state Tag version count) at (83 ∷ to_be_bytes w32 conn) (state (Length conn) version count) []
@@ -72,7 +74,8 @@ record_over : (item : Record) (version count at : ℕ) → IsRecordOf version co
 record_over (Kinds.Segment s) version count at is few =
     let conn : List ℕ = 83 ∷ to_be_bytes w32 s.conn in
     over_join fields (state Tag version count) (state (Length s.conn) version count) (state Tag version count) at conn (to_be_bytes w32 (length s.bytes) ++ s.bytes) [] (Kinds.Segment s ∷ [])
-    (conn_over version count at s.conn is.0 few) (rest_over version count (at + length conn) s.conn s.bytes is.1)
+    (conn_over version count at s.conn is.0 few)
+    (rest_over version count (at + length conn) s.conn (to_be_bytes w32 (length s.bytes)) s.bytes refl (number_is (length s.bytes) (let short = is.1 in omega arith)) is.1)
 record_over (Kinds.Close conn) version count at is few =
     let t : CaptureState = state Tag version count in
     let c : CaptureState = state Closed version count in

@@ -1,9 +1,8 @@
 -- A segment that bytes hold whole, fed at once, and the records with which bytes begin.
-use Rattle.std.proofs.Common.{◌≡◌, ◌≢◌, ℕ, ◌+◌, ◌-◌, ◌<◌, ◌≤◌, ◌^◌, List, [], ◌∷◌, ◌++◌, length, take, drop, get_or, refl, sym, ◌∙◌, ap, subst, inl, inr, arith, take-add, length-append, ne_eqb}
+use Rattle.std.proofs.Common.{◌≡◌, ℕ, ◌+◌, ◌<◌, ◌≤◌, ◌^◌, List, [], ◌∷◌, ◌++◌, length, take, drop, get_or, refl, sym, ◌∙◌, ap, subst, inl, inr, arith, take-add, length-append}
 use Rattle.std.specs.Prelude.{◌⊎◌, None}
 use Rattle.std.specs.List.{concat}
 use Rattle.std.proofs.lemmas.List.{append-nil, length-take-le, length-drop, take-append-drop}
-use Rattle.std.proofs.lemmas.Bool.{lt-ltb, le-ltb}
 use Rattle.std.proofs.lemmas.Nat.{be_bytes_4, from_be_bytes-to_be_bytes_4}
 use Rattle.std.specs.Int.{to_be_bytes, w32}
 use Rattle.zy_read.specs.Bytes.{AreBytes}
@@ -11,20 +10,19 @@ use Rattle.zy_read.proofs.ByteLemmas.{byte_at}
 use Rattle.zy_read.specs.Format.{read_on}
 use Rattle.zy_read.specs.Standing.{Feeds, MeetsFault}
 use Rattle.zy_read.specs.Fields.{at_state, step}
-use Rattle.zy_read.specs.Fields.Judged.{Then}
 use Rattle.zy_read.proofs.Feeding.{fed_by, met_by}
 use Rattle.zy_read.proofs.FieldLemmas.{runs_read}
-use Rattle.zy_read.proofs.OverLemmas.{over_then, over_gives, over_join}
+use Rattle.zy_read.proofs.OverLemmas.{over_join}
 use Rattle.zy_capture.specs.declared.record.Record.{Record}
 use Rattle.zy_capture.specs.declared.record.Record.TheVariants as Kinds
-use Rattle.zy_capture.specs.declared.due.Due.TheVariants.{Tag, Length, Payload}
+use Rattle.zy_capture.specs.declared.due.Due.TheVariants.{Tag, Length}
 use Rattle.zy_capture.specs.declared.capture_state.CaptureState.{CaptureState}
 use Rattle.zy_capture.specs.Capture.{spelled, capture_limit, segment_limit}
-use Rattle.zy_capture.specs.Steps.{CaptureProgress, to, number, segment, judged, judge_length, fields, headed}
+use Rattle.zy_capture.specs.Steps.{CaptureProgress, to, number, segment, fields, headed}
 use Rattle.zy_capture.specs.Standing.{IsLengthEnd}
 use Rattle.zy_capture.specs.Whole.{BeginsWithRecord, HasLength, front_conn, front_size, HoldsSegment, TakesSegment}
 use Rattle.zy_capture.specs.Verdict.{captures}
-use Rattle.zy_capture.proofs.PartLemmas.{Over}
+use Rattle.zy_capture.proofs.PartLemmas.{Over, rest_over}
 use Rattle.zy_capture.proofs.WholeLemmas.{lawful}
 use Rattle.zy_capture.proofs.HeadLemmas.{conn_leads, plain, head_fed}
 
@@ -62,25 +60,18 @@ held_text bytes conn size h =
 
 -- ---- a lawful segment
 
-size_judged : (s : CaptureState) (at conn size : ℕ) (bytes : List ℕ) → number bytes ≡ size → 0 < size → size ≤ segment_limit → judged (Length conn) s at bytes ≡ Then (to s (Payload conn (size - 1)))
-size_judged s at conn size bytes is some few = ap (λ (n : ℕ). judge_length s conn at n) is ∙ rw (le-ltb segment_limit size few, ne_eqb size 0 (λ none. absurd (omega arith))) refl
-
 -- its fields lead back to the tag of a record, and give it
-segment_leads : (s : CaptureState) (at size : ℕ) (conn sizes payload : List ℕ) → s.due ≡ Tag → length conn ≡ 4 → length sizes ≡ 4 → number conn < s.count → number sizes ≡ size → 0 < size → size ≤ segment_limit → length payload ≡ size
+segment_leads : (s : CaptureState) (at size : ℕ) (conn sizes payload : List ℕ) → s.due ≡ Tag → length conn ≡ 4 → length sizes ≡ 4 → number conn < s.count → number sizes ≡ size → size ≤ segment_limit → length payload ≡ size
     → Over s at ((83 ∷ conn) ++ (sizes ++ payload)) (to s Tag) (segment (number conn) payload ∷ [])
-segment_leads s at size conn sizes payload is four four_more known size_is some few long =
-    let l : CaptureState = to s (Length (number conn)) in
-    let p : CaptureState = to s (Payload (number conn) (size - 1)) in
-    over_join fields s l (to s Tag) at (83 ∷ conn) (sizes ++ payload) [] (segment (number conn) payload ∷ []) (conn_leads s at conn is four known)
-    (over_join fields l p (to s Tag) (at + length (83 ∷ conn)) sizes payload [] (segment (number conn) payload ∷ [])
-    (over_then fields l p (at + length (83 ∷ conn)) sizes four_more (size_judged l (at + length (83 ∷ conn)) (number conn) size sizes size_is some few))
-    (over_gives fields p (to s Tag) (segment (number conn) payload) (at + length (83 ∷ conn) + length sizes) payload (omega arith) refl))
+segment_leads s at size conn sizes payload is four four_more known size_is few long =
+    over_join fields s (to s (Length (number conn))) (to s Tag) at (83 ∷ conn) (sizes ++ payload) [] (segment (number conn) payload ∷ []) (conn_leads s at conn is four known)
+    (rest_over s.version s.count (at + length (83 ∷ conn)) (number conn) sizes payload four_more (size_is ∙ sym long) (omega (arith, long, few)))
 
-segment_read : (s : CaptureState) (at size : ℕ) (conn sizes payload : List ℕ) → s.due ≡ Tag → length conn ≡ 4 → length sizes ≡ 4 → number conn < s.count → number sizes ≡ size → 0 < size → size ≤ segment_limit → length payload ≡ size → at + (9 + size) ≤ capture_limit
+segment_read : (s : CaptureState) (at size : ℕ) (conn sizes payload : List ℕ) → s.due ≡ Tag → length conn ≡ 4 → length sizes ≡ 4 → number conn < s.count → number sizes ≡ size → size ≤ segment_limit → length payload ≡ size → at + (9 + size) ≤ capture_limit
     → read_on (step fields) (at_state s at) ((83 ∷ conn) ++ (sizes ++ payload)) ≡ record { given = segment (number conn) payload ∷ []; last = at_state (to s Tag) (at + (9 + size)) }
 unfolding read_on
-segment_read s at size conn sizes payload is four four_more known size_is some few long room =
-    let over : Over s at ((83 ∷ conn) ++ (sizes ++ payload)) (to s Tag) (segment (number conn) payload ∷ []) = segment_leads s at size conn sizes payload is four four_more known size_is some few long in
+segment_read s at size conn sizes payload is four four_more known size_is few long room =
+    let over : Over s at ((83 ∷ conn) ++ (sizes ++ payload)) (to s Tag) (segment (number conn) payload ∷ []) = segment_leads s at size conn sizes payload is four four_more known size_is few long in
     let whole : length (concat over.parts) ≡ 9 + size = omega (arith, ap (λ (l : List ℕ). length l) over.text_is, length-append (83 ∷ conn) (sizes ++ payload), length-append sizes payload, four, four_more, long) in
     ap (λ (l : List ℕ). read_on (step fields) (at_state s at) l) (sym over.text_is ∙ sym (append-nil (concat over.parts)))
     ∙ runs_read fields lawful over.parts s (to s Tag) at (at + (9 + size)) (segment (number conn) payload ∷ []) [] (omega (arith, whole)) room over.runs
@@ -98,7 +89,7 @@ segment_fed p q bytes payload conn size t empty is same =
     let h = t.holds in
     let known : number (conn_bytes bytes) < p.state.count = subst (λ (n : ℕ). n < p.state.count) h.conn_is t.known in
     let long : length payload ≡ size = ap (λ (l : List ℕ). length l) is ∙ length-take-le size (drop 9 bytes) (let whole = h.whole in omega (arith, length-drop 9 bytes)) in
-    let reads = segment_read p.state p.at size (conn_bytes bytes) (size_bytes bytes) payload t.due refl refl known (sym h.size_is) t.some t.few long t.room in
+    let reads = segment_read p.state p.at size (conn_bytes bytes) (size_bytes bytes) payload t.due refl refl known (sym h.size_is) t.few long t.room in
     fed_by captures p q (take (9 + size) bytes) (segment conn payload ∷ [])
     (ap (λ (l : List ℕ). read_on (step fields) p l) (held_text bytes conn size h ∙ ap (λ (l : List ℕ). (83 ∷ conn_bytes bytes) ++ (size_bytes bytes ++ l)) (sym is))
     ∙ ap (λ (x : CaptureProgress). read_on (step fields) x ((83 ∷ conn_bytes bytes) ++ (size_bytes bytes ++ payload))) (plain p t.none empty)
@@ -125,14 +116,14 @@ front_fed p q bytes conn size t empty same =
     (same ∙ ap (λ (n : ℕ). headed p n (get_or bytes 5 0 ∷ get_or bytes 6 0 ∷ get_or bytes 7 0 ∷ [])) h.conn_is))
 
 -- and this one is next
-pub front_end : (p q : CaptureProgress) (bytes : List ℕ) (conn size : ℕ) → TakesSegment p bytes conn size → q ≡ headed p conn (get_or bytes 5 0 ∷ get_or bytes 6 0 ∷ get_or bytes 7 0 ∷ [])
+pub front_end : (p q : CaptureProgress) (bytes : List ℕ) (conn size : ℕ) → TakesSegment p bytes conn size → 0 < size → q ≡ headed p conn (get_or bytes 5 0 ∷ get_or bytes 6 0 ∷ get_or bytes 7 0 ∷ [])
     → IsLengthEnd q (get_or bytes 8 0)
-front_end p q bytes conn size t same = subst (λ (x : CaptureProgress). IsLengthEnd x (get_or bytes 8 0)) (sym same) (record {
+front_end p q bytes conn size t some same = subst (λ (x : CaptureProgress). IsLengthEnd x (get_or bytes 8 0)) (sym same) (record {
   conn = conn;
   due = refl;
   none = t.none;
   last = refl;
-  some = (let some = t.some in let is = t.holds.size_is in omega arith);
+  some = (let is = t.holds.size_is in omega (arith, some));
   lawful = (let few = t.few in let is = t.holds.size_is in omega arith);
   within = (let room = t.room in omega arith);
 })

@@ -38,8 +38,7 @@ pub record IsLengthEnd (p : CaptureProgress) (byte : ℕ) : Type 0 where
 
 -- ---- for the reader alone
 
--- an answer and a new state are those of a step; `NoMemory` changes nothing, and is answered only
--- at the end of a length
+-- the step gives this answer and state; `NoMemory` changes nothing, and is answered only at the end of a length
 abbrev pub Takes : CaptureStep → CaptureProgress → CaptureProgress → ℕ → Result (Option Record) (NotTaken CaptureFault)
     → Type 0
 Takes step old new byte result = Follows captures IsLengthEnd step old new byte result

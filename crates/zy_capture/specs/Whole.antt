@@ -31,12 +31,11 @@ pub record HoldsSegment (bytes : List ℕ) (conn size : ℕ) : Type 0 where
   pub size_is : size ≡ front_size bytes
   pub whole : 9 + size ≤ length bytes
 
--- the same where a record may begin, and it is lawful there and not empty
+-- the same where a record may begin, and it is lawful there
 pub record TakesSegment (p : CaptureProgress) (bytes : List ℕ) (conn size : ℕ) : Type 0 where
   pub holds : HoldsSegment bytes conn size
   pub due : p.state.due ≡ Tag
   pub none : p.fault ≡ None
   pub known : conn < p.state.count
-  pub some : 0 < size
   pub few : size ≤ segment_limit
   pub room : p.at + (9 + size) ≤ capture_limit

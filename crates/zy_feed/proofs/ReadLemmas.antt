@@ -20,7 +20,7 @@ use Rattle.zy_capture.specs.Standing.{StandsForRecords, EndsAs}
 use Rattle.zy_capture.proofs.Feeding.{count_here, good_ended}
 use Rattle.zy_read.specs.declared.stop.Stop.{Stop}
 use Rattle.zy_feed.specs.declared.intake.Header.{Header}
-use Rattle.zy_feed.specs.Reads.{Intake, IsUnread, HasRead, HasReadAll, StopsIntakeBy, TellsHeader, TellsNoHeader}
+use Rattle.zy_feed.specs.Reads.{Intake, IsUnread, HasRead, HasReadAll, StopsIntakeBy, TakesFirst, TellsHeader, TellsNoHeader}
 use Rattle.zy_capture.specs.Streams.{closes}
 use Rattle.zy_capture.proofs.SoFarLemmas.{spells_tells, records_so_far}
 use Rattle.zy_capture.proofs.TellLemmas.{IsPastCount, past_count, version_stays, count_stays, version_read}
@@ -63,9 +63,9 @@ record_late p q b (byte ∷ []) r first second few =
     go (Some s) is given = step_gave p byte s is
 record_late p q b (byte ∷ next ∷ more) r first second few = absurd (omega (arith, few))
 
-pub record_absurd : {S : Type 0} (rest : S → Option (List ℕ)) (faults : S → ℕ) (first old now : S) (p q : Intake) (bytes more : List ℕ) (r : Record) → HasRead rest faults first old p [] bytes → TellsNoHeader bytes → length more ≤ 1 → HasRead rest faults first now q (r ∷ []) (bytes ++ more) → ⊥
-record_absurd rest faults first old now p q bytes more r has none few later =
-    not_early p.reader [] bytes (bytes_front bytes p.left has.given.bytes) has.reader (record_late p.reader q.reader bytes more r has.reader later.reader few) none
+pub record_absurd : {S : Type 0} (rest : S → Option (List ℕ)) (faults : S → ℕ) (first now : S) (p q : Intake) (bytes : List ℕ) (r : Record) → HasRead rest faults first now p [] bytes → TellsNoHeader bytes → TakesFirst 1 p q (Ok (Some r)) → ⊥
+record_absurd rest faults first now p q bytes r has none takes =
+    not_early p.reader [] bytes (bytes_front bytes p.left has.given.bytes) has.reader (record_late p.reader q.reader bytes takes.fed r has.reader (takes.feeds [] bytes has.reader) takes.few) none
 
 whole_due : (p : CaptureProgress) (given : List Record) (b : List ℕ) → StandsForRecords p given b → EndsAs given (Ok tt) (verdict b) → p.state.due ≡ Nothing
 whole_due p given b stands good =

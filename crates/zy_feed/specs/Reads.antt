@@ -1,14 +1,12 @@
 -- What was read of a capture, in pieces: the records that were cut, the bytes, and why it is read no further.
 use Rattle.std.specs.Prelude.{◌≡◌, ◌⊎◌, ℕ, ◌<◌, ◌≤◌, List, [], ◌∷◌, ◌++◌, length, Option, None, Some, IfSome, Result}
-use Rattle.std.specs.Prelude.{Ok, Err, ⊤}
+use Rattle.std.specs.Prelude.{Ok, Err, Bool, true, false, ⊤}
 use Rattle.std.specs.Io.KnownBytes.{IsAtEnd}
 use Rattle.zy_base.specs.Outside.{Rose}
 use Rattle.zy_read.specs.declared.stop.Stop.{Stop}
 use Rattle.zy_read.specs.declared.stop.Stop.TheVariants.{Refused, ReadFault, NoMemory}
 use Rattle.zy_read.specs.Piece.{HasGiven}
 use Rattle.zy_read.specs.declared.not_taken.NotTaken.{NotTaken}
-use Rattle.zy_read.specs.declared.not_taken.NotTaken.TheVariants.{Fault}
-use Rattle.zy_read.specs.declared.not_taken.NotTaken.TheVariants as Reads
 use Rattle.zy_read.specs.Standing.{Feeds, TellsFault, TellsLasting, given_in}
 use Rattle.zy_capture.specs.declared.record.Record.{Record}
 use Rattle.zy_capture.specs.declared.capture_fault.CaptureFault.{CaptureFault}
@@ -17,8 +15,6 @@ use Rattle.zy_capture.specs.Standing.{StandsForRecords, EndsAs}
 use Rattle.zy_capture.specs.Verdict.{captures, verdict, fault_of, version_of, count_of}
 use Rattle.zy_capture.specs.Verdict.Verdict.{Bad}
 use Rattle.zy_feed.specs.declared.intake.Header.{Header}
-use Rattle.zy_feed.specs.declared.intake.Came.{Came}
-use Rattle.zy_feed.specs.declared.intake.Came.TheVariants as Comes
 
 -- ---- a capture that is read in pieces
 
@@ -98,26 +94,10 @@ pub record TakesFirst (most : ℕ) (old new : Intake)
   pub exact : TellsFault captures old.reader fed answer
   pub lasts : TellsLasting captures old.reader fed answer
 
--- what comes of the reader's answer
-abbrev pub came_of : Result (Option Record) (NotTaken CaptureFault) → Result Came (Stop CaptureFault)
-came_of (Ok (Some record')) = Ok (Comes.Record record')
-came_of (Ok None) = Ok Comes.Nothing
-came_of (Err (Fault fault)) = Err (Refused fault)
-came_of (Err Reads.NoMemory) = Err NoMemory
-
--- what comes of its answer at the end of the source
-abbrev pub came_by : Result ⊤ CaptureFault → Result Came (Stop CaptureFault)
-came_by (Ok done) = Ok Comes.End
-came_by (Err fault) = Err (Refused fault)
-
--- a record was cut, or some bytes ended none, or the capture came to its end, or it is read no further
-abbrev pub AdvancesIntake : {S : Type 0} → (S → Option (List ℕ)) → (S → ℕ) → ℕ → S → S → Intake → List Record → List ℕ
-    → Result Came (Stop CaptureFault) → Type 0
-AdvancesIntake rest faults most first now intake records bytes (Ok (Comes.Record record')) =
-    (more : List ℕ) × ((length more ≤ most) × HasRead rest faults first now intake (records ++ record' ∷ [])
-    (bytes ++ more))
-AdvancesIntake rest faults most first now intake records bytes (Ok Comes.Nothing) =
-    (more : List ℕ) × ((0 < length more) × HasRead rest faults first now intake records (bytes ++ more))
-AdvancesIntake rest faults most first now intake records bytes (Ok Comes.End) =
+-- there are bytes, or none and the capture is whole, or it is read no further
+abbrev pub RefillsIntake : {S : Type 0} → (S → Option (List ℕ)) → (S → ℕ) → S → S → Intake → List Record → List ℕ
+    → Result Bool (Stop CaptureFault) → Type 0
+RefillsIntake rest faults first now intake records bytes (Ok true) = HasRead rest faults first now intake records bytes
+RefillsIntake rest faults first now intake records bytes (Ok false) =
     HasReadAll rest faults first now intake records bytes
-AdvancesIntake rest faults most first now intake records bytes (Err stop) = StopsIntakeBy rest faults first now stop
+RefillsIntake rest faults first now intake records bytes (Err stop) = StopsIntakeBy rest faults first now stop

@@ -1,16 +1,15 @@
 //! Reading a capture in pieces.
-ghost use Rattle.std.specs.Prelude.{◌≡◌, ◌<◌, ◌≤◌, ℕ, List, [], length, true, false};
-ghost use Rattle.std.specs.Prelude.{IfOk, IfErr, IfSome, IfNone, OnOk, OnErr};
+ghost use Rattle.std.specs.Prelude.{◌≡◌, ◌<◌, ◌≤◌, ℕ, List, [], length, true, Ok};
+ghost use Rattle.std.specs.Prelude.{IfOk, IfErr, IfSome, IfNone};
 ghost use Rattle.zy_capture.specs.declared.record.Record.{Record};
 ghost use Rattle.zy_capture.specs.Standing.{StandsForRecords};
 ghost use Rattle.zy_feed.specs.Reads.{IsUnread, HasRead, HasBegun, StopsIntakeBy, TellsHeader};
-ghost use Rattle.zy_feed.specs.Reads.{TellsNoHeader, Cuts, TakesFirst, AdvancesIntake, came_of};
-ghost use Rattle.zy_feed.specs.Reads.{came_by};
+ghost use Rattle.zy_feed.specs.Reads.{TellsNoHeader, Cuts, RefillsIntake, TakesFirst};
 
 use crate::stop::Stop;
 use std::alloc::Global;
 use std::marker::Model;
-use zy_base::{Failed, NoMemory, Source};
+use zy_base::{NoMemory, Source};
 use zy_capture::{CaptureFault, FeedFault, Reader, Record, begins_with_record};
 use zy_read::{Fed, Pieces};
 
@@ -39,17 +38,6 @@ impl Model for Intake {
     ghost view = { λ i. in_pieces i.reader i.pieces };
 }
 
-// The result of some bytes.
-#[derive(Drop)]
-pub(crate) enum Came {
-    // They end a record.
-    Record(Record),
-    // They end none.
-    Nothing,
-    // There are no bytes, and the capture is whole.
-    End,
-}
-
 impl Intake {
     /// Reads the magic and the count of the source's capture, and no record.
     pub fn begin<S: Source>(alloc: Global, source: &mut S) -> Result<(Intake, Header), Stop>
@@ -59,10 +47,7 @@ impl Intake {
             StopsIntakeBy S.rest S.faults source.old source.new stop) }
         ensures count { S.faults source.old ≤ S.faults source.new }
     {
-        let mut intake = match Intake::new(alloc) {
-            Ok(intake) => intake,
-            Err(NoMemory) => return Err(Stop::NoMemory),
-        };
+        let mut intake = Intake::new(alloc)?;
         match intake.read_header(source) {
             Ok(header) => Ok((intake, header)),
             Err(stop) => Err(stop),
@@ -92,11 +77,12 @@ impl Intake {
             if let Some(header) = self.header() {
                 return Ok(header);
             }
-            match self.advance(source, 1) {
-                Ok(Came::Nothing) => {}
-                Ok(Came::Record(_)) => unreachable!(),
-                Ok(Came::End) => unreachable!(),
-                Err(stop) => return Err(stop),
+            if !self.refill(source)? {
+                unreachable!();
+            }
+            match self.feed(1)? {
+                None => {}
+                Some(_) => unreachable!(),
             }
         }
         // No capture has this many bytes.
@@ -110,13 +96,9 @@ impl Intake {
         ensures none { IfNone result ((given : List Record) (b : List ℕ)
             → StandsForRecords self.now.reader given b → TellsNoHeader b) }
     {
-        match self.reader.version() {
-            None => None,
-            Some(version) => match self.reader.count() {
-                None => None,
-                Some(count) => Some(Header { version, count }),
-            },
-        }
+        let version = self.reader.version()?;
+        let count = self.reader.count()?;
+        Some(Header { version, count })
     }
 
     /// Cuts the next record, for which it reads as many pieces as it needs; `None` if the capture
@@ -128,10 +110,11 @@ impl Intake {
         ensures count { S.faults source.old ≤ S.faults source.new }
     {
         for _ in 0..u64::MAX {
-            match self.advance(source, usize::MAX)? {
-                Came::Nothing => {}
-                Came::Record(record) => return Ok(Some(record)),
-                Came::End => return Ok(None),
+            if !self.refill(source)? {
+                return Ok(None);
+            }
+            if let Some(record) = self.feed(usize::MAX)? {
+                return Ok(Some(record));
             }
         }
         // No capture has this many bytes.
@@ -143,20 +126,21 @@ impl Intake {
         !self.reader.is_within_record() && begins_with_record(self.pieces.left())
     }
 
-    // Feeds the reader the next bytes, at most `most`; before that it reads the next piece if
-    // nothing is left of this one.
-    #[inline(always)]
-    fn advance<S: Source>(&mut self, source: &mut S, most: usize) -> Result<Came, Stop>
-        requires some { 0 < most }
+    // Reads the next piece if nothing is left of this one. Gives whether there are bytes; if there are
+    // none, the capture is whole.
+    fn refill<S: Source>(&mut self, source: &mut S) -> Result<bool, Stop>
         ensures value { (first : S) (records : List Record) (bytes : List ℕ)
             → HasRead S.rest S.faults first source.old self.old records bytes
-            → AdvancesIntake S.rest S.faults most first source.new self.new records bytes result }
+            → RefillsIntake S.rest S.faults first source.new self.new records bytes result }
+        ensures some { result ≡ Ok true → 0 < length self.new.left }
         ensures count { S.faults source.old ≤ S.faults source.new }
     {
-        match self.pieces.refill(source) {
-            Ok(true) => came_from(self.feed(most)),
-            Ok(false) => came_at_end(self.reader.end()),
-            Err(Failed) => Err(Stop::ReadFault),
+        if self.pieces.refill(source)? {
+            return Ok(true);
+        }
+        match self.reader.end() {
+            Ok(()) => Ok(false),
+            Err(fault) => Err(Stop::Refused(fault)),
         }
     }
 
@@ -169,27 +153,5 @@ impl Intake {
         let Fed { taken, answer } = self.reader.feed_piece(&left[..most.min(left.len())]);
         self.pieces.pass(taken);
         answer
-    }
-}
-
-// What comes of the reader's answer.
-fn came_from(answer: Result<Option<Record>, FeedFault>) -> Result<Came, Stop>
-    ensures value { result ≡ came_of answer }
-{
-    match answer {
-        Ok(Some(record)) => Ok(Came::Record(record)),
-        Ok(None) => Ok(Came::Nothing),
-        Err(FeedFault::Fault(fault)) => Err(Stop::Refused(fault)),
-        Err(FeedFault::NoMemory) => Err(Stop::NoMemory),
-    }
-}
-
-// What comes of its answer at the end of the source.
-fn came_at_end(answer: Result<(), CaptureFault>) -> Result<Came, Stop>
-    ensures value { result ≡ came_by answer }
-{
-    match answer {
-        Ok(()) => Ok(Came::End),
-        Err(fault) => Err(Stop::Refused(fault)),
     }
 }

@@ -47,7 +47,7 @@ pub fn finish(
         → IsResultOfRun store.shards version count records finished) }
     ensures held { IfOk result (λ finished. AllByRecursion (IsHoldBy (length homes.items)) finished.journal.holds) }
 {
-    // Does nothing. The call tells the prover that the shards are the slots of the table, at most 256.
+    // Does nothing. The call shows the prover that the shards are the slots of the table, at most 256.
     let _shards = store.shards();
     let mut rests = match rests_of(alloc, homes) {
         Ok(rests) => rests,
@@ -76,7 +76,7 @@ pub fn finish(
         holds,
         outputs,
     } = gathered;
-    // Does nothing. The call tells the prover that the outputs are lawful.
+    // Does nothing. The call shows the prover that the outputs are lawful.
     let _version = outputs.version();
     match journal_of(store, root, Holds::from_vec(holds)) {
         Ok(journal) => Ok(Finished { journal, outputs }),

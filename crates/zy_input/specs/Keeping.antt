@@ -66,7 +66,7 @@ KeepsGiven {P} {G} keeping place old new gave =
     → KeepsSoFar keeping old (keeping.number_of bytes) given
     → KeepsRecords keeping new (keeping.number_of bytes) (given ++ option_to_list gave)
 
--- by the answer of the reader what it gave is kept, or the part is read no further; `NoMemory` needs no cause
+-- what the reader's answer gives is kept, or the part is read no further; `NoMemory` needs no cause
 abbrev pub TakesBy : {P G F V K : Type 0} → Keeper P G F V K → (F → Refusal) → P → Option K → Option K → Bool
     → Result (Option G) (NotTaken F) → Result Bool (Stop Refusal) → Type 0
 TakesBy keeping refused place old new done (Ok gave) (Ok whole) =

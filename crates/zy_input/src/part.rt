@@ -5,7 +5,7 @@ ghost use Rattle.zy_input.specs.Reading.{EndsCut, AdvancesPart, FeedsPart, Reads
 
 use crate::stop::Stop;
 use std::alloc::Global;
-use zy_base::{Failed, NoMemory, Source};
+use zy_base::{NoMemory, Source};
 use zy_read::Pieces;
 
 /// How many bytes a part took, and whether it is whole with them.
@@ -100,10 +100,8 @@ fn feed_all<P: Part, S: Source>(
     ensures count { S.faults source.old ≤ S.faults source.new }
 {
     for _ in 0..u64::MAX {
-        match advance(part, pieces, source) {
-            Ok(false) => {}
-            Ok(true) => return Ok(()),
-            Err(stop) => return Err(stop),
+        if advance(part, pieces, source)? {
+            return Ok(());
         }
     }
     // No part has this many bytes.
@@ -124,13 +122,10 @@ fn advance<P: Part, S: Source>(
         result }
     ensures count { S.faults source.old ≤ S.faults source.new }
 {
-    match pieces.refill(source) {
-        Ok(true) => {
-            let Taken { count, answer } = part.take(pieces.left());
-            pieces.pass(count);
-            answer
-        }
-        Ok(false) => Ok(true),
-        Err(Failed) => Err(Stop::ReadFault),
+    if !pieces.refill(source)? {
+        return Ok(true);
     }
+    let Taken { count, answer } = part.take(pieces.left());
+    pieces.pass(count);
+    answer
 }

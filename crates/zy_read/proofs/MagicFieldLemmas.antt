@@ -24,7 +24,7 @@ use Rattle.zy_read.proofs.VerdictLemmas.{Leaves, state_kept, begins_read, text_r
 
 -- ---- the fields of a magic
 
--- one byte more
+-- one further byte
 byte_over : {S G F : Type 0} (fields : Fields S G F) (letters : List ℕ) (part_next : MagicPart → S) (after : ℕ → S) (form : ℕ → F) (reads : ReadsMagic fields letters part_next after form) (part : MagicPart) (at byte : ℕ) (x : List ℕ) (next : S) → length x ≡ at
     → RunsOver fields fields.start 0 x (part_next part) [] → magic_judged {G = G} part_next after (form at) (magic_step part letters at byte) ≡ Then next → RunsOver fields fields.start 0 (x ++ byte ∷ []) next []
 byte_over {S} {G} {F} fields letters part_next after form reads part at byte x next size over judged =

@@ -20,7 +20,7 @@ abbrev pub IsKnown : MagicPart → Type 0
 IsKnown (LineFeed version) = IsVersion version
 IsKnown part = ⊤
 
--- what a byte leads to, after this text of so many bytes
+-- where the byte at this place leads, after this text
 abbrev pub LeadsTo : List ℕ → ℕ → List ℕ → MagicStep → Type 0
 LeadsTo letters at text (Next part) = IsInMagic part at × IsKnown part × (text ≡ magic_before part letters at)
 LeadsTo letters at text (Whole version) = IsVersion version × (text ≡ letters ++ (48 + version) ∷ 10 ∷ [])

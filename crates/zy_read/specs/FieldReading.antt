@@ -21,8 +21,8 @@ width_of (Run others) = others + 1
 abbrev pub MayNeed : {S G F : Type 0} → Fields S G F → (S → Type 0) → Place S F → ℕ → Type 0
 MayNeed fields Wants p byte = Wants p.state × (is_full fields p ≡ false)
 
--- an answer and a new state, which may be that at the place after the field, are what the field does; `NoMemory`
--- changes nothing, and is answered only where the state may want memory
+-- the field gives this answer and state, which may be that at the place after the field; `NoMemory` changes nothing, and
+-- is answered only where the state may want memory
 abbrev pub Judges : {S G F : Type 0} → (S → ℕ → Type 0) → (S → Type 0) → Judged S G F → ℕ → S → S
     → Result (Option G) (NotTaken F) → Type 0
 Judges Fits Wants judged after old new (Ok None) = (judged ≡ Then new) × Fits new after
@@ -68,7 +68,7 @@ pub record IsReader {S F : Type 0} (shape : S → Shape) (limit : ℕ) (Fits : S
   pub short : at ≤ limit
   pub few : limit < 2 ^ 64 - 1
 
--- an answer and a new place are those of a step
+-- the step gives this answer and place
 abbrev pub TakesField : {S G F V : Type 0} → Fields S G F → (S → List G → V) → (F → V) → (S → Type 0)
     → Step (Place S F) G → Place S F → Place S F → ℕ → Result (Option G) (NotTaken F) → Type 0
 TakesField fields good bad Wants step old new byte answer =

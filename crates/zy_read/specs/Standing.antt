@@ -63,8 +63,7 @@ taken_with before (Err NoMemory) = before
 
 -- ---- for readers alone
 
--- an answer and a new state are those of a step; `NoMemory` changes nothing, and is answered only
--- at a byte that needs memory
+-- the step gives this answer and state; `NoMemory` changes nothing, and is answered only at a byte that needs memory
 abbrev pub Follows : {P G F V : Type 0} → Format P G F V → (P → ℕ → Type 0) → Step P G → P → P → ℕ
     → Result (Option G) (NotTaken F) → Type 0
 Follows format wants step old new byte (Ok gave) = (new ≡ step.next) × (gave ≡ step.gave) × (format.fault_in new ≡ None)

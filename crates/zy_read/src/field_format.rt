@@ -116,8 +116,8 @@ pub trait FieldFormat: Drop {
             (at + length bytes.old.items) self.old self.new result }
         ensures kept { result ≡ Err NoMemory → bytes.new.items ≡ bytes.old.items };
 
-    /// Takes whole fields at once, as many as it likes, with which the bytes from this place on
-    /// begin, and which give no record. Returns the number of their bytes.
+    /// Takes whole fields at once, with which the bytes from this place on begin, and which give no
+    /// record; there may be none. Returns the number of their bytes.
     fn judge_front(&mut self, alloc: Global, at: u64, bytes: &[u8]) -> usize
         requires fits { Fits self.old at }
         ensures within { result ≤ length bytes.now }

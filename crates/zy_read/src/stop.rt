@@ -1,8 +1,10 @@
 //! Why a text of a source is read no further.
 ghost use Rattle.std.specs.Prelude.{◌≡◌};
+ghost use Rattle.zy_read.specs.Piece.{stop_of};
 ghost use Rattle.zy_read.specs.declared.stop.Stop.TheVariants as Stops;
 
-use zy_base::NoMemory;
+use crate::not_taken::NotTaken;
+use zy_base::{Failed, NoMemory};
 
 /// Why a text of a source is read no further, where texts have faults of this type.
 #[derive(Clone, Copy, PartialEq, Eq)]
@@ -20,5 +22,24 @@ impl<F> From<NoMemory> for Stop<F> {
 
     fn from(_: NoMemory) -> Stop<F> {
         Stop::NoMemory
+    }
+}
+
+impl<F> From<Failed> for Stop<F> {
+    ghost from_gives = { λ _ stop. stop ≡ Stops.ReadFault };
+
+    fn from(_: Failed) -> Stop<F> {
+        Stop::ReadFault
+    }
+}
+
+impl<F> From<NotTaken<F>> for Stop<F> {
+    ghost from_gives = { λ answer stop. stop ≡ stop_of answer };
+
+    fn from(answer: NotTaken<F>) -> Stop<F> {
+        match answer {
+            NotTaken::Fault(fault) => Stop::Refused(fault),
+            NotTaken::NoMemory => Stop::NoMemory,
+        }
     }
 }

@@ -2,7 +2,7 @@
 ghost use Rattle.std.specs.Prelude.{◌≡◌, ◌+◌, ◌<◌, ◌≤◌, [], ◌∷◌, ◌++◌, IfSome, IfNone, IsNone};
 
 use crate::rx::Rx;
-use rtrb::{Producer, PushError};
+use rtrb::Producer;
 use std::marker::Model;
 
 /// The end of a receive ring that items are offered to.
@@ -37,9 +37,10 @@ impl<T> RingInlet<T> {
         ensures succeeds { 0 < self.old.free → IsNone result }
         ensures kept { self.new.ring ≡ self.old.ring }
     {
-        match self.producer.push(item) {
-            Ok(()) => None,
-            Err(PushError::Full(item)) => Some(item),
+        if self.producer.is_full() {
+            return Some(item);
         }
+        self.producer.push_reserved(item);
+        None
     }
 }

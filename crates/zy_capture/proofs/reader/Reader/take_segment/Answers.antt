@@ -1,4 +1,4 @@
-use Rattle.std.proofs.Common.{◌≡◌, ◌+◌, ◌-◌, ℕ, [], take, drop, refl, ap, ◌∙◌, rules, arith}
+use Rattle.std.proofs.Common.{◌≡◌, ◌+◌, ◌-◌, ◌<◌, ℕ, [], take, drop, refl, ap, ◌∙◌, rules, arith}
 use Rattle.zy_capture.specs.Steps.{CaptureProgress}
 use Rattle.zy_capture.proofs.SegmentLemmas.{segment_fed, segment_exact, front_fed, front_end}
 use Rattle.zy_capture.proofs.reader.Reader.take_segment.Goals as goal
@@ -25,4 +25,6 @@ returns-in-Err-clause-fed c =
     front_fed c.args.self.now c.go_to_length.new.self c.args.bytes.now c.args.head.conn c.args.head.size c.requires.takes none c.go_to_length.ensures.value
 
 pub returns-in-Err-clause-memory : goal.returns-in-Err-clause-memory
-returns-in-Err-clause-memory c = λ e. front_end c.args.self.now c.go_to_length.new.self c.args.bytes.now c.args.head.conn c.args.head.size c.requires.takes c.go_to_length.ensures.value
+returns-in-Err-clause-memory c = λ e.
+    let some : 0 < c.args.head.size = omega (arith, c.in-Err.ensures.some) in
+    front_end c.args.self.now c.go_to_length.new.self c.args.bytes.now c.args.head.conn c.args.head.size c.requires.takes some c.go_to_length.ensures.value

@@ -11,18 +11,19 @@ loop-init g c = record {
 pub unreachable-requires : goal.unreachable-requires
 unreachable-requires g c =
     let read = c.loop.invariant.read in
-    let later = c.in-Ok-Record.ensures.value c.args.source.now [] read.0 read.1.1 in
-    let cut = rw c.in-Ok-Record.field-0-is at later in
-    record_absurd g.S.Source.rest g.S.Source.faults c.args.source.now c.loop.source c.advance.new.source c.loop.self c.advance.new.self read.0 cut.0 c.in-Ok-Record.field-0-0 read.1.1
-    (c.in_default.ensures.none [] read.0 read.1.1.reader) cut.1.0 cut.1.1
-
-pub unreachable-requires-in-Ok-End : goal.unreachable-requires-in-Ok-End
-unreachable-requires-in-Ok-End g c =
-    let read = c.loop.invariant.read in
-    let later = c.in-Ok-End.ensures.value c.args.source.now [] read.0 read.1.1 in
-    let all = rw c.in-Ok-End.field-0-is at later in
-    end_absurd g.S.Source.rest g.S.Source.faults c.args.source.now c.advance.new.source c.advance.new.self read.0
+    let later = c.in_ok-refill.ensures.value c.args.source.now [] read.0 read.1.1 in
+    let all = rw c.if-not-branch.true at later in
+    end_absurd g.S.Source.rest g.S.Source.faults c.args.source.now c.refill.new.source c.refill.new.self read.0
     (c.in_default.ensures.none [] read.0 read.1.1.reader) all
+
+pub unreachable-requires-in-Some-2 : goal.unreachable-requires-in-Some-2
+unreachable-requires-in-Some-2 g c =
+    let read = c.loop.invariant.read in
+    let later = c.in_ok-refill.ensures.value c.args.source.now [] read.0 read.1.1 in
+    let has = rw c.if-not-branch.false at later in
+    let takes = rw c.in-Some-2.is at c.in_ok-feed.ensures.value in
+    record_absurd g.S.Source.rest g.S.Source.faults c.args.source.now c.refill.new.source c.refill.new.self c.feed.new.self read.0 c.in-Some-2.field-0 has
+    (c.in_default.ensures.none [] read.0 read.1.1.reader) takes
 
 pub unreachable-requires-2 : goal.unreachable-requires-2
 unreachable-requires-2 g c =
