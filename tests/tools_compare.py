@@ -382,7 +382,7 @@ def edited_outputs():
         causes = Causes(Callers(streams))
         for output in (output for output in made.outputs if output.text):
             other = edited(draw, output.text)
-            causes.begin(output.connection, streams[output[:2]])
+            causes.begin(*output[:2], streams[output[:2]])
             for pair in ((output.text, other), (other, output.text)):
                 for found in (list(by_commands(streams[output[:2]], *pair)), list(by_answers(*pair))):
                     name = f"edited capture {number}, {output[:2]}"

@@ -6,8 +6,8 @@ from formats import Close, Fault, capture_head, capture_records, replies_records
 from meaning import Framer
 from steps import BOTH, by_commands
 
-# a command, with the connection and the session that sent it
-Arrival = namedtuple("Arrival", "connection session command frame")
+# a command, with the connection and the session that sent it, and the number of the record in which its last byte came
+Arrival = namedtuple("Arrival", "connection session command frame record")
 
 
 class Arrivals:
@@ -34,7 +34,7 @@ class Arrivals:
     def commands(self):
         """The commands in order."""
         framers = {}
-        for session, record in self.records():
+        for place, (session, record) in enumerate(self.records()):
             connection = record.connection
             if isinstance(record, Close):
                 framers.pop(connection, None)
@@ -42,13 +42,34 @@ class Arrivals:
             if connection not in framers:
                 framers[connection] = Framer()
             for command, frame in framers[connection].feed(record.text):
-                yield Arrival(connection, session, command, frame)
+                yield Arrival(connection, session, command, frame, place)
 
     def sessions(self):
         """All connections with their sessions, in the order of a replies file, once all records were read."""
         for connection in range(self.count):
             for session in range(self.later[connection] + 1):
                 yield connection, session
+
+
+class Kept(Arrivals):
+    """The commands of a capture that is kept, so that it may be standard input; `streams` are those of its sessions."""
+
+    def __init__(self, name):
+        super().__init__(name)
+        self.kept = list(super().records())
+        self.streams = streams_of(self.kept)
+
+    def records(self):
+        return iter(self.kept)
+
+
+def streams_of(records):
+    """The streams of records, by connection and session."""
+    found = {}
+    for session, record in records:
+        if not isinstance(record, Close):
+            found.setdefault((record.connection, session), []).append(record.text)
+    return {key: b"".join(pieces) for key, pieces in found.items()}
 
 
 # ---- recorded answers
@@ -88,15 +109,17 @@ def outputs(name):
 
 def answered(arrivals, name):
     """The commands of a capture in order, each with its answer in a replies file; None where there is none."""
-    streams = {}
-    for session, record in arrivals.records():
-        if not isinstance(record, Close):
-            streams.setdefault((record.connection, session), []).append(record.text)
-    texts, wanted = outputs(name), set(arrivals.sessions())
+    streams, texts = streams_of(arrivals.records()), outputs(name)
+    wanted = set(arrivals.sessions())
     if wanted != set(texts):
         raise Fault(f"not of the same traffic: {ends.name_of(arrivals.name)} has {arrivals.count} connections and"
                     f" {len(wanted)} sessions, {ends.name_of(name)} has {len({key[0] for key in texts})} and"
                     f" {len(texts)}")
-    sessions = {key: Session(b"".join(found), texts[key]) for key, found in streams.items()}
+    return with_answers(arrivals, streams, texts)
+
+
+def with_answers(arrivals, streams, *outputs_of):
+    """The commands of a capture in order, each with its answers in outputs by connection and session."""
+    sessions = [{key: Session(stream, texts.get(key, b"")) for key, stream in streams.items()} for texts in outputs_of]
     for arrival in arrivals.commands():
-        yield arrival, sessions[arrival[:2]].answer()
+        yield arrival, *(some[arrival[:2]].answer() for some in sessions)

@@ -8,7 +8,8 @@ another one. If such an order explains fewer answers than that of arrival, which
 """
 from collections import Counter, deque
 
-from model import Shard, calls, text_of
+from answers import items
+from replaying import Replay
 from steps import alike
 
 UNKNOWN, STORED, MISS = object(), b"STORED\r\n", b"END\r\n"
@@ -31,9 +32,11 @@ def text_after(command):
 
 
 def shown(command, answer):
-    """What a `get` answers that follows a `set`, or that this is; None for any other command."""
+    """What a `get` answers that follows a `set`, or that this is, as it is without a unique; None for any other command."""
     if command.verb == "set" and command.value is not None and answer in (STORED, None):
         return text_after(command)
+    if command.verb == "gets" and len(command.keys) == 1 and answer is not None:
+        return b"".join(b"VALUE %s\r\n%s\r\n" % (b" ".join(words[:3]), value) for words, value in items(answer)) + MISS
     return answer if command.verb == "get" and len(command.keys) == 1 else None
 
 
@@ -41,7 +44,7 @@ def left_by(command, answer):
     """What a `get` answers that follows a command of another kind."""
     if "delete" in (command.verb, command.call):
         return MISS
-    return text_after(command) if command.verb == "add" and answer == STORED else UNKNOWN
+    return text_after(command) if command.verb in ("add", "replace", "cas") and answer == STORED else UNKNOWN
 
 
 class Order:
@@ -95,7 +98,7 @@ class Order:
 
     def settle(self, key):
         """Each `get` goes that shows what there is; where that is not known, after the `set` that it shows, if one waits."""
-        for one in list(self.waiting[key]):
+        for one in list(self.waiting.get(key, ())):
             if one.is_set or self.item(key) not in (UNKNOWN, one.text):
                 continue
             source = self.source(one) if self.item(key) is UNKNOWN else None
@@ -131,31 +134,40 @@ class Order:
                 self.settle(one.key)
 
     def other(self, arrival, answer):
-        """A command of another kind goes where it came, after all that wait for its keys."""
+        """A command of another kind goes where it came, after all that wait for its keys, but for a `get` that shows what
+        it leaves."""
         command = arrival.command
-        is_wide = command.verb in ("flush_all", "stats", "fault")
+        is_wide, is_reading = command.verb in ("flush_all", "stats", "fault"), command.verb in ("get", "gets", "mg", "stats")
+        left = None if is_wide or is_reading else left_by(command, answer)
         for key in list(self.waiting) if is_wide else command.keys:
-            while self.waiting.get(key):
-                self.force(self.waiting[key][0])
+            while (one := next((one for one in self.waiting.get(key, ()) if one.is_set or one.text != left), None)):
+                self.force(one)
         self.places.append([arrival])
-        if is_wide and command.verb != "stats":
+        if is_wide and not is_reading:
             self.items, self.is_unknown, self.last_set = {}, True, {}
-        elif command.verb not in ("get", "gets", "mg", "stats"):
+        elif not is_reading:
             for key in command.keys:
-                self.items[key] = left_by(command, answer)
+                self.items[key] = left
                 self.last_set.pop(key, None)
+                self.settle(key)
 
 
 def explained(arrivals, answered):
     """How many commands in this order are answered as it was recorded."""
-    shard, left, count = Shard(0, 1), {}, 0
-    for arrival, answer in answered:
-        left.setdefault(arrival.connection, deque()).append(answer)
-    for arrival in arrivals:
-        command, answer = arrival.command, left[arrival.connection].popleft()
-        found = [shard.answer(call) for _, call in calls(1, command) if call.name != "tally"]
-        count += answer is not None and command.verb != "stats" and alike(answer, text_of(command, found))
+    replay, count = Replay(), 0
+    for arrival, answer in again(arrivals, answered):
+        _, text = replay.carry_out(arrival.command, arrival.frame, answer)
+        count += answer is not None and arrival.command.verb != "stats" and alike(answer, text)
     return count
+
+
+def again(arrivals, answered):
+    """The commands in an order of their own, each with what it has among `answered`, which is in that of arrival."""
+    left = {}
+    for arrival, *more in answered:
+        left.setdefault(arrival.connection, deque()).append(more)
+    for arrival in arrivals:
+        yield arrival, *left[arrival.connection].popleft()
 
 
 def ordered(answered):
@@ -166,8 +178,8 @@ def ordered(answered):
 
 def near(answered):
     """An order near that of arrival."""
-    wanted = Counter((arrival.command.keys[0], answer) for arrival, answer in answered
-                     if arrival.command.verb == "get" and answer is not None and shown(arrival.command, answer))
+    wanted = Counter((arrival.command.keys[0], shown(arrival.command, answer)) for arrival, answer in answered
+                     if arrival.command.verb in ("get", "gets") and answer is not None and shown(arrival.command, answer))
     order = Order(wanted)
     for one in answered:
         order.add(*one)

@@ -19,10 +19,9 @@ from collections import Counter
 from formats import END, JOURNAL_START, Call, Output, capture_start, close, entry, hold, pieces, replies_file, MOST_HOLD
 from meaning import Command
 from model import Shard, text_of
+from uniques import cut_line, with_unique
 from judging.events import CAS, FOREVER, GET, LOSS, Asked, Event, Unknown, brief, first_line
 from judging.seeing import items_of
-
-LINE_END = re.compile(rb"\r?\n")
 
 
 class Certificate:
@@ -103,7 +102,7 @@ class Certificate:
             self.counts["touch" if asked.original.startswith(b"touch") else "gat"] += 1
         for event in asked.events:
             if event.kind == CAS and event.call.unique != asked.command.numbers["unique"]:
-                frame = with_unique(frame, asked.command, event.call.unique)
+                frame = with_unique(frame, event.call.unique)
         if asked.is_lost:
             self.counts["now noreply"] += 1
             frame = with_noreply(asked, frame)
@@ -207,22 +206,6 @@ def unmarked(text, marks):
     """A meta answer without these marks in its line."""
     line, end, rest = text.partition(b"\n")
     return re.sub(rb" [%s][0-9]+(?=[ \r])" % marks, b"", line) + end + rest
-
-
-def cut_line(frame):
-    """The words of a frame's line, its end, and the block."""
-    end = LINE_END.search(frame)
-    return [word for word in frame[: end.start()].split(b" ") if word], frame[end.start() : end.end()], frame[end.end() :]
-
-
-def with_unique(frame, command, unique):
-    """A command with another unique."""
-    words, end, block = cut_line(frame)
-    if command.verb == "cas":
-        words[5] = b"%d" % unique
-    else:
-        words = [b"C%d" % unique if at > 2 and word[:1] == b"C" else word for at, word in enumerate(words)]
-    return b" ".join(words) + end + block
 
 
 def with_noreply(asked, frame):
