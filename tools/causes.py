@@ -211,7 +211,7 @@ class Causes:
 
     def in_any_order(self, command, number, name, other):
         """The causes of a difference in a key that depends on the order of connections."""
-        expected = self.in_order().get(self.connection, self.session, number)
+        expected = self.in_order().get((self.connection, self.session, number))
         if expected is None or name not in expected.causes:
             return (ORDER,)
         causes = expected.causes[name]

@@ -4,60 +4,24 @@ So it is known of a difference in a shared key whether it comes of the order: ne
 those of one connection, whose answers have their causes in causes.py. What is left open is the order of commands that
 came before others on their key had ended, for a server may have taken these in another one.
 """
-from bisect import bisect_right
 from collections import Counter, namedtuple
 
 import causes as why
 from apart import Callers
-from arrivals import with_answers
-from formats import Segment
+from arrivals import ends_of, with_answers
 from meaning import line_of
 from orders import again, ordered
 from replaying import DONE, Replay
 from steps import BOTH, Exchange, alike
 
-FOREVER = 1 << 62
 READING = ("get", "gets", "mg", "mn", "version", "verbosity", "stats", "fault")
+# after which, if both answer alike, both have the same item
+SHOWING = ("get", "gets", "set", "delete", "mg", "ms", "md")
 # what zygos answers to a command near the order of arrival, and by key why the recorded answer is another
 Expected = namedtuple("Expected", "text causes")
 
 
-# ---- times
-
-
-def ends_of(arrivals, given):
-    """The records at whose time commands had ended at the latest; `given` has the commands, and what answered each.
-
-    Without the ends of answers, which `record --ends` writes, each client is taken to wait for them.
-    """
-    marks, begins, sessions = {}, {}, {}
-    for place, (session, record) in enumerate(arrivals.records()):
-        if isinstance(record, Segment):
-            (begins if record.text else marks).setdefault((record.connection, session), []).append(place)
-    for at, (arrival, *_) in enumerate(given):
-        sessions.setdefault(arrival[:2], []).append(at)
-    found = [FOREVER] * len(given)
-    for key, places in sessions.items():
-        own = [given[at] for at in places]
-        is_hidden = any("q" in arrival.command.letters for arrival, *_ in own)
-        ends = by_begins(own, begins.get(key, ())) if is_hidden or not marks else by_marks(own, marks.get(key, ()))
-        last = FOREVER
-        for at, end in reversed(list(zip(places, ends))):
-            found[at] = last = min(last, end)
-    return found
-
-
-def by_marks(given, marks):
-    """The ends of the answers of a session, in order."""
-    left = iter(marks)
-    return [FOREVER if one is None or arrival.command.quiet else next(left, FOREVER) for arrival, one, _ in given]
-
-
-def by_begins(given, begins):
-    """What each client sent next; a command with `noreply` ends with a later one."""
-    for arrival, *_ in given:
-        at = bisect_right(begins, arrival.record)
-        yield FOREVER if arrival.command.quiet or at == len(begins) else begins[at]
+# ---- commands that came at one time
 
 
 class Going:
@@ -94,23 +58,20 @@ def open_ones(given, ends):
 
 
 class InOrder:
-    """What zygos answers near the order of arrival to the commands whose answers depend on the order, by connection,
-    session and number."""
+    """What zygos answers near the order of arrival to the commands whose answers depend on the order: `found` by
+    connection, session and number."""
 
     def __init__(self, arrivals, ones, others, callers):
         given = list(with_answers(arrivals, arrivals.streams, ones, others))
         ends = ends_of(arrivals, given)
         self.open, self.callers, self.found, self.unsure = open_ones(given, ends), callers, {}, {}
-        order = list(again(ordered([one[:2] for one in given]), [(*one, at) for at, one in enumerate(given)]))
+        order = list(again(ordered(arrivals, given, ones), [(*one, at) for at, one in enumerate(given)]))
         stream = b"".join(arrival.frame for arrival, *_ in order)
         self.causes = why.Causes(Callers({(0, 0): stream}))
         self.causes.begin(0, 0, stream)
-        self.replay(order, numbers_of(given))
+        self.replay(order, numbers_of(given), ends)
 
-    def get(self, *place):
-        return self.found.get(place)
-
-    def replay(self, order, numbers):
+    def replay(self, order, numbers, ends):
         """Carries out all commands. A `cas` that succeeded in the recording alone named no unique of the other server."""
         replay = Replay()
         for place, (arrival, one, other, at) in enumerate(order):
@@ -120,20 +81,21 @@ class InOrder:
             if one is not None and command.verb != "stats":
                 line = line_of(arrival.frame)
                 exchange = Exchange(BOTH, place, place, None, line, [(place, line, command)], (0, one), (0, text))
-                found = self.compared(exchange, command, at in self.open)
+                found = self.compared(exchange, arrival, at in self.open)
                 if self.callers.order(command):
                     self.found[(*arrival[:2], numbers[at])] = Expected(text, found)
-            if command.verb not in READING:
+            if command.verb not in READING and at in self.open:
                 for key in command.keys:
-                    self.unsure[key] = self.unsure.get(key, False) or at in self.open
+                    self.unsure[key] = max(self.unsure.get(key, 0), ends[at])
 
-    def compared(self, exchange, command, is_open):
+    def compared(self, exchange, arrival, is_open):
         """By key why the recorded answer is not this one."""
-        one, text = exchange.one[1], exchange.other[1]
+        one, text, command = exchange.one[1], exchange.other[1], arrival.command
         if alike(one, text):
             self.causes.agreed(exchange)
-            if command.verb not in ("add", "replace", "append", "prepend", "cas", "incr", "decr"):
-                self.unsure.update(dict.fromkeys(command.keys, False))
+            for key in command.keys:
+                if self.unsure.get(key, arrival.record) < arrival.record and command.verb in SHOWING:
+                    del self.unsure[key]
             return {}
         shown = self.causes.seen(command, one, text)
         return {key: self.all_of(cause, key, shown.get(key), is_open) for key, cause in self.causes.by_key(exchange).items()}
@@ -144,7 +106,7 @@ class InOrder:
             return (cause,)
         if shown and shown.values[0] is not None and key in self.callers.second and not self.callers.may_store(key, shown.values[0]):
             return (why.BEFORE,)
-        if not is_open and not self.unsure.get(key, False):
+        if not is_open and key not in self.unsure:
             return (cause,)
         return (why.TIMES,) if cause == why.SERVERS else (cause, why.TIMES)
 
