@@ -13,24 +13,30 @@ import drawn
 import plain
 from answers import answers
 from apart import Callers
-from causes import CAUSES, Causes
-from formats import Part, capture, close, journal, pieces, read_capture, replies, sessions
+from causes import Causes
+from formats import Part, capture, close, journal, pieces, read_capture, replies, segment, sessions
 from meaning import commands_of
 from model import Shard, calls, text_of
 from steps import BOTH, ENDED, LEFT, by_answers, by_commands
 
 FIRST = os.path.join(TOP, "examples/first.replies")
 ITEM, OTHER = b"VALUE a 0 1\r\nx\r\nEND\r\n", b"VALUE a 0 1\r\ny\r\nEND\r\n"
-SERVERS = (": of the servers, if both began with the same items and no client bypassed the recorder: one connection alone"
-           " calls each key (the last section of docs/PROFILE.md)")
-BEFORE = ": items that the capture does not store: from before it, or of others; tools/warm puts them into it"
-UNIQUES = ": a `cas` names a unique, which is each server's own, and what follows from it"
+SERVERS = (": of the servers, if both began with the same items and no client bypassed the recorder: no order of connections"
+           " explains it (the last section of docs/PROFILE.md)")
+BEFORE = (": items that the capture does not store: from before it, of others, or of requests that were lost; tools/warm puts"
+          " them into it")
+UNIQUES = ": a `cas` names a unique, which is each server's own, and what follows from it; tools/inline translates them"
+LOST = (": items that were lost where it was recorded, though no command removed them: evicted, or removed by a client that"
+        " was not recorded; tools/judge --may-forget")
+OWN = ": what each server says of itself; --except leaves it out"
 EXPIRY = ": items with an exptime, which may have passed on one side; in zygos exptimes have no effect"
 REFUSED = ": lines that zygos does not serve (docs/PROFILE.md), and what follows from them"
 PADDED = ": a number became shorter, and memcached pads it with spaces, and what follows from it"
-AFTER = ("the order in which connections are served, for {}; tools/inline takes the order of arrival; what is left after it:"
-         " tools/judge --warm --may-forget")
-ORDER = ": may come of " + AFTER
+AFTER = "; tools/inline takes the order of arrival; what is left after it: tools/judge --warm --may-forget"
+ORDER = (": of the order in which connections are served, for {}; near that of arrival, which tools/inline takes, zygos answers as"
+         " recorded")
+TIMES = (": may come of the order in which the server took commands that came at one time, for {}; tools/judge --warm"
+         " --may-forget looks for one")
 STEP = "  out of step from here by one answer; those after it are compared in step again"
 
 
@@ -107,15 +113,15 @@ def all_differences():
     one = replies([b"VERSION 1\r\nEND\r\nEND\r\n", b"END\r\n7\r\n"])
     other = replies([b"VERSION 2\r\nEND\r\n" + ITEM, OTHER + b"8\r\n"])
     version = ["connection 0, session 0, answer 0, command 2: version", "  a: VERSION 1", "  b: VERSION 2",
-               "  why: servers"]
+               "  why: its own text"]
     rest = ["connection 0, session 0, answer 2, command 4: get b", "  a: END", r"  b: VALUE a 0 1\x0d\x0ax\x0d\x0aEND",
             "  why: servers", "connection 1, session 0, answer 0, command 2: get c", "  a: END",
             r"  b: VALUE a 0 1\x0d\x0ay\x0d\x0aEND", "  why: servers",
             "connection 1, session 0, answer 1, command 3: incr d 1", "  a: 7", "  b: 8", "  why: servers"]
-    differ("the first of several", one, other, *version, "4 differences: get 2, version 1, incr 1; --all prints them",
-           "get 2, version 1, incr 1" + SERVERS, sent=sent)
-    differ("all of them", one, other, *version, *rest, "4 differences: get 2, version 1, incr 1",
-           "get 2, version 1, incr 1" + SERVERS, sent=sent, words=("--all",))
+    differ("the first of several", one, other, *version, *rest[:4], "4 differences: get 2, version 1, incr 1; --all prints them",
+           "version 1" + OWN, "get 2, incr 1" + SERVERS, sent=sent)
+    differ("all of them", one, other, *version, *rest, "4 differences: get 2, version 1, incr 1", "version 1" + OWN,
+           "get 2, incr 1" + SERVERS, sent=sent, words=("--all",))
     differ("all but one", one, other, *rest, "3 differences: get 2, incr 1", "get 2, incr 1" + SERVERS, sent=sent,
            words=("--all", "--except", "version"))
     same("all are left out", (0, ["same: connections 2, sessions 2, answers 5; left out: get 2, version 1, incr 1"]),
@@ -211,9 +217,11 @@ def shared_keys():
          [b"STORED\r\n" + ITEM, b"END\r\nOK\r\n"], [b"STORED\r\nEND\r\n", b"END\r\nOK\r\n"]),
     ):
         caused(reason, sent, one, other, "get 1" + ORDER.format(reason))
-    stats = b"STAT cmd_get %d\r\nEND\r\n"
-    caused("stats", [b"stats\r\n", b"get a\r\n"], [stats % 0, b"END\r\n"], [stats % 1, b"END\r\n"],
-           "stats 1" + ORDER.format("stats counts the calls of all connections"))
+    stats, sent = b"STAT cmd_get %d\r\nEND\r\n", [b"stats\r\n", b"get a\r\n"]
+    caused("stats", sent, [stats % 0, b"END\r\n"], [stats % 1, b"END\r\n"],
+           "stats 1: may come of the order in which the server took commands that came at one time, or of the order in which"
+           " connections are served, for stats counts the calls of all connections" + AFTER)
+    caused("other stats", sent, [b"STAT pid 7\r\n" + stats % 0, b"END\r\n"], [stats % 0, b"END\r\n"], "stats 1" + OWN)
     lines = caused("keys of both kinds", [b"set a 0 0 1\r\nx\r\nget a\r\nset b 0 0 1\r\nx\r\nget b\r\n", b"get b\r\n"],
                    [b"STORED\r\n" + ITEM + b"STORED\r\nVALUE b 0 1\r\nx\r\nEND\r\n", b"END\r\n"],
                    [b"STORED\r\n" + OTHER + b"STORED\r\nEND\r\n", b"END\r\n"],
@@ -226,22 +234,20 @@ def item_of(value, key=b"a"):
 
 
 def shared_causes():
-    """In a key that several connections call, what else differed there, or may have, is named before the order."""
-    after, store = AFTER.format("connections 0 and 1 both call the key a"), b"set a 0 0 1\r\nx\r\n"
+    """In a key that several connections call, the cause is that of the recorded answer near the order of arrival."""
+    both, store = "connections 0 and 1 both call the key a", b"set a 0 0 1\r\nx\r\n"
     gets, cas = b"VALUE a 0 1 %d\r\nx\r\nEND\r\n", store + b"gets a\r\ncas a 0 0 1 7\r\ny\r\n"
     one, other = b"STORED\r\n" + gets % 7 + b"STORED\r\n", b"STORED\r\n" + gets % 4 + b"EXISTS\r\n"
     for name, sent, ones, others in (
         ("before", [cas, b"get a\r\n"], [one, OTHER], [other, ITEM]),
         ("after", [b"get a\r\n", cas], [OTHER, one], [ITEM, other]),
     ):
-        lines = caused(f"the cas of a connection {name}", sent, ones, others, "cas 1" + UNIQUES,
-                       "get 1: may come of a `cas` of the same key, which names a unique, or of " + after, words=("--all",))
-        same(f"why, {name}", ["  why: cas", "  why: cas or order"], sorted(line for line in lines if "why: " in line))
-    caused("an exptime of a shared key", [b"set a 0 1 1\r\nx\r\nget a\r\n", b"get a\r\n"], [b"STORED\r\nEND\r\n", b"END\r\n"],
-           [b"STORED\r\n" + ITEM, ITEM], "get 2: may come of an exptime of the same key, or of " + after)
-    caused("a touch of a shared key", [store + b"touch a 1\r\n", b"get a\r\n"], [b"STORED\r\nTOUCHED\r\n", b"END\r\n"],
-           [b"STORED\r\nERROR\r\n", ITEM], "touch 1" + REFUSED,
-           "get 1: may come of an exptime of the same key, or of a line that zygos does not serve, or of " + after)
+        caused(f"the cas of a connection {name}", sent, ones, others,
+               f"2 differences: {'cas 1, get 1' if name == 'before' else 'get 1, cas 1'}; --all prints them",
+               f"{'cas 1, get 1' if name == 'before' else 'get 1, cas 1'}" + UNIQUES)
+    caused("a touch of a shared key", [store + b"touch a 1\r\nmn\r\n", b"get a\r\n"], [b"STORED\r\nTOUCHED\r\nMN\r\n", b"END\r\n"],
+           [b"STORED\r\nERROR\r\nMN\r\n", ITEM], "touch 1" + REFUSED,
+           "get 1" + ORDER.format(both))
     caused("a shared number that became shorter", [b"set a 0 0 3\r\n100\r\ndecr a 1\r\n", b"get a\r\n"],
            [b"STORED\r\n99\r\n", item_of(b"99 ")], [b"STORED\r\n99\r\n", item_of(b"99")], "get 1" + PADDED)
     caused("one of a connection, and what follows", [b"set a 0 0 3\r\n100\r\ndecr a 1\r\nget a\r\nappend a 0 0 1\r\nx\r\nget a\r\n"],
@@ -250,14 +256,68 @@ def shared_causes():
     caused("a shared value that nobody stores", [b"get a\r\n", store], [OTHER, b"STORED\r\n"], [b"END\r\n", b"STORED\r\n"],
            "get 1" + BEFORE)
     caused("one in place of a value that is stored", [b"get a\r\n", store], [OTHER, b"STORED\r\n"], [ITEM, b"STORED\r\n"],
-           "get 1: may come of items that the capture does not store, which tools/warm puts into it, or of " + after)
+           "get 1" + BEFORE)
+    may_be = ("get 1: may come of the order in which the server took commands that came at one time, or of the order in which"
+              f" connections are served, for {both}" + AFTER)
     for name, more, answer, shown, cause in (
-        ("is joined", b"append a 0 0 1\r\ny\r\n", b"STORED\r\n", OTHER, ": may come of " + after),
-        ("is counted", b"incr a 1\r\n", b"8\r\n", item_of(b"7"), ": may come of " + after),
-        ("is not counted", b"incr a 1\r\n", b"8\r\n", OTHER, BEFORE),
+        ("is joined", b"append a 0 0 1\r\ny\r\n", b"STORED\r\n", OTHER, may_be),
+        ("is counted", b"incr a 1\r\n", b"8\r\n", item_of(b"7"), may_be),
+        ("is not counted", b"incr a 1\r\n", b"8\r\n", OTHER, "get 1" + BEFORE),
     ):
         caused(f"a value that {name}", [b"get a\r\n", store + more], [shown, b"STORED\r\n" + answer],
-               [b"END\r\n", b"STORED\r\n" + answer], "get 1" + cause)
+               [b"END\r\n", b"STORED\r\n" + answer], cause)
+
+
+def turned(name, turns, ones, others, why, words=()):
+    """The causes of all differences of commands that came like this, each answered before the next one came; a turn has a
+    connection and a command."""
+    made = capture(len(ones), [record for connection, text in turns for record in (segment(connection, text), segment(connection, b""))])
+    lines = compared(replies(ones), replies(others), "--all", *words, sent=made)[1]
+    same(name, why, [line[7:] for line in lines if line.startswith("  why: ")])
+    return lines
+
+
+def orders_of_arrival():
+    """What is known of the order of arrival leaves one cause."""
+    store, get, gets = b"set a 0 0 1\r\n%s\r\n", b"get a\r\n", b"VALUE a 0 1 %d\r\nx\r\nEND\r\n"
+    stored, cas = b"STORED\r\n", [(0, store % b"x"), (1, get), (0, b"gets a\r\n"), (0, b"cas a 0 0 1 7\r\ny\r\n"), (1, get)]
+    turned("a get before the cas", cas, [stored + gets % 7 + stored, ITEM + OTHER], [stored + gets % 4 + b"EXISTS\r\n", b"END\r\n" + ITEM],
+           ["cas", "order", "cas"])
+    turned("a cas whose unique is one here by chance", [(0, store % b"x"), (1, b"cas a 0 0 1 1\r\ny\r\n")], [stored, stored],
+           [stored, b"EXISTS\r\n"], ["cas"])
+    turned("after one that was translated", [*cas, (1, b"decr a 1\r\n"), (0, get)],
+           [stored + gets % 7 + stored + b"END\r\n", ITEM + OTHER + b"NOT_FOUND\r\n"],
+           [stored + gets % 4 + stored + OTHER, ITEM + OTHER + b"CLIENT_ERROR cannot increment or decrement non-numeric value\r\n"],
+           ["lost", "lost"])
+    warm = [(0, b"set a 0 2592000 1 noreply\r\nx\r\nget a\r\n"), (1, store % b"y"), (0, get)]
+    turned("a warmed item", warm, [ITEM + OTHER, stored], [ITEM + ITEM, stored], ["order"])
+    turned("a warmed item that is gone", [*warm[:1], (1, get)], [ITEM, b"END\r\n"], [ITEM, ITEM], ["exptime"])
+    turned("an item that is gone, and another order", [*warm[:1], (1, b"delete a\r\n"), (0, get)], [ITEM + b"END\r\n", b"NOT_FOUND\r\n"],
+           [b"END\r\n" * 2, b"DELETED\r\n"], ["order", "exptime"])
+    turned("one that was there before", [(0, b"delete a\r\n"), (1, get), (0, store % b"x"), (1, get)],
+           [b"DELETED\r\n" + stored, b"END\r\n" + ITEM], [b"NOT_FOUND\r\n" + stored, b"END\r\nEND\r\n"], ["from before", "order"])
+    lines = turned("an item that was lost", [(0, store % b"x"), (1, get), (1, get)], [stored, ITEM + b"END\r\n"], [stored, ITEM * 2], ["lost"])
+    same("what is said of it", "get 1" + LOST, lines[-1])
+    turned("one of a connection", [(0, store % b"x" + get)], [stored + b"END\r\n"], [stored + ITEM], ["lost"])
+    lines = turned("another value", [(0, store % b"x"), (1, store % b"y"), (0, get)], [stored + ITEM, stored], [stored + OTHER, stored], ["servers"])
+    same("what is said of it", "get 1" + SERVERS, lines[-1])
+    deletes = [segment(0, b"delete a\r\n"), segment(1, b"delete a\r\n"), segment(0, b""), segment(1, b"")]
+    made = capture(2, [segment(0, store % b"x"), segment(0, b""), segment(1, b"mn\r\n"), segment(1, b""), *deletes])
+    lines = compared(replies([stored + b"NOT_FOUND\r\n", b"MN\r\nDELETED\r\n"]), replies([stored + b"DELETED\r\n", b"MN\r\nNOT_FOUND\r\n"]),
+                     "--all", sent=made)[1]
+    same("commands that came at one time", ["  why: order"] * 2, lines[3::4][:2])
+    gets = [segment(0, b"get a b\r\n"), segment(1, b"set a 0 0 1\r\ny\r\n"), segment(1, b""), segment(1, b"set b 0 0 1\r\ny\r\n"), segment(1, b""), segment(0, b"")]
+    both = b"".join(b"VALUE %s 0 1\r\ny\r\n" % key for key in (b"a", b"b")) + b"END\r\n"
+    made, sets = capture(2, [segment(1, quiet(b"a")), segment(1, quiet(b"b")), *gets]), stored * 2
+    same("a get that saw keys at two times", "get 1" + TIMES.format("connections 0 and 1 both call the key a"), compared(
+        replies([b"VALUE a 0 1\r\n5\r\nVALUE b 0 1\r\ny\r\nEND\r\n", sets]), replies([both, sets]), sent=made)[1][-1])
+    turned("numbers and what was joined to them",
+           [(0, store % b"1"), (1, b"append a 0 0 1\r\n0\r\n"), (0, b"decr a 1\r\n"), (1, get), (0, b"touch a 9\r\n"), (1, get)],
+           [stored + b"9\r\nTOUCHED\r\n", stored + item_of(b"9 ") * 2], [stored + b"9\r\nERROR\r\n", stored + item_of(b"9") * 2],
+           ["not served", "padding", "padding"])
+    swapped = [(0, store % b"x"), (1, get), (0, b"version\r\n"), (1, get)]
+    turned("zygos's answers first", swapped, [stored + b"VERSION zygos-1.0\r\n", ITEM * 2], [stored + b"VERSION 1\r\n", ITEM + b"END\r\n"],
+           ["lost"], words=("--except", "version"))
 
 
 def long_answers():
@@ -342,7 +402,7 @@ def odd_keys():
 def other_causes():
     caused("an exptime", [b"set a 0 1 1\r\nx\r\nget a\r\n"], [b"STORED\r\nEND\r\n"], [b"STORED\r\n" + ITEM], "get 1" + EXPIRY)
     caused("an exptime by touch", [b"set a 0 0 1\r\nx\r\ntouch a 1\r\nget a\r\n"], [b"STORED\r\nTOUCHED\r\nEND\r\n"],
-           [b"STORED\r\nERROR\r\n" + ITEM], "2 differences: touch 1, get 1; --all prints them", "touch 1, get 1" + REFUSED)
+           [b"STORED\r\nERROR\r\n" + ITEM], "get 1" + EXPIRY, "touch 1" + REFUSED)
     for name, count in (("more", 2), ("fewer", 1)):
         made = capture(3 - count, [])
         got = compared(replies([b""] * count), replies([b""] * count), sent=made)
@@ -379,10 +439,11 @@ def edited_outputs():
         draw = random.Random(number)
         made = plain.run_of(read_capture(Part("capture", drawn.drawn_capture(draw, 4))), 4)
         streams = {output[:2]: made.streams[output[0]][output[1]] for output in made.outputs}
-        causes = Causes(Callers(streams))
+        callers = Callers(streams)
+        causes = Causes(callers, lambda: {})
         for output in (output for output in made.outputs if output.text):
             other = edited(draw, output.text)
-            causes.begin(output.connection, streams[output[:2]])
+            causes.begin(*output[:2], streams[output[:2]])
             for pair in ((output.text, other), (other, output.text)):
                 for found in (list(by_commands(streams[output[:2]], *pair)), list(by_answers(*pair))):
                     name = f"edited capture {number}, {output[:2]}"
@@ -396,7 +457,7 @@ def edited_outputs():
                         fail(name, f"{len(differ)} differences")
                     for exchange in differ:
                         if exchange.kind == BOTH and exchange.group:
-                            same(f"a cause: {name}", True, causes.differed(exchange).cause in CAUSES)
+                            same(f"a cause: {name}", True, bool(causes.differed(exchange).causes))
 
 
 def texts_of(made, connection, session):
@@ -429,5 +490,5 @@ def large():
 
 if __name__ == "__main__":
     carry_out(first_differences, one_answer_each, all_differences, silent_commands, not_recorded, items_from_before,
-              shared_keys, shared_causes, long_answers, steps, many_steps, uniques, odd_keys, other_causes,
+              shared_keys, shared_causes, orders_of_arrival, long_answers, steps, many_steps, uniques, odd_keys, other_causes,
               drawn_captures, edited_outputs, large)

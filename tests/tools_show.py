@@ -62,6 +62,9 @@ def choices():
     given = sessions([[b"A\r\n", b"B\r\n"], [b"C\r\n"]])
     prints("replies of a connection", b"replies, version 2\nconnection 0 session 0: 3 bytes\n  A\nconnection 0 session 1: "
            b"3 bytes\n  B\n", "show", "--connection", "0", given=given)
+    numbered = sessions([[b"A\r\nVALUE a 0 1\r\nx\r\nEND\r\n"]])
+    prints("replies with the numbers of answers", b"replies, version 2\nconnection 0 session 0: 24 bytes\n  answer 0\n  A\n  answer 1\n"
+           b"  VALUE a 0 1\n  x\n  END\n", "show", "--answers", given=numbered)
     prints("replies and a key", b"replies, version 2\n", "show", "--key", "a", given=given)
 
 

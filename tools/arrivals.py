@@ -1,13 +1,16 @@
 """The commands of a capture in the order in which their last bytes came, and their recorded answers."""
+from bisect import bisect_right
 from collections import Counter, namedtuple
 
 import ends
-from formats import Close, Fault, capture_head, capture_records, replies_records, replies_version
+from formats import (END, Close, Fault, Segment, capture_head, capture_records, capture_start, close, replies_records,
+                     replies_version, segment)
 from meaning import Framer
 from steps import BOTH, by_commands
 
-# a command, with the connection and the session that sent it
-Arrival = namedtuple("Arrival", "connection session command frame")
+FOREVER = 1 << 62
+# a command, with the connection and the session that sent it, and the number of the record in which its last byte came
+Arrival = namedtuple("Arrival", "connection session command frame record")
 
 
 class Arrivals:
@@ -34,7 +37,7 @@ class Arrivals:
     def commands(self):
         """The commands in order."""
         framers = {}
-        for session, record in self.records():
+        for place, (session, record) in enumerate(self.records()):
             connection = record.connection
             if isinstance(record, Close):
                 framers.pop(connection, None)
@@ -42,13 +45,39 @@ class Arrivals:
             if connection not in framers:
                 framers[connection] = Framer()
             for command, frame in framers[connection].feed(record.text):
-                yield Arrival(connection, session, command, frame)
+                yield Arrival(connection, session, command, frame, place)
+
+    def capture(self):
+        """The bytes of the capture."""
+        records = [close(record.connection) if isinstance(record, Close) else segment(*record) for _, record in self.records()]
+        return b"".join([capture_start(self.count, self.version), *records, END])
 
     def sessions(self):
         """All connections with their sessions, in the order of a replies file, once all records were read."""
         for connection in range(self.count):
             for session in range(self.later[connection] + 1):
                 yield connection, session
+
+
+class Kept(Arrivals):
+    """The commands of a capture that is kept, so that it may be standard input; `streams` are those of its sessions."""
+
+    def __init__(self, name):
+        super().__init__(name)
+        self.kept = list(super().records())
+        self.streams = streams_of(self.kept)
+
+    def records(self):
+        return iter(self.kept)
+
+
+def streams_of(records):
+    """The streams of records, by connection and session."""
+    found = {}
+    for session, record in records:
+        if not isinstance(record, Close):
+            found.setdefault((record.connection, session), []).append(record.text)
+    return {key: b"".join(pieces) for key, pieces in found.items()}
 
 
 # ---- recorded answers
@@ -88,15 +117,63 @@ def outputs(name):
 
 def answered(arrivals, name):
     """The commands of a capture in order, each with its answer in a replies file; None where there is none."""
-    streams = {}
-    for session, record in arrivals.records():
-        if not isinstance(record, Close):
-            streams.setdefault((record.connection, session), []).append(record.text)
-    texts, wanted = outputs(name), set(arrivals.sessions())
+    texts = recorded(arrivals, name)
+    return with_answers(arrivals, streams_of(arrivals.records()), texts)
+
+
+def recorded(arrivals, name):
+    """The outputs of a replies file, which is of the same traffic, by connection and session."""
+    for _ in arrivals.records():  # counts the sessions
+        pass
+    texts = outputs(name)
+    wanted = set(arrivals.sessions())
     if wanted != set(texts):
         raise Fault(f"not of the same traffic: {ends.name_of(arrivals.name)} has {arrivals.count} connections and"
                     f" {len(wanted)} sessions, {ends.name_of(name)} has {len({key[0] for key in texts})} and"
                     f" {len(texts)}")
-    sessions = {key: Session(b"".join(found), texts[key]) for key, found in streams.items()}
+    return texts
+
+
+def with_answers(arrivals, streams, *outputs_of):
+    """The commands of a capture in order, each with its answers in outputs by connection and session."""
+    sessions = [{key: Session(stream, texts.get(key, b"")) for key, stream in streams.items()} for texts in outputs_of]
     for arrival in arrivals.commands():
-        yield arrival, sessions[arrival[:2]].answer()
+        yield arrival, *(some[arrival[:2]].answer() for some in sessions)
+
+
+# ---- ends of commands
+
+
+def ends_of(arrivals, given):
+    """The records at whose time commands had ended at the latest; `given` has the commands, and what answered each.
+
+    Without the ends of answers, which `record --ends` writes, each client is taken to wait for them.
+    """
+    marks, begins, sessions = {}, {}, {}
+    for place, (session, record) in enumerate(arrivals.records()):
+        if isinstance(record, Segment):
+            (begins if record.text else marks).setdefault((record.connection, session), []).append(place)
+    for at, (arrival, *_) in enumerate(given):
+        sessions.setdefault(arrival[:2], []).append(at)
+    found = [FOREVER] * len(given)
+    for key, places in sessions.items():
+        own = [given[at] for at in places]
+        is_hidden = any("q" in arrival.command.letters for arrival, *_ in own)
+        by_key = by_begins(own, begins.get(key, ())) if is_hidden or not marks else by_marks(own, marks.get(key, ()))
+        last = FOREVER
+        for at, end in reversed(list(zip(places, by_key))):
+            found[at] = last = min(last, end)
+    return found
+
+
+def by_marks(given, marks):
+    """The ends of the answers of a session, in order."""
+    left = iter(marks)
+    return [FOREVER if one is None or arrival.command.quiet else next(left, FOREVER) for arrival, one, *_ in given]
+
+
+def by_begins(given, begins):
+    """What each client sent next; a command with `noreply` ends with a later one."""
+    for arrival, *_ in given:
+        at = bisect_right(begins, arrival.record)
+        yield FOREVER if arrival.command.quiet or at == len(begins) else begins[at]

@@ -1,22 +1,21 @@
-"""Why two servers differ in their answers to the commands of a capture.
+"""Why two servers differ in their answers to the commands of a capture; the first is the one that was recorded.
 
 Of each key it is kept what the capture did to it so far, and the cause of an earlier difference in it: what follows
-from that has the same cause. A difference in a key that several connections call may come of their order; what
-differences of all connections show of the key is another cause that it may have.
+from that has the same cause. A difference in a key that several connections call may come of their order: that is
+known of what zygos answers near the order of arrival (in_order.py).
 """
 from collections import namedtuple
 
-from answers import items, line_end
-from apart import keys_of, stored_by, timed_by
+from answers import items, line_end, without_uniques
+from apart import TOUCHING, keys_of, stored_by, timed_by
 from meaning import framed, line_of
 
 # the causes, from the one that says least of the servers to the one that says most; a difference in several keys has
-# the last one that there is
-BEFORE, UNIQUES, EXPIRY, PADDED, REFUSED, ORDER, QUIET, SERVERS = (
-    "before", "uniques", "expiry", "padded", "refused", "order", "quiet", "servers")
-CAUSES = (BEFORE, UNIQUES, EXPIRY, PADDED, REFUSED, ORDER, QUIET, SERVERS)
-# the cause of a difference; where it is the order, the keys in which answers differ, and why they depend on the order
-Blame = namedtuple("Blame", "cause keys why", defaults=[(), None])
+# those of the key with the last one that there is
+BEFORE, UNIQUES, EXPIRY, LOST, PADDED, REFUSED, OWN, TIMES, ORDER, QUIET, SERVERS = CAUSES = (
+    "before", "uniques", "expiry", "lost", "padded", "refused", "own", "times", "order", "quiet", "servers")
+# the causes of a difference, of which one or several may be the true one; and why it depends on the order, if it does
+Blame = namedtuple("Blame", "causes why", defaults=[None])
 # what two answers show of a key: whether there is an item, and its value; None where they do not show it
 Seen = namedtuple("Seen", "there values")
 
@@ -68,32 +67,39 @@ class Key:
         self.is_stored, self.has_exptime, self.cause = False, False, None
 
 
-class Causes:
-    """The causes of differences, of one connection after the other, and of its sessions in order."""
+def part_of(command, name, answer):
+    """What an answer shows of a key of its command."""
+    return found(answer).get(name) if command.verb in ("get", "gets") else without_uniques(answer)
 
-    def __init__(self, callers):
-        self.callers, self.keys, self.connection = callers, {}, None
+
+def stat_names(answer):
+    """The names of an answer to `stats`."""
+    return [line.split(b" ")[1] for line in answer.split(b"\r\n") if line.startswith(b"STAT ")]
+
+
+class Causes:
+    """The causes of differences, of one connection after the other, and of its sessions in order.
+
+    `in_order` gives what zygos answers near the order of arrival; it is asked only of commands that depend on the order.
+    """
+
+    def __init__(self, callers, in_order=None):
+        self.callers, self.in_order, self.keys, self.connection, self.session = callers, in_order, {}, None, None
         self.commands, self.at = iter(()), 0
-        # what differences of all connections showed of a key, which is the cause of others in it too
-        self.shown = {}
 
     def key(self, name):
         if name not in self.keys:
             self.keys[name] = Key()
         return self.keys[name]
 
-    def show(self, name, cause):
-        self.shown.setdefault(name, set()).add(cause)
-        return cause
-
     # ---- what commands do
 
-    def begin(self, connection, stream):
+    def begin(self, connection, session, stream):
         """Goes on to the next session of a connection."""
         self.pass_over(None)
         if connection != self.connection:
             self.keys, self.connection = {}, connection
-        self.commands, self.at = framed(stream), 0
+        self.session, self.commands, self.at = session, framed(stream), 0
 
     def pass_over(self, number):
         """Goes on to a command of the session, or to its end."""
@@ -122,27 +128,21 @@ class Causes:
                     self.key(name).cause = None
 
     def differed(self, exchange):
-        """The cause of a difference, so far."""
-        self.pass_over(exchange.first)
-        one, other = exchange.one[1] or b"", exchange.other[1] or b""
+        """The causes of a difference."""
         commands = [command for _, _, command in exchange.group]
         if len(commands) > 1:
-            cause, names = self.of_several(commands)
+            self.pass_over(exchange.first)
+            found = [(self.of_several(commands),)]
         else:
-            cause, names = self.of_command(commands[0], exchange.line, one, other)
-        if cause != ORDER:
-            return Blame(cause)
-        return Blame(cause, tuple(names), next(filter(None, map(self.callers.order, commands))))
-
-    def all_of(self, blame):
-        """The causes that a difference may have, once all differences are known."""
-        if blame.cause != ORDER:
-            return (blame.cause,)
-        shown = set().union(*(self.shown.get(name, ()) for name in blame.keys))
-        return tuple(cause for cause in CAUSES if cause in shown or cause == ORDER)
+            causes = self.by_key(exchange).values()
+            found = [cause if isinstance(cause, tuple) else (cause,) for cause in causes]
+            found = found or [self.without_key(commands[0], exchange)]
+        last = max((causes[-1] for causes in found), key=CAUSES.index)
+        some = {cause for causes in found if causes[-1] == last for cause in causes}
+        return Blame(tuple(cause for cause in CAUSES if cause in some), next(filter(None, map(self.callers.order, commands)), None))
 
     def of_several(self, commands):
-        """The cause where it is not known which of several commands was answered how, and their keys."""
+        """The cause where it is not known which of several commands was answered how."""
         names = list(dict.fromkeys(name for command in commands for name in command.keys))
         shared = [name for name in names if name in self.callers.second]
         causes = {self.key(name).cause for name in names if name not in shared} - {None}
@@ -151,24 +151,35 @@ class Causes:
         cause = BEFORE if is_new else QUIET
         if causes and not is_new and not shared:
             cause = max(causes, key=CAUSES.index)
-        elif any(map(self.callers.order, commands)) and not is_new:
-            cause = ORDER
         for name in names:
             self.key(name).cause = cause
-        return cause, names
+        return cause
 
-    def of_command(self, command, line, one, other):
-        """The cause where a command was answered like this, and the keys in which the order may be the cause."""
+    def without_key(self, command, exchange):
+        """The causes where a command without a key was answered in two ways."""
         if command.verb == "fault":
-            for name in keys_of(command, line):
-                self.key(name).cause = self.show(name, REFUSED)
-            return REFUSED, ()
+            return (REFUSED,)
+        names = [stat_names(answer or b"") for _, answer in (exchange.one, exchange.other)]
+        if command.verb == "version" or command.verb == "stats" and names[0] != names[1]:
+            return (OWN,)
+        return (TIMES, ORDER) if self.callers.order(command) else (SERVERS,)
+
+    def by_key(self, exchange):
+        """The cause of a difference by key, and the causes of one in a key of which there may be several."""
+        self.pass_over(exchange.first)
+        one, other = exchange.one[1] or b"", exchange.other[1] or b""
+        [(number, line, command)] = exchange.group
+        if command.verb == "fault":
+            for name in () if line.startswith(TOUCHING) else keys_of(command, line):
+                self.key(name).cause = REFUSED
+            return dict.fromkeys(keys_of(command, line), REFUSED)
         causes = {}
         for name, seen in self.seen(command, one, other).items():
-            causes[name] = self.key(name).cause = self.of_key(command, name, seen, (one, other))
-        if causes:
-            return max(causes.values(), key=CAUSES.index), [name for name in causes if causes[name] == ORDER]
-        return ORDER if self.callers.order(command) else SERVERS, ()
+            if self.callers.order(command):
+                causes[name] = self.in_any_order(command, number, name, other)
+            else:
+                causes[name] = self.key(name).cause = self.of_key(command, name, seen, (one, other))
+        return causes
 
     @staticmethod
     def seen(command, one, other):
@@ -181,25 +192,29 @@ class Causes:
                 for name in command.keys if ones.get(name) != others.get(name)}
 
     def of_key(self, command, name, seen, answers):
-        """The cause of a difference in one key."""
-        key, is_shared = self.key(name), name in self.callers.second
-        differs = None not in seen.there and seen.there[0] != seen.there[1]
-        if differs and not (name in self.callers.stored if is_shared else key.is_stored):
+        """The cause of a difference in a key that one connection alone calls."""
+        key = self.key(name)
+        is_gone, is_more = seen.there == (False, True), seen.there == (True, False)
+        if (is_gone or is_more) and not key.is_stored:
             return BEFORE
-        if key.cause and not is_shared:
-            return key.cause
         if "cas" in (command.verb, command.call):
             is_stored = [text.startswith((b"STORED", b"HD")) for text in answers]
             if any(is_stored) and any(text.startswith(b"EX") for text in answers):
-                return self.show(name, UNIQUES)
+                return UNIQUES
         if name in self.callers.counted and is_padded(*seen.values):
-            return self.show(name, PADDED)
-        if is_shared and any(value is not None and not self.callers.may_store(name, value) for value in seen.values):
-            self.show(name, BEFORE)
-            if differs:
-                return BEFORE
-        if self.callers.order(command):
-            if differs and (name in self.callers.timed if is_shared else key.has_exptime):
-                self.show(name, EXPIRY)
-            return ORDER
-        return EXPIRY if differs and key.has_exptime else SERVERS
+            return PADDED
+        if key.cause:
+            return key.cause
+        if (is_gone or is_more) and key.has_exptime:
+            return EXPIRY
+        return LOST if is_gone else SERVERS
+
+    def in_any_order(self, command, number, name, other):
+        """The causes of a difference in a key that depends on the order of connections."""
+        expected = self.in_order().get((self.connection, self.session, number))
+        if expected is None or name not in expected.causes:
+            return (ORDER,)
+        causes = expected.causes[name]
+        if causes == (BEFORE,) or part_of(command, name, expected.text) == part_of(command, name, other):
+            return causes
+        return tuple(cause for cause in CAUSES if cause in causes or cause == ORDER)

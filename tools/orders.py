@@ -1,174 +1,294 @@
-"""An order of commands that came close to each other in which a server may have answered as it was recorded.
+"""An order of commands in which a server may have answered as it was recorded.
 
 A server takes the commands of several connections in an order of its own. Each command was carried out after it came
-and, if its client waits for answers, before the next one of its connection came. So it may change places with those
-that came in between. A `get` whose recorded answer is what its key has goes at once. One that shows what a later `set`
-stores waits for that, and a `set` waits as long as it can. A `set` that no `get` shows any more goes right before
-another one. If such an order explains fewer answers than that of arrival, which the plain model says, that is taken.
+and before it had ended: before the next one of its connection came or, if the ends of answers are known, before its
+answer was whole. tools/judge searches for such an order. If it finds none soon, one near that of arrival is made, in
+which a command may change places with those that came in between. One that changes nothing goes as soon as its
+recorded answer fits the items of its keys. One that changes an item waits as long as it can. If a command has to go,
+and its answer does not fit, a few that wait go before it, after which it does. What a command leaves may be gone before
+anybody sees it: then it goes right before the next one that stores or deletes. If such an order explains fewer answers
+than that of arrival, which the plain model says, that is taken.
 """
-from collections import Counter, deque
+from collections import Counter, deque, namedtuple
+from heapq import heappop, heappush
+from itertools import count
 
-from model import Shard, calls, text_of
+from apart import TOUCHING, keys_of
+from arrivals import ends_of
+from formats import Output
+from judging.events import Verdict
+from judging.judge import Judge
+from meaning import line_of
+from replaying import Replay
+from seen import UNKNOWN, WRONG, Seen
 from steps import alike
 
-UNKNOWN, STORED, MISS = object(), b"STORED\r\n", b"END\r\n"
+# how many states of a key judge looks at
+LIMIT = 10000
+# how many commands go before one that has to go, so that it fits, and how many items are tried for that
+MOST, TRIED = 3, 400
+# the last command on a key that stores or deletes whatever was there: its place, what it was, and the item before it
+Last = namedtuple("Last", "place seen item")
 
 
 class Waiting:
-    """A command that came and has no place yet: a `set`, or a `get`, with what a `get` then answers or it answered."""
+    """A command that came and has no place yet, with what is known of it."""
 
-    __slots__ = "arrival", "key", "text", "is_set", "since"
+    __slots__ = "arrival", "keys", "seen", "since", "is_waiting"
 
-    def __init__(self, arrival, text, since):
-        self.arrival, self.key, self.text, self.since = arrival, arrival.command.keys[0], text, since
-        self.is_set = arrival.command.verb == "set"
-
-
-def text_after(command):
-    """What a `get` answers that follows a command that stored its value."""
-    flags, value = command.numbers["flags"], command.value
-    return b"VALUE %s %d %d\r\n%s\r\nEND\r\n" % (command.keys[0], flags, len(value), value)
+    def __init__(self, arrival, seen, since):
+        self.arrival, self.seen, self.since, self.is_waiting = arrival, seen, since, True
+        self.keys = dict.fromkeys(arrival.command.keys)
 
 
-def shown(command, answer):
-    """What a `get` answers that follows a `set`, or that this is; None for any other command."""
-    if command.verb == "set" and command.value is not None and answer in (STORED, None):
-        return text_after(command)
-    return answer if command.verb == "get" and len(command.keys) == 1 else None
-
-
-def left_by(command, answer):
-    """What a `get` answers that follows a command of another kind."""
-    if "delete" in (command.verb, command.call):
-        return MISS
-    return text_after(command) if command.verb == "add" and answer == STORED else UNKNOWN
+def wanted_of(key, item):
+    """What is counted of an item that a retrieval shows."""
+    return (key, item and item[:2]) if item is not UNKNOWN else None
 
 
 class Order:
-    """The order, as commands come; `wanted` counts the `get`s that have no place yet, by their keys and answers."""
+    """The order, as commands come; `wanted` counts what retrievals show that have no place yet."""
 
-    def __init__(self, wanted):
-        self.wanted, self.is_unknown, self.items, self.waiting, self.by_connection = wanted, False, {}, {}, {}
-        # commands, each after those that are put right before it; and the place of the last `set` of a key
-        self.places, self.last_set = [], {}
+    def __init__(self, wanted, is_single):
+        self.is_single, self.wanted, self.is_unknown = is_single, wanted, False
+        self.items, self.waiting, self.by_connection = {}, {}, {}
+        # commands, each after those that are put right before it
+        self.places, self.last = [], {}
+        # the place of the last command of each connection that has one
+        self.placed = {}
+        # those that wait, by the record at whose time they had ended at the latest
+        self.ends, self.count = [], count()
 
-    def add(self, arrival, answer):
-        """Another command came, and was answered by this."""
-        if (before := self.by_connection.get(arrival.connection)) is not None:
-            self.force(before)
-        text = shown(arrival.command, answer)
-        if text is None:
-            self.other(arrival, answer)
+    def add(self, arrival, seen, end):
+        """Another command came, which had ended at the time of a record."""
+        while self.ends and self.ends[0][0] < arrival.record:
+            *_, one = heappop(self.ends)
+            self.force(one)
+        own = self.by_connection.setdefault(arrival.connection, deque())
+        while own and (self.is_single or not arrival.command.keys):
+            self.force(own[0])
+        if not arrival.command.keys:
+            self.other(arrival)
             return
-        one = Waiting(arrival, text, len(self.places))
-        self.by_connection[arrival.connection] = one
-        self.waiting.setdefault(one.key, []).append(one)
-        self.settle(one.key)
+        one = Waiting(arrival, seen, len(self.places))
+        own.append(one)
+        for key in one.keys:
+            self.waiting.setdefault(key, []).append(one)
+        heappush(self.ends, (end, next(self.count), one))
+        self.settle(one.keys)
 
     def all(self):
         """All commands in the order, once all have come."""
-        while self.by_connection:
-            self.force(next(iter(self.by_connection.values())))
+        while self.ends:
+            *_, one = heappop(self.ends)
+            self.force(one)
         return (arrival for place in self.places for arrival in place)
 
     # ---- places
 
     def item(self, key):
-        """What a `get` of a key would answer now."""
-        return self.items.get(key, UNKNOWN if self.is_unknown else MISS)
+        """The item of a key now."""
+        return self.items.get(key, UNKNOWN if self.is_unknown else None)
 
-    def leave(self, one):
-        """A command waits no more."""
-        del self.by_connection[one.arrival.connection]
-        self.waiting[one.key].remove(one)
-        if not one.is_set:
-            self.wanted[one.key, one.text] -= 1
+    def can_go(self, one):
+        """Whether a command changes nothing, and fits the items of its keys."""
+        fits = one.seen.is_reading and self.is_first(one)
+        return fits and all(one.seen.after(key, self.item(key)) is not WRONG for key in one.keys)
+
+    def is_first(self, one):
+        """Whether a command waits, and no other one of its connection before it."""
+        return one.is_waiting and self.by_connection[one.arrival.connection][0] is one
+
+    def leave(self, one, place):
+        """A command waits no more, and has this place."""
+        one.is_waiting = False
+        self.by_connection[one.arrival.connection].popleft()
+        self.placed[one.arrival.connection] = place
+        for key in one.keys:
+            self.waiting[key].remove(one)
+            if one.seen.items:
+                self.wanted[wanted_of(key, one.seen.items[key])] -= 1
 
     def go(self, one):
         """A command comes next."""
-        self.leave(one)
-        if one.is_set:
-            self.last_set[one.key] = len(self.places)
-        if one.is_set or self.item(one.key) is UNKNOWN:
-            self.items[one.key] = one.text
+        self.leave(one, len(self.places))
+        for key in one.keys:
+            old = self.item(key)
+            new = one.seen.after(key, old)
+            self.items[key] = one.seen.left(key, old) if new is WRONG else new
+            if not one.seen.is_reading:
+                self.note(key, one.seen, old)
         self.places.append([one.arrival])
+        if own := self.by_connection[one.arrival.connection]:
+            self.settle(own[0].keys)
 
-    def settle(self, key):
-        """Each `get` goes that shows what there is; where that is not known, after the `set` that it shows, if one waits."""
-        for one in list(self.waiting[key]):
-            if one.is_set or self.item(key) not in (UNKNOWN, one.text):
-                continue
-            source = self.source(one) if self.item(key) is UNKNOWN else None
-            if source:
-                self.go(source)
-            self.go(one)
+    def note(self, key, seen, old):
+        """A command that changed a key has its place next."""
+        if seen.name in ("set", "delete"):
+            self.last[key] = Last(len(self.places), seen, old)
+        else:
+            self.last.pop(key, None)
 
-    def source(self, one):
-        """The first waiting `set` of what a `get` shows."""
-        return next((other for other in self.waiting[one.key] if other.is_set and other.text == one.text), None)
+    def settle(self, keys):
+        """Each command goes that changes nothing and fits; where an item is not known, after the one that left what it
+        shows, if that waits."""
+        for key in keys:
+            for one in list(self.waiting.get(key, ())):
+                if self.can_go(one):
+                    source = self.source(one, key) if self.item(key) is UNKNOWN else None
+                    if source:
+                        self.go(source)
+                    self.put(one)
+
+    def source(self, one, key):
+        """The first command that waits and stores what another one shows."""
+        item = one.seen.items and one.seen.items[key]
+        return next((other for other in self.waiting[key] if item and item is not UNKNOWN and other.seen.name == "set"
+                     and self.is_first(other) and not other.seen.is_reading and other.seen.stored()[:2] == item[:2]), None)
 
     def force(self, one):
         """A command goes now at the latest."""
-        source = None
-        if not one.is_set:
-            source = self.source(one)
-        elif not self.wanted[one.key, one.text] and self.last_set.get(one.key, -1) >= one.since:
-            self.leave(one)
-            self.places[self.last_set[one.key]].insert(0, one.arrival)
+        own = self.by_connection[one.arrival.connection]
+        while one.is_waiting and own[0] is not one:
+            self.force(own[0])
+        if not one.is_waiting or not one.seen.is_reading and self.hide(one):
             return
-        else:
+        if one.seen.name == "set":
             self.show_others(one)
-        self.go(source or one)
-        self.settle(one.key)
+        for key in one.keys:
+            if one.seen.after(key, self.item(key)) is WRONG:
+                for other in self.path(one, key):
+                    self.put(other)
+        self.put(one)
+
+    def put(self, one):
+        """A command goes, if it still waits, and no other one of its connection before it."""
+        if self.is_first(one):
+            self.go(one)
+            self.settle(one.keys)
+
+    def hide(self, one):
+        """Puts a command right before the last one on its key that stores or deletes, if that came later, it fits there, and
+        what there is now is still shown, or what it leaves is not. Gives whether it did."""
+        [key] = one.keys
+        last, now = self.last.get(key), self.item(key)
+        if last is None or last.place < one.since or last.place <= self.placed.get(one.arrival.connection, -1):
+            return False
+        new = one.seen.after(key, last.item)
+        if new is WRONG or new is UNKNOWN or last.seen.after(key, new) is WRONG:
+            return False
+        is_shown = now is not UNKNOWN and self.wanted[wanted_of(key, now)] > 0
+        if one.seen.after(key, now) is not WRONG and not is_shown and not (one.seen.name == "set" and not self.wanted[wanted_of(key, new)]):
+            return False
+        if new is not None and self.wanted[wanted_of(key, new)]:
+            return False
+        self.leave(one, last.place)
+        self.places[last.place].insert(0, one.arrival)
+        self.last[key] = last._replace(item=new)
+        return True
 
     def show_others(self, one):
-        """Before a `set`, those others go that only waiting `get`s show."""
-        waiting = self.waiting[one.key]
-        seen = Counter(other.text for other in waiting if not other.is_set)
-        for other in [other for other in waiting if other.is_set and other is not one]:
-            if other.text != one.text and 0 < seen[other.text] == self.wanted[other.key, other.text]:
-                self.go(other)
-                self.settle(one.key)
+        """Before a `set`, those others go that only waiting retrievals show."""
+        [key] = one.keys
+        waiting = self.waiting[key]
+        shown = Counter(wanted_of(key, other.seen.items[key]) for other in waiting if other.seen.items)
+        for other in [other for other in waiting if other is not one and other.seen.name == "set" and not other.seen.is_reading
+                      and self.is_first(other)]:
+            item = wanted_of(key, other.seen.stored())
+            if item and other.seen.stored()[:2] != one.seen.stored()[:2] and 0 < shown[item] == self.wanted[item]:
+                self.put(other)
 
-    def other(self, arrival, answer):
-        """A command of another kind goes where it came, after all that wait for its keys."""
+    def path(self, one, key):
+        """The fewest commands that wait after which one fits a key; none where none are found."""
+        others = [other for other in self.waiting[key] if other is not one and not other.seen.is_reading and self.is_first(other)]
+        found, tried = deque([(self.item(key), [])]), 0
+        while found and tried < TRIED:
+            item, path = found.popleft()
+            for other in others:
+                new = WRONG if other in path else other.seen.after(key, item)
+                tried += 1
+                if new is WRONG:
+                    continue
+                if one.seen.after(key, new) is not WRONG:
+                    return [*path, other]
+                if len(path) < MOST - 1:
+                    found.append((new, [*path, other]))
+        return []
+
+    def other(self, arrival):
+        """A command without a key goes where it came: a `flush_all` and one that zygos does not serve after all that wait
+        for the keys that it may change."""
         command = arrival.command
-        is_wide = command.verb in ("flush_all", "stats", "fault")
-        for key in list(self.waiting) if is_wide else command.keys:
+        is_wide = command.verb == "flush_all"
+        keys = keys_of(command, line_of(arrival.frame)) if command.verb == "fault" and not arrival.frame.startswith(TOUCHING) else ()
+        for key in list(self.waiting) if is_wide else keys:
             while self.waiting.get(key):
                 self.force(self.waiting[key][0])
+        self.placed[arrival.connection] = len(self.places)
         self.places.append([arrival])
-        if is_wide and command.verb != "stats":
-            self.items, self.is_unknown, self.last_set = {}, True, {}
-        elif command.verb not in ("get", "gets", "mg", "stats"):
-            for key in command.keys:
-                self.items[key] = left_by(command, answer)
-                self.last_set.pop(key, None)
+        if is_wide:
+            self.items, self.is_unknown, self.last = {}, True, {}
+        for key in keys:
+            self.items[key] = UNKNOWN
+            self.last.pop(key, None)
+
+
+# ---- the order that is taken
 
 
 def explained(arrivals, answered):
     """How many commands in this order are answered as it was recorded."""
-    shard, left, count = Shard(0, 1), {}, 0
-    for arrival, answer in answered:
-        left.setdefault(arrival.connection, deque()).append(answer)
+    replay, found = Replay(), 0
+    for arrival, answer, *_ in again(arrivals, answered):
+        _, text = replay.carry_out(arrival.command, arrival.frame, answer)
+        found += answer is not None and arrival.command.verb != "stats" and alike(answer, text)
+    return found
+
+
+def again(arrivals, answered):
+    """The commands in an order of their own, each with what it has among `answered`, which is in that of arrival."""
+    left = {}
+    for arrival, *more in answered:
+        left.setdefault(arrival.connection, deque()).append(more)
     for arrival in arrivals:
-        command, answer = arrival.command, left[arrival.connection].popleft()
-        found = [shard.answer(call) for _, call in calls(1, command) if call.name != "tally"]
-        count += answer is not None and command.verb != "stats" and alike(answer, text_of(command, found))
-    return count
+        yield arrival, *left[arrival.connection].popleft()
 
 
-def ordered(answered):
-    """The commands in such an order, of a list of pairs: a command that came, and its recorded answer."""
-    by_arrival = [arrival for arrival, _ in answered]
-    return max(near(answered), by_arrival, key=lambda order: explained(order, answered))
+def ordered(arrivals, answered, texts):
+    """The commands in an order that explains most of their recorded answers; `texts` are the recorded outputs."""
+    by_arrival, found = [arrival for arrival, *_ in answered], judged(arrivals, answered, texts)
+    if found:
+        orders = [found, by_arrival]
+    else:
+        ends = ends_of(arrivals, answered)
+        orders = [near(answered, ends, is_single) for is_single in (True, False)] + [by_arrival]
+    return max(orders, key=lambda order: explained(order, answered))
 
 
-def near(answered):
-    """An order near that of arrival."""
-    wanted = Counter((arrival.command.keys[0], answer) for arrival, answer in answered
-                     if arrival.command.verb == "get" and answer is not None and shown(arrival.command, answer))
-    order = Order(wanted)
-    for one in answered:
-        order.add(*one)
+def judged(arrivals, answered, texts):
+    """The order that judge finds, if it finds one soon; a retrieval of several keys is where its last call is."""
+    outputs = [Output(*key, text) for key, text in sorted(texts.items())]
+    try:
+        judge = Judge(arrivals.capture(), outputs, loses=True, limit=LIMIT, has_reasons=False)
+        judge.run()
+    except Verdict:
+        return None
+    left, calls, order = {}, Counter(event.asked for event in judge.order), []
+    for arrival, *_ in answered:
+        left.setdefault(arrival.connection, deque()).append(arrival)
+    gone = dict.fromkeys(left, -1)
+    for event in judge.order:
+        calls[event.asked] -= 1
+        while not calls[event.asked] and gone.get(event.connection, event.asked.number) < event.asked.number:
+            order.append(left[event.connection].popleft())
+            gone[event.connection] += 1
+    return order + [arrival for some in left.values() for arrival in some]
+
+
+def near(answered, ends, is_single):
+    """An order near that of arrival; with `is_single` no two commands of a connection wait at one time."""
+    seen = [Seen(arrival.command, answer) for arrival, answer, *_ in answered]
+    order = Order(Counter(wanted_of(key, item) for one in seen for key, item in (one.items or {}).items()), is_single)
+    for (arrival, *_), one, end in zip(answered, seen, ends):
+        order.add(arrival, one, end)
     return list(order.all())

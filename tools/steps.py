@@ -21,6 +21,8 @@ BOTH, ALONE, ENDED, LEFT = "both", "alone", "ended", "left"
 # how many answers are looked at ahead, how many are passed over at most, and for how many the step is not asked again
 # while they fit their commands: for twice as many each time that both are in step
 LOOK, MOST, LEAST_SURE, MOST_SURE = 64, 8, 16, 1024
+# how many are looked at for one command that may be silent
+SHORT = 16
 # what counts of each eight answers ahead that differ
 WEIGHTS = (1, 0.7, 0.5, 0.35, 0.25, 0.18, 0.12, 0.09)
 # how far the answers of both are passed over, and how many commands
@@ -104,6 +106,22 @@ def is_fault(answer):
     return answer is not None and FAULT.match(answer) is not None
 
 
+def is_answered(lines, texts):
+    """Whether the first of these lines, a faulty one with noreply, has the first of these answers: that is an error, and
+    those after it fit the lines after it as well as if the line had none."""
+    return bool(texts) and is_fault(texts[0]) and unfit(lines[1:], texts[1:]) <= unfit(lines[1:], texts)
+
+
+def unfit(lines, texts):
+    """How many answers do not fit these lines, of which those with noreply are faulty and may have none."""
+    at = count = 0
+    for line in lines:
+        if at < len(texts) and (is_fault(texts[at]) or not line.rstrip().endswith(b" noreply")):
+            count += not fits(line, texts[at])
+            at += 1
+    return count
+
+
 class Steps:
     """The exchanges of a session; without its commands only the answers are known."""
 
@@ -137,20 +155,38 @@ class Steps:
 
     def perhaps(self, group):
         """A command that has an error for an answer, or none."""
+        is_answering = self.answering(0, 0, 0)
         self.groups.take()
-        found = [side.take() if is_answering else (side.taken, None)
-                 for side, is_answering in zip((self.one, self.other), self.answering(0, 0))]
+        found = [side.take() if is_one else (side.taken, None) for side, is_one in zip((self.one, self.other), is_answering)]
         texts = [text for _, text in found]
         if texts != [None, None]:
             yield self.exchange(ALONE if None in texts else BOTH, group, *found)
 
-    def answering(self, one_at, other_at):
+    def answering(self, one_at, other_at, group_at):
         """Which sides answer such a command: those whose next answer is an error, unless it is the other's answer to
         the command after it."""
         one, other = self.one.get(one_at), self.other.get(other_at)
-        if not (is_fault(one) and is_fault(other)) or one == other:
+        if not is_fault(one) or not is_fault(other):
             return is_fault(one), is_fault(other)
-        return one != self.other.get(other_at + 1), other != self.one.get(one_at + 1)
+        if one != other:
+            return one != self.other.get(other_at + 1), other != self.one.get(one_at + 1)
+        lines = self.lines(group_at)
+        return tuple(is_answered(lines, list(self.texts(side, at, len(lines)))) for side, at in ((self.one, one_at), (self.other, other_at)))
+
+    def lines(self, at):
+        """The lines of the next commands, up to one whose answers are not known one by one."""
+        found = []
+        while len(found) < SHORT and (line := self.line(at)) is not None:
+            found.append(line)
+            at += 1
+        return found
+
+    @staticmethod
+    def texts(side, at, count):
+        for number in range(at, at + count):
+            if side.get(number) is None:
+                return
+            yield side.get(number)
 
     def finish(self, exchange):
         """All that is left is one exchange, whose last command is the number of answers that are left."""
@@ -251,7 +287,7 @@ class Steps:
                 line = group[0][1] if group else b""
                 if not group or not is_silent(group):
                     break
-                is_one, is_other = self.answering(one_at, other_at)
+                is_one, is_other = self.answering(one_at, other_at, group_at)
                 one_at, other_at, group_at = one_at + is_one, other_at + is_other, group_at + 1
             one, other = self.one.get(one_at), self.other.get(other_at)
             if one is not None or other is not None:

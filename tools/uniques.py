@@ -5,8 +5,11 @@ command. If it is known what the recorded server answered, the unique that it sh
 server shows of it in the answer to the same command: that of this session, or else of another one. If not, a unique
 becomes the last one that the server has shown of its key. One for which there is none is sent as it is.
 """
+import re
+
 from pace import MOST_LINE, NAMING, Answers, Pending, words_of
 
+LINE_END = re.compile(rb"\r?\n")
 # where a command names its unique: in the word of this number, or in a later one that begins with C
 NAMED_BY_WORD, NAMED_BY_FLAG = {b"cas": 5}, {b"ms": 3, b"md": 2, b"ma": 2}
 
@@ -27,6 +30,20 @@ def place_of(words):
         return (NAMED_BY_WORD[verb], 0) if len(words) > NAMED_BY_WORD[verb] else None
     flags = range(NAMED_BY_FLAG.get(verb, len(words)), len(words))
     return next(((at, 1) for at in flags if words[at].startswith(b"C")), None)
+
+
+def with_unique(frame, unique):
+    """A command that names another unique."""
+    words, end, block = cut_line(frame)
+    at, size = place_of(words)
+    words[at] = words[at][:size] + b"%d" % unique
+    return b" ".join(words) + end + block
+
+
+def cut_line(frame):
+    """The words of a command's line, its end, and the block."""
+    end = LINE_END.search(frame)
+    return words_of(frame[: end.start()]), frame[end.start() : end.end()], frame[end.end() :]
 
 
 def held_back(commands):

@@ -19,10 +19,9 @@ from collections import Counter
 from formats import END, JOURNAL_START, Call, Output, capture_start, close, entry, hold, pieces, replies_file, MOST_HOLD
 from meaning import Command
 from model import Shard, text_of
-from judging.events import CAS, FOREVER, GET, LOSS, Asked, Event, Unknown, brief, first_line
+from uniques import cut_line, with_unique
+from judging.events import APPEND, CAS, DECR, FOREVER, GET, INCR, LOSS, PREPEND, Asked, Event, Unknown, brief, first_line
 from judging.seeing import items_of
-
-LINE_END = re.compile(rb"\r?\n")
 
 
 class Certificate:
@@ -30,7 +29,7 @@ class Certificate:
 
     def __init__(self, recording, order, shards, extra=()):
         self.recording, self.order, self.shards, self.counts = recording, order, shards, Counter()
-        self.made, self.names, self.taken, self.unnamed = {}, {}, {}, set()
+        self.made, self.names, self.taken, self.unnamed, self.pads = {}, {}, {}, set(), {}
         self.asked = {connection: [asked for asked in some if not asked.is_dropped]
                       for connection, some in recording.asked.items()}
         for asked in extra:
@@ -50,16 +49,35 @@ class Certificate:
         shards, found = [Shard(number, self.shards) for number in range(self.shards)], []
         for stamp, event in enumerate(self.order, 1):
             shard, call = shards[event.shard], event.call
+            old = shard.items.get(event.key)
             if event.kind == CAS:
-                call = event.call = call._replace(unique=self.renamed(event, shard.items.get(event.key)))
+                call = event.call = call._replace(unique=self.renamed(event, old))
             reply = shard.answer(call)
+            self.note_pads(event, old, shard.items.get(event.key))
             if event.kind == GET and event.unique is not None and reply.name == "hit":
                 self.name(event.key, event.unique, reply.unique)
             if event.want not in (None, reply.name) or event.want == "number" and event.number != reply.number:
-                raise Unknown(f"zygos answers {reply.name} in the order that was found", lines=[event.told()])
+                raise Unknown(self.why_otherwise([event], reply.name), lines=[event.told()])
             self.made.setdefault(event.asked, []).append(reply)
             found.append(entry(stamp, event.shard, event.connection, event.asked.place, event.part, call, reply))
         return found
+
+    def note_pads(self, event, old, new):
+        """What a call does to the pad that a number of its key may have in memcached."""
+        if event.kind in (INCR, DECR):
+            if old and new and len(new.value) < len(old.value):
+                self.pads.setdefault(event.key, False)
+        elif event.kind in (APPEND, PREPEND):
+            if new is not old and event.key in self.pads:
+                self.pads[event.key] = True
+        elif new is not old:
+            self.pads.pop(event.key, None)
+
+    def why_otherwise(self, events, ours):
+        """Why an answer cannot be translated; `pads` says of padded numbers whether a value was joined to them."""
+        if any(self.pads.get(event.key) for event in events):
+            return f"a value was joined to a number that memcached pads with spaces; zygos, without them, answers {ours}"
+        return f"zygos answers {ours} in the order that was found"
 
     def name(self, key, unique, ours):
         """A unique of the server is that of this item of ours."""
@@ -103,7 +121,7 @@ class Certificate:
             self.counts["touch" if asked.original.startswith(b"touch") else "gat"] += 1
         for event in asked.events:
             if event.kind == CAS and event.call.unique != asked.command.numbers["unique"]:
-                frame = with_unique(frame, asked.command, event.call.unique)
+                frame = with_unique(frame, event.call.unique)
         if asked.is_lost:
             self.counts["now noreply"] += 1
             frame = with_noreply(asked, frame)
@@ -167,7 +185,7 @@ class Certificate:
             [re.sub(rb"^VA [0-9]+", b"VA", head) for head in heads[1:]]
 
     def untranslated(self, asked, ours):
-        return Unknown(f"zygos answers {first_line(ours)} in the order that was found", asked)
+        return Unknown(self.why_otherwise(asked.events, first_line(ours)), asked)
 
     # ---- files
 
@@ -207,22 +225,6 @@ def unmarked(text, marks):
     """A meta answer without these marks in its line."""
     line, end, rest = text.partition(b"\n")
     return re.sub(rb" [%s][0-9]+(?=[ \r])" % marks, b"", line) + end + rest
-
-
-def cut_line(frame):
-    """The words of a frame's line, its end, and the block."""
-    end = LINE_END.search(frame)
-    return [word for word in frame[: end.start()].split(b" ") if word], frame[end.start() : end.end()], frame[end.end() :]
-
-
-def with_unique(frame, command, unique):
-    """A command with another unique."""
-    words, end, block = cut_line(frame)
-    if command.verb == "cas":
-        words[5] = b"%d" % unique
-    else:
-        words = [b"C%d" % unique if at > 2 and word[:1] == b"C" else word for at, word in enumerate(words)]
-    return b" ".join(words) + end + block
 
 
 def with_noreply(asked, frame):

@@ -40,7 +40,8 @@ class Clock:
 class Judge:
     """The search for an order of a recording; `order` has its events once `run` has ended."""
 
-    def __init__(self, capture, outputs, shards=16, kind=None, is_warm=False, loses=False, limit=200000, clock=None):
+    def __init__(self, capture, outputs, shards=16, kind=None, is_warm=False, loses=False, limit=200000, clock=None,
+                 has_reasons=True):
         self.clock, self.shards = clock or Clock(), shards
         self.recording = Recording(capture, outputs)
         self.recording.pair()
@@ -51,7 +52,7 @@ class Judge:
         seeing = Seeing(self.recording, shards)
         self.events = seeing.all()
         self.clock.set("sorting calls by keys")
-        self.keys = Keys(self.events, shards, loses, is_warm, limit, self.clock.look, seeing.unsure)
+        self.keys = Keys(self.events, shards, loses, is_warm, limit, self.clock.look, seeing.unsure, has_reasons)
         self.is_numbered = shards == 1 and any(event.unique is not None for event in self.events)
         self.losses, self.order = 0, []
 

@@ -23,11 +23,11 @@ class Keys:
 
     A flush is a call on each key of its shard. With `is_warm` a key may have an item at first: one that explains what was
     seen. `limit` is how many states of a key are looked at, and `look` is called from time to time. Of keys that are
-    `unsure` nothing can be refused.
+    `unsure` nothing can be refused. Without `has_reasons` nothing is said of why there is no order.
     """
 
-    def __init__(self, events, shards, loses=False, is_warm=False, limit=200000, look=lambda: None, unsure=()):
-        self.unsure = set(unsure)
+    def __init__(self, events, shards, loses=False, is_warm=False, limit=200000, look=lambda: None, unsure=(), has_reasons=True):
+        self.unsure, self.has_reasons = set(unsure), has_reasons
         self.states, self.shards, self.is_warm, self.limit, self.look = States(True, loses), shards, is_warm, limit, look
         self.events, self.first, self.found, self.shard_of = {}, {}, {}, {}
         self.reach, self.all = {}, events
@@ -76,8 +76,10 @@ class Keys:
         step, begin, slots = self.model_of(keys)
         first = {key: self.first_of(key) for key in keys}
         try:
-            order = Search(events, begin, step, self.limit, Needs(events, self.states, first), slots, None, self.look).run()
+            order = self.order_of(events, begin, step, first, slots)
         except Stuck as stuck:
+            if not self.has_reasons:
+                raise Unknown("there is no order") from None
             raise Reason(self, keys, events, stuck.at).verdict() from None
         except GaveUp:
             names = f"key {shown(keys[0])}" if len(keys) == 1 else "keys " + ", ".join(map(shown, keys[:5]))
@@ -88,6 +90,21 @@ class Keys:
                 Placed(events[place], is_change, was_lost, state if slot is None else state[slot])
                 for place, is_change, was_lost, state in order
                 if events[place].key == key or events[place].kind == FLUSH and events[place].shard == self.shard_of[key]]
+
+    def order_of(self, events, begin, step, first, slots):
+        """An order of these calls; one without losses, if such a one is soon found."""
+        if self.states.loses:
+            self.states.loses = False
+            try:
+                return self.run(events, begin, step, first, slots, min(self.limit, MOST_STATES))
+            except (Stuck, GaveUp):
+                pass
+            finally:
+                self.states.loses = True
+        return self.run(events, begin, step, first, slots, self.limit)
+
+    def run(self, events, begin, step, first, slots, limit):
+        return Search(events, begin, step, limit, Needs(events, self.states, first), slots, None, self.look).run()
 
     # ---- items that were there at first
 
@@ -112,8 +129,7 @@ class Keys:
         seen = [event.item for event in events if event.kind == GET and event.item]
         for item in dict.fromkeys([*lost[:1], ABSENT, *counted[:MOST_GUESSES], number(0, b""), *seen[:MOST_GUESSES]]):
             try:
-                Search(events, (item, 0, 0), self.states.step, MOST_STATES, Needs(events, self.states, {key: item}), None,
-                       None, self.look).run()
+                self.run(events, (item, 0, 0), self.states.step, {key: item}, None, MOST_STATES)
                 return item
             except (Stuck, GaveUp):
                 continue

@@ -7,7 +7,8 @@ from collections import Counter, defaultdict
 
 from answers import answers
 from formats import Part, Segment, capture_head, capture_records
-from meaning import Command, Framer
+from meaning import Command, Framer, line_of
+from steps import SHORT, is_answered
 from judging.events import Asked, No, Unknown, first_line
 
 # which answers of a meta command with the flag `q` are not hidden, by its call
@@ -84,9 +85,12 @@ class Recording:
     def pair_session(self, asked, found, key):
         """Gives the commands of a session these answers, one after the other."""
         at, met = 0, set()
-        for one in asked:
+        for number, one in enumerate(asked):
             command = one.command
             if command.quiet:
+                continue
+            if is_silent(one, number, asked, found[at : at + SHORT]):
+                one.is_dropped = True
                 continue
             if "q" not in command.letters:
                 met.clear()
@@ -102,6 +106,14 @@ class Recording:
         if at < len(found):
             why = f"connection {key[0]}, session {key[1]}: answer {at} is to no command: {first_line(found[at])}; {ONE_RECORDING}"
             raise (Unknown if key in self.outside else No)(why)
+
+
+def is_silent(one, number, asked, texts):
+    """Whether a command is a faulty line with noreply that has no answer; `asked` are all commands of its session."""
+    if one.command.verb != "fault" or not line_of(one.original).rstrip().endswith(b" noreply"):
+        return False
+    lines = [line_of(other.original) for other in asked[number : number + 2 * SHORT] if not other.command.quiet]
+    return not is_answered(lines[: len(texts)], texts)
 
 
 def whole_answers(text, notes):

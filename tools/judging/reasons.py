@@ -10,7 +10,7 @@ from bisect import bisect_left
 from apart import TOUCHING
 from formats import shown
 from judging.events import APPEND, DECR, FLUSH, FOREVER, GET, INCR, PREPEND, No, Unknown
-from judging.needs import ITEM, Needs
+from judging.needs import ITEM, NUMBER, Needs, wanted
 from judging.search import GaveUp, Search, Stuck
 from judging.states import ABSENT, ANYTHING, NOTHING_KNOWN
 
@@ -88,7 +88,17 @@ class Reason:
         advice = "; if the server held items before the recording, add --warm" if self.is_known else ""
         if not self.keys.states.loses and any(has_exptime(event.asked) for event in self.all):
             advice += "; the key has an exptime: --may-forget lets items go"
+        elif not self.keys.states.loses and self.has_order_with_losses():
+            advice += "; if the server evicts items, add --may-forget"
         return advice
+
+    def has_order_with_losses(self):
+        """Whether there may be an order of these calls where items are lost."""
+        self.keys.states.loses = True
+        try:
+            return not self.is_stuck(self.events)
+        finally:
+            self.keys.states.loses = False
 
     def never_made(self):
         """A call that saw what nobody makes."""
@@ -231,16 +241,25 @@ class Origins:
         self.needs = Needs(reason.all, reason.keys.states, {name: reason.keys.first_of(name) for name in reason.names})
 
     def lines(self, event):
-        """A line about what a read saw, if there is something to be said."""
-        number = self.needs.numbers.get((ITEM, event.key, event.item if event.want == "hit" else ABSENT))
-        if event.kind != GET or event.want is None or number is None:
+        """A line about what a read saw, or about the number from which a call counted, if there is something to be said."""
+        thing = self.thing(event)
+        number = self.needs.numbers.get(thing)
+        if number is None:
             return
         made = [self.all[place] for place in self.needs.makers[number]]
-        name, done = ("stores", "stored") if event.want == "hit" else ("deletes", "deleted")
+        name, done = ("deletes", "deleted") if thing[0] == ITEM and thing[2] == ABSENT else ("stores", "stored")
+        counted = f"{thing[2]}, from which it counted" if thing[0] == NUMBER else None
         if not made:
-            yield f"  no command {name} it"
+            yield f"  no command {name} {counted or 'it'}"
         elif not all((one.asked, one.part) in self.printed for one in made):
-            yield f"  {done} {self.who(made, event.end)}"
+            yield f"  {f'{counted}, is ' if counted else ''}{done} {self.who(made, event.end)}"
+
+    @staticmethod
+    def thing(event):
+        """What a call saw: an item, that there is none, or the number from which it counted."""
+        if event.kind == GET and event.want is not None:
+            return ITEM, event.key, event.item if event.want == "hit" else ABSENT
+        return next((thing for thing in wanted(event, False) if thing[0] == NUMBER), None)
 
     def who(self, made, end):
         """These calls, by one of them: the last that began before a time."""

@@ -43,7 +43,7 @@ class Seeing:
         """The events of a command; one that asks only and was not answered is dropped."""
         verb = asked.command.verb
         if asked.is_dropped or asked.is_lost and verb in READING:
-            name = "touch" if verb == "mg" and asked.command.quiet else verb
+            name = "touch" if verb == "mg" and asked.command.quiet else "faulty line" if verb == "fault" else verb
             self.recording.notes["unanswered " * asked.is_lost + f"{name} left out"] += 1
             asked.is_dropped = True
         elif verb in MUTE or verb in ("version", "fault"):
