@@ -51,7 +51,7 @@ impl<'a, R: Clock> Gate for Board<'a, R> {
         let place = self.load.place_of(conn, index);
         let until = begin.saturating_add(self.notes.service_of(place));
         let spun = spin(self.rt, begin, until);
-        self.notes.note(place, core, spun.end);
+        self.notes.note(place, u64::from(core), spun.end);
         if spun.away > 0 {
             self.away.fetch_add(spun.away, Ordering::SeqCst);
         }

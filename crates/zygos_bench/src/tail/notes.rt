@@ -49,9 +49,9 @@ impl Notes {
     }
 
     /// The command at this place ended at this time on this core.
-    pub(crate) fn note(&self, place: usize, core: u32, end: u64) {
+    pub(crate) fn note(&self, place: usize, core: u64, end: u64) {
         put(&self.ends, place, end);
-        put(&self.cores, place, u64::from(core));
+        put(&self.cores, place, core);
     }
 
     /// When the command at this place ended, in nanoseconds; 0 if it did not.

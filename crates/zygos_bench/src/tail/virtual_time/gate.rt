@@ -52,7 +52,7 @@ impl TurnGate {
     /// The command that passed after this number of others.
     pub(crate) fn passed(&self, at: u64) -> Passed {
         Passed {
-            conn: read(&self.conns, at as usize) as u32,
+            conn: u32::try_from(read(&self.conns, at as usize)).unwrap_or(0),
             index: read(&self.indices, at as usize),
         }
     }

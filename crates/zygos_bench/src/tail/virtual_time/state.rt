@@ -24,7 +24,7 @@ pub(crate) struct Run<'a> {
     // By core: the blocks that thieves gave back and that it has not collected.
     given: Vec<u64>,
     // The core that made the last call; all calls are of one shard.
-    last: u32,
+    last: usize,
     done: Parts,
     samples: Vec<Sample>,
 }
@@ -202,14 +202,14 @@ impl<'a> Run<'a> {
     fn note_commands(&mut self, core: usize, begin: u64, parts: &mut Parts) -> u64 {
         let mut now = begin;
         for at in 0..self.gate.count() {
-            now = self.note_command(core, now, self.gate.passed(at), parts);
+            let passed = self.gate.passed(at);
+            now = self.note_command(core, now, passed, parts);
         }
         now
     }
 
     // Notes when this command ends, which begins at this time.
     fn note_command(&mut self, core: usize, begin: u64, passed: Passed, parts: &mut Parts) -> u64 {
-        let core = core as u32;
         let prices = self.prices.parts;
         let mut spent = prices.commands;
         parts.commands = parts.commands.saturating_add(1);
@@ -222,7 +222,7 @@ impl<'a> Run<'a> {
         let end = begin
             .saturating_add(spent)
             .saturating_add(self.notes.service_of(place));
-        self.notes.note(place, core, end);
+        self.notes.note(place, core as u64, end);
         end
     }
 

@@ -1,5 +1,5 @@
 //! Turns of the cores, each by the one with the least clock.
-ghost use Rattle.std.specs.Prelude.{◌≡◌, ◌<◌, vec_len};
+ghost use Rattle.std.specs.Prelude.{◌≡◌, ◌<◌, length};
 ghost use Rattle.zy_core.specs.Core.{Fits, identity_of};
 ghost use Rattle.zy_core.specs.Cores.{identities, EachFits};
 
@@ -41,7 +41,7 @@ fn take_turn<R: Clock>(
     shared: &Shared,
     run: &mut Run,
 ) -> Result<(), NoMemory>
-    requires within { at < vec_len cores.old }
+    requires within { at < length cores.old.items }
     requires fits { EachFits shared.now (identities cores.old.items) }
     ensures same { identities cores.new.items ≡ identities cores.old.items }
 {
