@@ -1,6 +1,7 @@
 """Virtual time: what the parts of turns cost, measured here, and runs of `zygos_bench virtual` at these prices."""
 import collections
 import concurrent.futures
+import math
 import os
 import statistics
 import subprocess
@@ -22,7 +23,7 @@ MEASURED = counted.PARTS[:-1]
 FREE = dict.fromkeys(counted.PARTS, 0)
 # by which the clocks of the calibrating runs go on
 GUESS = {**FREE, "turn": 100, "item": 300, "hold": 300, "theft": 600, "command": 300, "look": 40, "moved": LINE}
-CORES, SERVICES, STEPS = (3, 16, 64), (5, 10, 25), 8
+CORES, SERVICES, STEPS = (3, 16, 64), (5, 10, 25), 6
 SHOWN = ("with stealing", "without", "at no cost", "one queue", "own queues", "simulated", "sim., without")
 
 
@@ -91,6 +92,15 @@ def with_lines(prices):
             "look": max(found["look"], simulate.COSTS["look"]), "moved": LINE}
 
 
+def read_prices(path):
+    """What --json printed before."""
+    found = common.read_json(path)
+    prices = found.get("prices") if isinstance(found, dict) else None
+    if not isinstance(prices, dict) or set(prices) != set(counted.PARTS):
+        common.stop(f"{path}: not what tail --virtual --json prints")
+    return prices
+
+
 def told(prices):
     return ", ".join(f"{name} {price:.0f}" for name, price in prices.items())
 
@@ -105,10 +115,11 @@ class Virtual:
         self.program, self.runs, self.room = program, runs, room
         self.pool = concurrent.futures.ThreadPoolExecutor(os.cpu_count())
         if costs:
-            self.prices = common.read_json(costs)["prices"]
+            self.prices = read_prices(costs)
         else:
             alone, missed = self.calibrate(3)
-            say(f"nanoseconds of the parts of turns, on one thread: {told(alone)}; they miss the medians of turns by {missed:.0%}")
+            say(f"nanoseconds of the parts of turns, on one thread: {told(alone)}; "
+                f"they miss the medians of turns by {missed:.0%}")
             self.prices = with_lines(alone)
         say(f"nanoseconds by which the clocks go on: {told(self.prices)}")
 
@@ -166,19 +177,22 @@ class Virtual:
     # ---- the load with 99 % of requests within the bound
 
     def carried(self, measure, cores, skewed, law, **more):
-        """The highest such load, in percent."""
-        low, high = 0.0, 100.0
+        """The highest such load, in percent: a few loads are halved, and between the last two the curve is straight."""
+        low, high = (0.0, None), (100.0, None)
         for _ in range(STEPS):
-            middle = (low + high) / 2
-            runs = [measure(cores, skewed, law, middle, number, **more) for number in range(1, self.runs + 1)]
-            is_in_time = statistics.median(run.quantile(0.99) for run in runs) <= BOUND * law.mean * 1000
-            low, high = (middle, high) if is_in_time else (low, middle)
-        return (low + high) / 2
+            load = (low[0] + high[0]) / 2
+            runs = [measure(cores, skewed, law, load, number, **more) for number in range(1, self.runs + 1)]
+            found = statistics.median(run.quantile(0.99) for run in runs) / law.mean / 1000
+            low, high = ((load, found), high) if found <= BOUND else (low, (load, found))
+        if not low[1] or not high[1]:
+            return (low[0] + high[0]) / 2
+        part = (math.log(BOUND) - math.log(low[1])) / (math.log(high[1]) - math.log(low[1]))
+        return low[0] + part * (high[0] - low[0])
 
     def theory(self, shares, cores, skewed, law):
         """The same where turns cost nothing, and requests are in one queue or in one for each core."""
         low, high = 0.0, 100.0
-        for _ in range(STEPS):
+        for _ in range(STEPS + 2):
             middle = (low + high) / 2
             is_in_time = ideal.quantile(shares, middle / 100, cores, skewed, law) <= BOUND
             low, high = (middle, high) if is_in_time else (low, middle)
