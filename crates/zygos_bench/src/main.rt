@@ -24,16 +24,20 @@ use std::process::ExitCode;
 use std::sync::Wait;
 use std::thread::Threads;
 use std::time::{Clock, CpuClock};
-use words::{Asked, What, read_load, read_words};
+use words::{Asked, What, read_load, read_prices, read_words};
 use zy_base::NoMemory;
 
 fn main(rt: HostRuntime) -> ExitCode {
     let asked = read_words(&rt);
-    if let Some(What::Tail) = asked.what {
-        return match tail::print_run(&rt, rt.alloc(), read_load(&rt), &mut rt.stdin()) {
-            Ok(()) => ExitCode::from(0),
-            Err(NoMemory) => ExitCode::from(6),
-        };
+    match asked.what {
+        Some(What::Tail) => {
+            return status(tail::print_run(&rt, rt.alloc(), read_load(&rt), &mut rt.stdin()));
+        }
+        Some(What::Virtual) => {
+            let (load, prices) = (read_load(&rt), read_prices(&rt));
+            return status(tail::print_virtual_run(&rt, rt.alloc(), load, prices, &mut rt.stdin()));
+        }
+        _ => {}
     }
     match measured(&rt, rt.alloc(), &mut rt.stdin(), asked) {
         Ok(done) => {
@@ -43,6 +47,14 @@ fn main(rt: HostRuntime) -> ExitCode {
             let _ = println!(rt; "{} in {} ns", done.count, done.nanos);
             ExitCode::from(0)
         }
+        Err(NoMemory) => ExitCode::from(6),
+    }
+}
+
+// The status of a run that prints what came of it.
+fn status(ran: Result<(), NoMemory>) -> ExitCode {
+    match ran {
+        Ok(()) => ExitCode::from(0),
         Err(NoMemory) => ExitCode::from(6),
     }
 }
@@ -70,6 +82,6 @@ fn measured<R: Threads + Wait + Clock + CpuClock + Sync, I: Read>(
         Some(What::Store) => store::measured(rt, alloc, one, two),
         Some(What::Shuffle) => shuffle::measured(rt, alloc, one, two, three),
         Some(What::Conn) => conn::measured(rt, alloc, one, two, three),
-        Some(What::Tail) | None => Ok(Done { count: 0, nanos: 0 }),
+        Some(What::Tail) | Some(What::Virtual) | None => Ok(Done { count: 0, nanos: 0 }),
     }
 }

@@ -6,10 +6,13 @@ mod draws;
 mod driving;
 mod feeder;
 mod load;
+mod notes;
 mod offering;
+mod ready;
 mod report;
 mod services;
 mod times;
+mod virtual_time;
 
 pub(crate) use load::{Load, Shape};
 use services::read_services;
@@ -18,6 +21,7 @@ use std::io::Read;
 use std::sync::Wait;
 use std::thread::Threads;
 use std::time::Clock;
+pub(crate) use virtual_time::{Parts, Prices, Waits};
 use zy_base::NoMemory;
 
 /// Serves the requests of a load, and prints what came of them. Service times that are to be given come from the input.
@@ -28,9 +32,27 @@ pub(crate) fn print_run<R: Threads + Wait + Clock + Print + Sync, I: Read>(
     input: &mut I,
 ) -> Result<(), NoMemory> {
     let cores = load.cores.max(1).min(8);
-    let services = match load.shape {
-        Shape::Given => read_services(alloc, input)?,
-        _ => Vec::new(alloc),
-    };
+    let services = services_of(alloc, load, input)?;
     driving::run(rt, alloc, Load { cores, ..load }, services)
+}
+
+/// The same in virtual time: all cores on one thread, each with a clock of its own, which goes on by these prices.
+pub(crate) fn print_virtual_run<R: Clock + Print, I: Read>(
+    rt: &R,
+    alloc: Global,
+    load: Load,
+    prices: Prices,
+    input: &mut I,
+) -> Result<(), NoMemory> {
+    let cores = load.cores.max(1).min(64);
+    let services = services_of(alloc, load, input)?;
+    virtual_time::run(rt, alloc, Load { cores, ..load }, services, prices)
+}
+
+// The service times that are given; none where they are drawn by themselves.
+fn services_of<I: Read>(alloc: Global, load: Load, input: &mut I) -> Result<Vec<u64>, NoMemory> {
+    match load.shape {
+        Shape::Given => read_services(alloc, input),
+        _ => Ok(Vec::new(alloc)),
+    }
 }

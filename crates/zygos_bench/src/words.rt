@@ -1,5 +1,5 @@
 //! The words of the command line.
-use crate::tail::{Load, Shape};
+use crate::tail::{Load, Parts, Prices, Shape, Waits};
 use std::env::Env;
 use zy_base::read_number;
 
@@ -16,6 +16,7 @@ pub(crate) enum What {
     Shuffle,
     Conn,
     Tail,
+    Virtual,
 }
 
 /// What is asked for: the part that the first word names, if any, and the numbers after it, 0 for
@@ -43,12 +44,12 @@ pub(crate) fn read_words<R: Env>(rt: &R) -> Asked {
     }
 }
 
-/// What the numbers after the first word ask of `tail`: the cores, 1 if half of the load is on the
+/// What the numbers after the first word ask of `tail` and `virtual`: the cores, 1 if half of the load is on the
 /// first one, the shape of service times and their mean in nanoseconds, the picoseconds from one
 /// request to the next, the number of requests, and the one from which all is drawn.
 pub(crate) fn read_load<R: Env>(rt: &R) -> Load {
     Load {
-        cores: number(rt, 2).max(1).min(8) as u32,
+        cores: number(rt, 2).max(1).min(64) as u32,
         skewed: number(rt, 3) == 1,
         shape: match number(rt, 4) {
             0 => Shape::Fixed,
@@ -60,6 +61,28 @@ pub(crate) fn read_load<R: Env>(rt: &R) -> Load {
         gap: number(rt, 6).min(1 << 40),
         count: number(rt, 7).min(1 << 24),
         number: number(rt, 8),
+    }
+}
+
+/// What the numbers after those of a load ask of `virtual`: the number of turns that are printed, and the nanoseconds of
+/// each thing that a turn does, of a pause and of a yield, in the order of `Parts` and `Waits`.
+pub(crate) fn read_prices<R: Env>(rt: &R) -> Prices {
+    Prices {
+        samples: number(rt, 9).min(1 << 24),
+        parts: Parts {
+            turns: number(rt, 10),
+            items: number(rt, 11),
+            collected: number(rt, 12),
+            holds: number(rt, 13),
+            thefts: number(rt, 14),
+            commands: number(rt, 15),
+            looks: number(rt, 16),
+            moved: number(rt, 17),
+        },
+        waits: Waits {
+            pause: number(rt, 18),
+            yielding: number(rt, 19),
+        },
     }
 }
 
@@ -76,6 +99,7 @@ fn what_named(word: &[u8]) -> Option<What> {
         b"shuffle" => Some(What::Shuffle),
         b"conn" => Some(What::Conn),
         b"tail" => Some(What::Tail),
+        b"virtual" => Some(What::Virtual),
         _ => None,
     }
 }

@@ -1,6 +1,7 @@
-//! The gate: a command takes its service time there.
+//! The gate on threads: a command spins there for its service time.
 use crate::clock::monotonic;
 use crate::tail::load::Load;
+use crate::tail::notes::Notes;
 use std::alloc::Global;
 use std::sync::atomic::{AtomicU64, Ordering};
 use std::time::Clock;
@@ -12,9 +13,7 @@ use zy_base::{Gate, NoMemory};
 pub(crate) struct Board<'a, R> {
     rt: &'a R,
     load: Load,
-    services: Vec<u64>,
-    ends: Vec<AtomicU64>,
-    cores: Vec<AtomicU64>,
+    notes: Notes,
     away: AtomicU64,
 }
 
@@ -26,48 +25,18 @@ impl<'a, R: Clock> Board<'a, R> {
         load: Load,
         services: Vec<u64>,
     ) -> Result<Board<'a, R>, NoMemory> {
-        let ends = match zeros(alloc, load.places()) {
-            Ok(ends) => ends,
-            Err(e) => {
-                drop(services);
-                return Err(e);
-            }
-        };
-        match zeros(alloc, load.places()) {
-            Ok(cores) => Ok(Board {
-                rt,
-                load,
-                services,
-                ends,
-                cores,
-                away: AtomicU64::new(0),
-            }),
-            Err(e) => {
-                drop(services);
-                drop(ends);
-                Err(e)
-            }
-        }
+        let notes = Notes::new(alloc, load, services)?;
+        Ok(Board {
+            rt,
+            load,
+            notes,
+            away: AtomicU64::new(0),
+        })
     }
 
-    // The service time of the command at this place: one of those that were given, if there are any.
-    fn service_of(&self, place: usize) -> u64 {
-        let draw = self.load.draw_of(place);
-        let given = (self.services.len() as u64).max(1);
-        match self.services.get((draw % given) as usize) {
-            Some(time) => *time,
-            None => self.load.service_of(draw),
-        }
-    }
-
-    /// When the command at this place ended, in nanoseconds; 0 if it did not.
-    pub(crate) fn end(&self, place: usize) -> u64 {
-        read(&self.ends, place)
-    }
-
-    /// The core that carried it out.
-    pub(crate) fn core(&self, place: usize) -> u64 {
-        read(&self.cores, place)
+    /// What it noted.
+    pub(crate) fn notes(&self) -> &Notes {
+        &self.notes
     }
 
     /// For how long commands were interrupted, in nanoseconds.
@@ -80,9 +49,9 @@ impl<'a, R: Clock> Gate for Board<'a, R> {
     fn pass(&self, core: u32, conn: u32, index: u64) {
         let begin = monotonic(self.rt);
         let place = self.load.place_of(conn, index);
-        let spun = spin(self.rt, begin, begin.saturating_add(self.service_of(place)));
-        note(&self.ends, place, spun.end);
-        note(&self.cores, place, u64::from(core));
+        let until = begin.saturating_add(self.notes.service_of(place));
+        let spun = spin(self.rt, begin, until);
+        self.notes.note(place, u64::from(core), spun.end);
         if spun.away > 0 {
             self.away.fetch_add(spun.away, Ordering::SeqCst);
         }
@@ -117,39 +86,4 @@ pub(crate) fn spin<R: Clock>(rt: &R, from: u64, until: u64) -> Spun {
         last = now;
     }
     Spun { end: last, away }
-}
-
-// So many numbers, each of them 0.
-fn zeros(alloc: Global, count: u64) -> Result<Vec<AtomicU64>, NoMemory> {
-    let mut numbers = Vec::new(alloc);
-    match add_zeros(&mut numbers, count) {
-        Ok(()) => Ok(numbers),
-        Err(e) => {
-            drop(numbers);
-            Err(e)
-        }
-    }
-}
-
-// Appends them.
-fn add_zeros(numbers: &mut Vec<AtomicU64>, count: u64) -> Result<(), NoMemory> {
-    for _ in 0..count {
-        numbers.push(AtomicU64::new(0))?;
-    }
-    Ok(())
-}
-
-// The number at a place, and 0 where there is none.
-fn read(numbers: &[AtomicU64], place: usize) -> u64 {
-    match numbers.get(place) {
-        Some(number) => number.load(Ordering::SeqCst),
-        None => 0,
-    }
-}
-
-// Puts a number at a place, where there is one.
-fn note(numbers: &[AtomicU64], place: usize, value: u64) {
-    if let Some(number) = numbers.get(place) {
-        number.store(value, Ordering::SeqCst);
-    }
 }

@@ -1,14 +1,14 @@
 //! Driving the cores of a load.
-ghost use Rattle.std.specs.Prelude.{◌≡◌, ◌≤◌, length, IfOk};
+ghost use Rattle.std.specs.Prelude.{◌≡◌, ◌≤◌, length};
 ghost use Rattle.zy_core.specs.Cores.{identities, AreCores};
 
 use crate::clock::monotonic;
 use crate::tail::board::Board;
 use crate::tail::feeder::Arrivals;
 use crate::tail::load::Load;
+use crate::tail::ready::{Ready, make_ready};
 use crate::tail::report::print_all;
 use crate::tail::times::Times;
-use mc_store::Root;
 use std::alloc::Global;
 use std::sync::Wait;
 use std::thread::Threads;
@@ -18,16 +18,6 @@ use zy_core::{Cores, Shared};
 use zy_drive::{Driven, drive};
 use zy_feed::Inlets;
 use zy_park::Bells;
-use zy_setup::{Made, Started, make, start};
-
-// The cores of a run, with what they share, and the root of their store.
-#[derive(Drop)]
-struct Ready {
-    cores: Cores,
-    shared: Shared,
-    inlets: Inlets,
-    root: Root,
-}
 
 /// Serves the requests of a load on a thread for each core, with the service times that were given, and prints what
 /// came of them.
@@ -70,7 +60,7 @@ fn run_gated<R: Threads + Wait + Clock + Print + Sync>(
     } = ready;
     let (times, driven) = serve(rt, alloc, load, board, cores, &shared, inlets, times);
     let printed = match driven {
-        Driven::Settled(cores) => print_all(rt, alloc, load, board, &times, cores),
+        Driven::Settled(cores) => print_served(rt, alloc, load, board, &times, cores),
         Driven::Broken(cores) => refused(cores),
         Driven::NoMemory(cores) => refused(cores),
     };
@@ -78,6 +68,20 @@ fn run_gated<R: Threads + Wait + Clock + Print + Sync>(
     drop(shared);
     drop(root);
     printed
+}
+
+// Prints what came of the run, and for how long it was interrupted.
+fn print_served<R: Clock + Print>(
+    rt: &R,
+    alloc: Global,
+    load: Load,
+    board: &Board<R>,
+    times: &Times,
+    cores: Cores,
+) -> Result<(), NoMemory> {
+    print_all(rt, alloc, load, board.notes(), times, cores)?;
+    let _ = println!(rt; "interrupted {} feeder {}", board.away(), times.away());
+    Ok(())
 }
 
 // The run was refused memory.
@@ -126,37 +130,4 @@ fn serve<R: Threads + Wait + Clock + Sync>(
     drop(root);
     drop(bells);
     (feeder.into_times(), driven)
-}
-
-// Makes the cores of a load, on a store of 16 shards.
-fn make_ready(alloc: Global, load: Load) -> Result<Ready, NoMemory>
-    requires cores { (1 ≤ load.cores) × (load.cores ≤ 8) }
-    ensures cores { IfOk result (λ ready. AreCores ready.shared (identities ready.cores)) }
-    ensures count { IfOk result (λ ready. length ready.shared.rings ≡ load.cores) }
-{
-    let Started {
-        homes,
-        rings,
-        passes,
-        store,
-        root,
-    } = start(alloc, load.connections(), load.cores, 16)?;
-    match make(alloc, homes, rings, passes, store) {
-        Ok(
-            Made {
-                cores,
-                shared,
-                inlets,
-            },
-        ) => Ok(Ready {
-            cores,
-            shared,
-            inlets,
-            root,
-        }),
-        Err(e) => {
-            drop(root);
-            Err(e)
-        }
-    }
 }

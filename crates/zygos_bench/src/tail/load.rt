@@ -122,9 +122,12 @@ impl Load {
         u64::from(self.connections()).saturating_mul(self.room())
     }
 
-    // The number of places of a connection's requests.
+    // The number of places of a connection's requests: more than come to any of them.
     fn room(&self) -> u64 {
-        (self.count / u64::from(EACH)).saturating_add(1_000)
+        let cores = u64::from(self.cores.max(1));
+        let part = if self.skewed { cores.min(2) } else { cores };
+        let mean = self.count / part.max(1) / u64::from(EACH);
+        mean.saturating_add(mean / 4).saturating_add(200)
     }
 
     /// The place of a connection's request, by its index. Places beyond the last are none.

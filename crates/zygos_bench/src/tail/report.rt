@@ -1,9 +1,8 @@
 //! What came of a run.
-use crate::tail::board::Board;
 use crate::tail::load::Load;
+use crate::tail::notes::Notes;
 use crate::tail::times::{Times, zeros};
 use std::alloc::Global;
-use std::time::Clock;
 use zy_base::NoMemory;
 use zy_conn::Block;
 use zy_core::{Core, Cores};
@@ -23,11 +22,11 @@ struct Report {
 
 /// Prints how long the requests took, by class, how many were carried out by another core than their
 /// home, and how many commands the holds had. The first tenth of the time is left out.
-pub(crate) fn print_all<R: Clock + Print>(
+pub(crate) fn print_all<R: Print>(
     rt: &R,
     alloc: Global,
     load: Load,
-    board: &Board<R>,
+    notes: &Notes,
     times: &Times,
     cores: Cores,
 ) -> Result<(), NoMemory> {
@@ -39,11 +38,10 @@ pub(crate) fn print_all<R: Clock + Print>(
         }
     };
     for conn in 0..load.connections() {
-        report.add_connection(load, board, times, conn);
+        report.add_connection(load, notes, times, conn);
     }
     report.add_holds(cores);
     report.print(rt, times);
-    let _ = println!(rt; "interrupted {} feeder {}", board.away(), times.away());
     drop(report);
     Ok(())
 }
@@ -89,19 +87,19 @@ fn class_of(nanos: u64) -> usize {
 
 impl Report {
     // Counts the requests of a connection.
-    fn add_connection<R: Clock>(&mut self, load: Load, board: &Board<R>, times: &Times, conn: u32) {
+    fn add_connection(&mut self, load: Load, notes: &Notes, times: &Times, conn: u32) {
         let begin = times.begun();
         let from = begin.saturating_add(times.due().saturating_sub(begin) / 10);
         let home = u64::from(load.home_of(conn));
         for index in 0..times.count(conn) {
             let place = load.place_of(conn, index);
             let due = times.due_at(place);
-            let end = board.end(place);
+            let end = notes.end(place);
             self.last = self.last.max(end);
             if due >= from && end > 0 {
                 count_at(&mut self.latencies, class_of(end.saturating_sub(due)));
                 self.served = self.served.saturating_add(1);
-                if board.core(place) != home {
+                if notes.core(place) != home {
                     self.away = self.away.saturating_add(1);
                 }
             }
