@@ -125,8 +125,8 @@ fn cas_ask(key: &[u8], sizes: Option<Sizes>, unique: Option<u64>) -> Option<Ask<
     }
 }
 
-// Flags and bytes, where the word between them is an exptime.
-fn read_sizes(flags: &[u8], exptime: &[u8], bytes: &[u8]) -> Option<Sizes>
+/// Flags and bytes, where the word between them is an exptime.
+pub(crate) fn read_sizes(flags: &[u8], exptime: &[u8], bytes: &[u8]) -> Option<Sizes>
     ensures value { result ≡ sizes_of flags.now exptime.now bytes.now }
 {
     if !is_exptime(exptime) {
