@@ -4,7 +4,7 @@ ghost use Rattle.zy_frame.specs.Frame.{command_of};
 
 use crate::frame::Frame;
 use crate::frame_kind::FrameKind;
-use mc_parse::{Command, ErrorLine, parse_block, parse_large, parse_line};
+use mc_parse::{Command, ErrorLine, parse_large, parse_line, parse_read};
 use std::alloc::Global;
 use zy_base::NoMemory;
 
@@ -13,7 +13,8 @@ pub fn meaning(alloc: Global, frame: Frame) -> Result<Command, (Frame, NoMemory)
     ensures value { IfOk result (λ command. command ≡ command_of frame) }
     ensures returned { IfErr result (λ e. e.0 ≡ frame) }
 {
-    match frame.kind {
+    let Frame { kind, read } = frame;
+    match kind {
         FrameKind::Line { line } => match parse_line(alloc, line.bytes()) {
             Ok(command) => {
                 drop(line);
@@ -22,11 +23,12 @@ pub fn meaning(alloc: Global, frame: Frame) -> Result<Command, (Frame, NoMemory)
             Err(e) => Err((
                 Frame {
                     kind: FrameKind::Line { line },
+                    read,
                 },
                 e,
             )),
         },
-        FrameKind::Block { line, block } => match parse_block(alloc, line.bytes(), block) {
+        FrameKind::Block { line, block } => match parse_read(alloc, line.bytes(), read, block) {
             Ok(command) => {
                 drop(line);
                 Ok(command)
@@ -34,6 +36,7 @@ pub fn meaning(alloc: Global, frame: Frame) -> Result<Command, (Frame, NoMemory)
             Err((block, e)) => Err((
                 Frame {
                     kind: FrameKind::Block { line, block },
+                    read,
                 },
                 e,
             )),
