@@ -10,3 +10,4 @@ pub mod AskLemmas
 pub mod NeedLemmas
 pub mod GetLemmas
 mod StoringLemmas
+mod ParsedLemmas

@@ -1,25 +1,19 @@
 -- What the words after the name of a storage command say, read one after the other.
 use Rattle.std.proofs.Common.{◌≡◌, ℕ, ◌+◌, ◌-◌, ◌<◌, ◌≤◌, Bool, true, false, List, [], ◌∷◌, ◌++◌, length, take, drop, refl, sym, ap, ◌∙◌, append_assoc, length-append, arith}
 use Rattle.std.specs.List.{list_all}
-use Rattle.std.specs.Prelude.{Option, None, Some, option_map, Result, Ok, Err, IfOk, if◌then◌else◌, nat_le, not, ◌&&◌}
+use Rattle.std.specs.Prelude.{Option, None, Some, option_map, if◌then◌else◌, nat_le, not, ◌&&◌}
 use Rattle.std.proofs.lemmas.Bool.{lt-leb}
 use Rattle.std.proofs.lemmas.List.{take-append-drop, take_all, length-drop}
 use Rattle.std.proofs.Math.Seq.{take-append_seam, drop-append_seam}
 use Rattle.zy_base.specs.Number.{number_of}
-use Rattle.mc_parse.specs.declared.error_line.ErrorLine.{ErrorLine}
 use Rattle.mc_parse.specs.declared.error_line.ErrorLine.TheVariants.{Unknown, BadLine}
-use Rattle.mc_parse.specs.declared.storing.Storing.{Storing}
-use Rattle.mc_parse.specs.declared.store_line.StoreLine.{StoreLine}
-use Rattle.mc_parse.specs.declared.store_line.Way.{Way}
-use Rattle.mc_parse.specs.declared.store_line.Way.TheVariants as Ways
 use Rattle.mc_parse.specs.declared.name.Name.TheVariants.{Store, Cas}
 use Rattle.mc_parse.specs.declared.sizes.Sizes.{Sizes}
 use Rattle.mc_parse.specs.declared.verb.Verb.{Verb}
 use Rattle.mc_parse.specs.Words.{is_noreply}
 use Rattle.mc_parse.specs.Arity.{Following, following, from_to, lacks_noreply, asks_silence}
-use Rattle.mc_parse.specs.Form.{Form, faulty, asks, check, find, is_key, sizes_of, store_ask, cas_ask, form_with, form_after, line_form}
-use Rattle.mc_parse.specs.StoreLine.{StoresBy}
-use Rattle.mc_parse.specs.Storing.{Parts, quiet_by, asked_by}
+use Rattle.mc_parse.specs.Form.{Form, faulty, asks, check, find, is_key, sizes_of, store_ask, cas_ask, form_with, form_after}
+use Rattle.mc_parse.specs.Storing.{Parts, quiet_by}
 
 -- ---- fewer words than a storage command has
 
@@ -105,23 +99,12 @@ word_at line key rest from to parts to_is from_is =
     let count_is : to - from ≡ length key = omega (arith, from_is) in
     rw (count_is, front_is, parts.is) (ap (take (length key)) (drop-append_seam parts.front (key ++ rest)) ∙ take-append_seam key rest)
 
-pub said_further : (line word text : List ℕ) (said : Result Storing ErrorLine) → Parts line word text → IfOk said (λ said. Parts text said.key.now said.after.now)
-    → IfOk said (λ said. Parts line said.key.now said.after.now)
-said_further line word text (Ok said) outer inner = parts_further line word text said.key.now said.after.now outer inner
-said_further line word text (Err fault) outer inner = tt
-
--- ---- what was read of a line
-
-abbrev pub store_line : ℕ → ℕ → ℕ → ℕ → Way → Bool → StoreLine
-store_line unique flags from to way quiet = record { unique = unique; flags = flags; from = from; to = to; way = Some way; quiet = quiet }
-
-pub stores_by : (line key after : List ℕ) (unique flags bytes from to : ℕ) (way : Way) (quiet : Bool) → Parts line key after
-    → to + length after ≡ length line → from + length key ≡ to → line_form line ≡ asks (asked_by way key flags bytes unique) quiet
-    → StoresBy line (store_line unique flags from to way quiet) way
-stores_by line key after unique flags bytes from to (Ways.By verb) quiet parts to_is from_is says =
-    record { order = omega (arith, from_is); within = omega (arith, to_is); bytes = bytes; says = rw (word_at line key after from to parts to_is from_is) says }
-stores_by line key after unique flags bytes from to Ways.Cas quiet parts to_is from_is says =
-    record { order = omega (arith, from_is); within = omega (arith, to_is); bytes = bytes; says = rw (word_at line key after from to parts to_is from_is) says }
+-- the text after a word is where its own length says
+pub rest_at : (line word rest : List ℕ) (from : ℕ) → Parts line word rest → from + length rest ≡ length line → drop from line ≡ rest
+rest_at line word rest from parts from_is =
+    let size = ap (λ (l : List ℕ). length l) parts.is ∙ length-append parts.front (word ++ rest) in
+    let front_is : from ≡ length (parts.front ++ word) = omega (arith, size, length-append word rest, length-append parts.front word, from_is) in
+    rw (front_is, parts.is ∙ sym (append_assoc parts.front word rest)) (drop-append_seam (parts.front ++ word) rest)
 
 pub parts_length : (line word rest : List ℕ) → Parts line word rest → length word + length rest ≤ length line
 parts_length line word rest parts =

@@ -7,7 +7,7 @@ pub mod Form
 pub mod Line
 pub mod Need
 pub mod Meaning
-pub mod StoreLine
+pub mod Parsed
 pub mod Storing
 pub mod OnAll
 pub mod Deed

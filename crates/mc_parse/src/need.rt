@@ -1,5 +1,5 @@
 //! What must come with a line.
-ghost use Rattle.std.specs.Prelude.{◌≡◌, ◌≤◌, length, codes, if◌then◌else◌, None, ⊤, IfOk, MatchOption};
+ghost use Rattle.std.specs.Prelude.{◌≡◌, ◌≤◌, length, codes, if◌then◌else◌, None, ⊤, MatchOption};
 ghost use Rattle.mc_parse.specs.Words.{words, line_limit};
 ghost use Rattle.mc_parse.specs.Need.{need, need_for, ask_need, meta_need};
 ghost use Rattle.std.specs.Str.{bytes_eq};
@@ -7,16 +7,15 @@ ghost use Rattle.mc_meta.specs.Meta.{meta_line};
 ghost use Rattle.mc_parse.specs.MetaAsk.{meta_ask_seen};
 ghost use Rattle.mc_parse.specs.Form.{ask_seen, form_after, meta_form, line_form};
 ghost use Rattle.mc_parse.specs.Line.{form_seen};
-ghost use Rattle.mc_parse.specs.StoreLine.{IsReadOf, StoresBy};
-ghost use Rattle.mc_parse.specs.Storing.{Parts, storing_form, storing_seen};
+ghost use Rattle.mc_parse.specs.Parsed.{IsParsed, IsParsedBy, IsNamed, IsStoring};
+ghost use Rattle.mc_parse.specs.Storing.{Parts, storing_form};
 
 use crate::asking::Ask;
-use crate::error_line::ErrorLine;
 use crate::line::Line;
 use crate::meta_ask::{MetaAsk, read_meta_ask};
 use crate::name::{Name, name_of};
 use crate::reading::read_after;
-use crate::store_line::StoreLine;
+use crate::parsed::Parsed;
 use crate::storing::{Storing, read_cas, read_store};
 use crate::word::{Split, next_word};
 
@@ -36,79 +35,82 @@ pub fn need_of(line: &[u8]) -> Need
     requires within { length line.now ≤ line_limit }
     ensures value { result ≡ need line.now }
 {
-    let mut read = StoreLine::unread();
-    read_need(line, &mut read)
+    let mut parsed = Parsed::nothing();
+    read_need(line, &mut parsed)
 }
 
-/// What a line needs. What a storage line says is kept, so that it isn't read again. After a name that takes
-/// nothing the line isn't read on. Takes no memory.
-#[tactic(auto, unfolding(crate::specs::Need::need, crate::specs::StoreLine::IsReadOf), using(crate::proofs::MetaLemmas::named_form))]
-pub fn read_need(line: &[u8], read: &mut StoreLine) -> Need
+/// What a line needs. What was read of it is kept, so that it isn't read again. Takes no memory.
+#[tactic(auto, unfolding(crate::specs::Need::need, crate::specs::Parsed::IsParsed), using(crate::proofs::MetaLemmas::named_form))]
+pub fn read_need(line: &[u8], parsed: &mut Parsed) -> Need
     requires within { length line.now ≤ line_limit }
     ensures value { result ≡ need line.now }
-    ensures read { IsReadOf line.now read.new }
+    ensures parsed { IsParsed line.now parsed.new }
 {
-    read.way = None;
+    parsed.name = None;
     let Some(first) = next_word(line) else {
         return Need::Nothing;
     };
     match name_of(first.word) {
-        Some(name) => named_need(line, name, first, read),
+        Some(name) => named_need(line, name, first, parsed),
         None => unnamed_need(line, first.word),
     }
 }
 
-// What a line needs that begins with this name. What a storage line says is kept.
-fn named_need(line: &[u8], name: Name, first: Split<'_>, read: &mut StoreLine) -> Need
+// What a line needs that begins with this name. After a name that takes nothing the line isn't read on.
+fn named_need(line: &[u8], name: Name, first: Split<'_>, parsed: &mut Parsed) -> Need
     requires within { length line.now ≤ line_limit }
-    requires unread { read.old.way ≡ None }
     requires says { line_form line.now ≡ form_after name (words first.rest.now) }
     requires parts { Parts line.now first.word.now first.rest.now }
+    requires unread { parsed.old.name ≡ None }
     ensures value { result ≡ need_for (line_form line.now) }
-    ensures read { MatchOption read.new.way ⊤ (StoresBy line.now read.new) }
+    ensures parsed { IsParsedBy result line.now parsed.new }
 {
-    match name {
-        Name::Store { verb } => store_need(line, read_store(verb, first.rest), read),
-        Name::Cas => store_need(line, read_cas(first.rest), read),
-        Name::Quit => need_for(read_after(name, first.rest)),
-        _ => Need::Nothing,
-    }
-}
-
-// What a storage line needs that says this, or has this fault. What it says is kept.
-fn store_need(line: &[u8], said: Result<Storing<'_>, ErrorLine>, read: &mut StoreLine) -> Need
-    requires within { length line.now ≤ line_limit }
-    requires unread { read.old.way ≡ None }
-    requires says { line_form line.now ≡ storing_seen said }
-    requires parts { IfOk said (λ said. Parts line.now said.key.now said.after.now) }
-    ensures value { result ≡ need_for (line_form line.now) }
-    ensures read { MatchOption read.new.way ⊤ (StoresBy line.now read.new) }
-{
+    let said = match name {
+        Name::Store { verb } => read_store(verb, first.rest),
+        Name::Cas => read_cas(first.rest),
+        Name::Quit => return need_for(read_after(name, first.rest)),
+        _ => {
+            keep_name(line, name, first, parsed);
+            return Need::Nothing;
+        }
+    };
     match said {
         Ok(said) => {
-            *read = read_of(line, said);
+            keep_storing(line, name, said, parsed);
             Need::Block { bytes: said.bytes }
         }
-        Err(_) => Need::Nothing,
+        Err(_) => {
+            keep_name(line, name, first, parsed);
+            Need::Nothing
+        }
     }
 }
 
-// What is kept of a storage line that says this.
-fn read_of(line: &[u8], said: Storing<'_>) -> StoreLine
+// Keeps the name of a line, and the place of the text after it.
+fn keep_name(line: &[u8], name: Name, first: Split<'_>, parsed: &mut Parsed)
     requires within { length line.now ≤ line_limit }
-    requires says { line_form line.now ≡ storing_form said }
+    requires says { line_form line.now ≡ form_after name (words first.rest.now) }
+    requires parts { Parts line.now first.word.now first.rest.now }
+    ensures parsed { MatchOption parsed.new.name ⊤ (IsNamed line.now parsed.new) }
+{
+    parsed.name = Some(name);
+    parsed.from = (line.len() - first.rest.len()) as u32;
+}
+
+// Keeps what a storage line with this name says.
+fn keep_storing(line: &[u8], name: Name, said: Storing<'_>, parsed: &mut Parsed)
+    requires within { length line.now ≤ line_limit }
+    requires says { line_form line.now ≡ storing_form name said }
     requires parts { Parts line.now said.key.now said.after.now }
-    ensures value { MatchOption result.way ⊥ (StoresBy line.now result) }
+    ensures parsed { MatchOption parsed.new.name ⊤ (IsStoring line.now parsed.new) }
 {
     let to = line.len() - said.after.len();
-    StoreLine {
-        unique: said.unique,
-        flags: said.flags,
-        from: (to - said.key.len()) as u32,
-        to: to as u32,
-        way: Some(said.way),
-        quiet: said.quiet,
-    }
+    parsed.unique = said.unique;
+    parsed.flags = said.flags;
+    parsed.from = (to - said.key.len()) as u32;
+    parsed.to = to as u32;
+    parsed.name = Some(name);
+    parsed.quiet = said.quiet;
 }
 
 // What a line needs whose first word is no name: a block if it is a meta command that stores.

@@ -8,7 +8,6 @@ ghost use Rattle.mc_parse.specs.Storing.{Parts, quiet_by, storing_seen};
 use crate::asking::read_sizes;
 use crate::error_line::ErrorLine;
 use crate::sizes::Sizes;
-use crate::store_line::Way;
 use crate::verb::Verb;
 use crate::word::{is_noreply, next_word};
 use mc_meta::is_key;
@@ -17,7 +16,6 @@ use zy_base::read_number;
 /// What a storage line says.
 #[derive(Clone, Copy)]
 pub(crate) struct Storing<'a> {
-    pub(crate) way: Way,
     pub(crate) key: &'a [u8],
     /// The text after the key.
     pub(crate) after: &'a [u8],
@@ -42,7 +40,7 @@ struct FourWords<'a> {
 /// What the text after a verb says, or its fault.
 #[tactic(auto, using(crate::proofs::StoringLemmas::store_few, crate::proofs::StoringLemmas::store_says))]
 pub(crate) fn read_store(verb: Verb, text: &[u8]) -> Result<Storing<'_>, ErrorLine>
-    ensures value { storing_seen result ≡ form_after (Names.Store verb) (words text.now) }
+    ensures value { storing_seen (Names.Store verb) result ≡ form_after (Names.Store verb) (words text.now) }
     ensures parts { IfOk result (λ said. Parts text.now said.key.now said.after.now) }
 {
     let Some(four) = four_words(text) else {
@@ -56,7 +54,6 @@ pub(crate) fn read_store(verb: Verb, text: &[u8]) -> Result<Storing<'_>, ErrorLi
     }
     match read_sizes(four.flags, four.exptime, four.bytes) {
         Some(Sizes { flags, bytes }) => Ok(Storing {
-            way: Way::By { verb },
             key: four.key,
             after: four.after,
             flags,
@@ -71,7 +68,7 @@ pub(crate) fn read_store(verb: Verb, text: &[u8]) -> Result<Storing<'_>, ErrorLi
 /// What the text after `cas` says, or its fault.
 #[tactic(auto, using(crate::proofs::StoringLemmas::cas_few, crate::proofs::StoringLemmas::cas_says))]
 pub(crate) fn read_cas(text: &[u8]) -> Result<Storing<'_>, ErrorLine>
-    ensures value { storing_seen result ≡ form_after Names.Cas (words text.now) }
+    ensures value { storing_seen Names.Cas result ≡ form_after Names.Cas (words text.now) }
     ensures parts { IfOk result (λ said. Parts text.now said.key.now said.after.now) }
 {
     let Some(four) = four_words(text) else {
@@ -91,7 +88,6 @@ pub(crate) fn read_cas(text: &[u8]) -> Result<Storing<'_>, ErrorLine>
         read_number(unique.word),
     ) {
         (Some(Sizes { flags, bytes }), Some(unique)) => Ok(Storing {
-            way: Way::Cas,
             key: four.key,
             after: four.after,
             flags,

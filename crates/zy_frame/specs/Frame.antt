@@ -10,8 +10,8 @@ use Rattle.mc_parse.specs.Need.{need}
 use Rattle.mc_parse.specs.Meaning.{line_command, block_command, large_command, long_command}
 use Rattle.zy_frame.specs.declared.frame_kind.FrameKind.{FrameKind}
 use Rattle.zy_frame.specs.declared.frame_kind.FrameKind.TheVariants.{Line, Block, Large, Long}
-use Rattle.mc_parse.specs.declared.store_line.StoreLine.{StoreLine}
-use Rattle.mc_parse.specs.StoreLine.{IsReadOf}
+use Rattle.mc_parse.specs.declared.parsed.Parsed.{Parsed}
+use Rattle.mc_parse.specs.Parsed.{IsParsed}
 use Rattle.mc_parse.specs.Words.{line_limit}
 use Rattle.zy_frame.specs.Line.{Ended, first_line, chomped}
 
@@ -65,10 +65,11 @@ pub record IsFrame (kind : FrameKind) : Type 0 where
   pub is_text : IsFrameText text
   pub of_text : kind ≡ frame_of text
 
--- this was read of the line of a frame, if it has a block
-abbrev pub IsReadIn : FrameKind → StoreLine → Type 0
-IsReadIn (Block line block) read = IsReadOf line read
-IsReadIn kind read = ⊤
+-- this was read of the line of a frame, if the frame has its line and any block of it
+abbrev pub IsParsedIn : FrameKind → Parsed → Type 0
+IsParsedIn (Line line) parsed = IsParsed line parsed
+IsParsedIn (Block line block) parsed = IsParsed line parsed
+IsParsedIn kind parsed = ⊤
 
 -- ---- commands
 

@@ -10,8 +10,8 @@ use Rattle.zy_frame.specs.declared.frame_kind.FrameKind.{FrameKind}
 use Rattle.zy_frame.specs.declared.wanted.Wanted.{Wanted}
 use Rattle.zy_frame.specs.declared.state.State.{State}
 use Rattle.zy_frame.specs.declared.state.State.TheVariants.{Line, Long, Block, Large, Quit, Refused}
-use Rattle.mc_parse.specs.declared.store_line.StoreLine.{StoreLine}
-use Rattle.mc_parse.specs.StoreLine.{IsReadOf}
+use Rattle.mc_parse.specs.declared.parsed.Parsed.{Parsed}
+use Rattle.mc_parse.specs.Parsed.{IsParsed}
 use Rattle.zy_frame.specs.Line.{line_feed, chomped}
 use Rattle.zy_frame.specs.Progress.{Awaited, Progress, in_line, in_long_line, in_block, in_large_block, behind_quit}
 use Rattle.zy_frame.specs.Progress.{without_memory, Keeps, outcome_of, with_frames, goes_on, IsRefused}
@@ -55,9 +55,9 @@ after_block (Large wanted) = if wanted.left == 0 then Line [] else Large wanted
 after_block state = state
 
 -- this was read of the line of a block that is to come and is kept
-abbrev pub IsReadFor : State → StoreLine → Type 0
-IsReadFor (Block wanted block) read = IsReadOf (chomped wanted.line) read
-IsReadFor state read = ⊤
+abbrev pub IsParsedFor : State → Parsed → Type 0
+IsParsedFor (Block wanted block) parsed = IsParsed (chomped wanted.line) parsed
+IsParsedFor state parsed = ⊤
 
 -- ---- steps
 

@@ -4,7 +4,7 @@ ghost use Rattle.zy_frame.specs.Frame.{command_of};
 
 use crate::frame::Frame;
 use crate::frame_kind::FrameKind;
-use mc_parse::{Command, ErrorLine, parse_large, parse_line, parse_read};
+use mc_parse::{Command, ErrorLine, parse_large, parse_read, parse_read_block};
 use std::alloc::Global;
 use zy_base::NoMemory;
 
@@ -13,9 +13,9 @@ pub fn meaning(alloc: Global, frame: Frame) -> Result<Command, (Frame, NoMemory)
     ensures value { IfOk result (λ command. command ≡ command_of frame) }
     ensures returned { IfErr result (λ e. e.0 ≡ frame) }
 {
-    let Frame { kind, read } = frame;
+    let Frame { kind, parsed } = frame;
     match kind {
-        FrameKind::Line { line } => match parse_line(alloc, line.bytes()) {
+        FrameKind::Line { line } => match parse_read(alloc, line.bytes(), &parsed) {
             Ok(command) => {
                 drop(line);
                 Ok(command)
@@ -23,12 +23,12 @@ pub fn meaning(alloc: Global, frame: Frame) -> Result<Command, (Frame, NoMemory)
             Err(e) => Err((
                 Frame {
                     kind: FrameKind::Line { line },
-                    read,
+                    parsed,
                 },
                 e,
             )),
         },
-        FrameKind::Block { line, block } => match parse_read(alloc, line.bytes(), read, block) {
+        FrameKind::Block { line, block } => match parse_read_block(alloc, line.bytes(), &parsed, block) {
             Ok(command) => {
                 drop(line);
                 Ok(command)
@@ -36,7 +36,7 @@ pub fn meaning(alloc: Global, frame: Frame) -> Result<Command, (Frame, NoMemory)
             Err((block, e)) => Err((
                 Frame {
                     kind: FrameKind::Block { line, block },
-                    read,
+                    parsed,
                 },
                 e,
             )),

@@ -1,23 +1,23 @@
 //! Queues of frames.
 ghost use Rattle.std.specs.Prelude.{◌≡◌, [], ◌∷◌, ◌++◌, OnOk, OnErr};
-ghost use Rattle.zy_frame.specs.Frame.{IsFrame, IsReadIn};
+ghost use Rattle.zy_frame.specs.Frame.{IsFrame, IsParsedIn};
 
 use crate::frame::Frame;
 use crate::frame_kind::FrameKind;
-use mc_parse::StoreLine;
+use mc_parse::Parsed;
 use zy_base::{NoMemory, Queue};
 
 /// A queue of frames. Contracts see it as the list of its frames, the first one to come first.
 pub type Frames = Queue<Frame>;
 
 // Puts a frame at the end of whose line this was read; after a refusal nothing has changed.
-pub(crate) fn append(frames: &mut Frames, kind: FrameKind, read: StoreLine) -> Result<(), NoMemory>
+pub(crate) fn append(frames: &mut Frames, kind: FrameKind, parsed: Parsed) -> Result<(), NoMemory>
     requires frame { IsFrame kind }
-    requires read { IsReadIn kind read }
+    requires parsed { IsParsedIn kind parsed }
     ensures ok { OnOk result (frames.new ≡ frames.old ++ kind ∷ []) }
     ensures err { OnErr result (frames.new ≡ frames.old) }
 {
-    match frames.push(Frame { kind, read }) {
+    match frames.push(Frame { kind, parsed }) {
         Ok(()) => Ok(()),
         Err((frame, e)) => {
             drop(frame);

@@ -1,18 +1,28 @@
-use Rattle.std.proofs.Common.{sym, ap, ◌∙◌}
+use Rattle.std.proofs.Common.{sym, ap, subst, ◌∙◌}
+use Rattle.std.specs.Prelude.{IfOk}
 use Rattle.mc_parse.specs.Words.{words}
 use Rattle.mc_parse.specs.Need.{need_for}
+use Rattle.mc_parse.specs.Storing.{Parts}
 use Rattle.mc_parse.proofs.NeedLemmas.{others_need}
-use Rattle.mc_parse.proofs.StoringLemmas.{said_further}
+use Rattle.mc_parse.proofs.ParsedLemmas.{none_parsed}
+use Rattle.mc_parse.proofs.StoringLemmas.{parts_further}
 use Rattle.mc_parse.proofs.need.named_need.Goals as goal
+use Rattle.mc_parse.proofs.need.named_need.Goals.{in-Store, in-Cas}
 
-pub store_need-requires-clause-parts : goal.store_need-requires-clause-parts
-store_need-requires-clause-parts c =
-    said_further c.args.line.now c.args.first.word.now c.args.first.rest.now c.read_store.result c.requires.parts c.read_store.ensures.parts
+pub returns-in-Quit-clause-parsed : goal.returns-in-Quit-clause-parsed
+returns-in-Quit-clause-parsed c = none_parsed c.need_for.result c.args.line.now c.args.parsed.now c.requires.unread
 
-pub store_need-requires-in-Cas-clause-parts : goal.store_need-requires-in-Cas-clause-parts
-store_need-requires-in-Cas-clause-parts c =
-    said_further c.args.line.now c.args.first.word.now c.args.first.rest.now c.read_cas.result c.requires.parts c.read_cas.ensures.parts
+pub returns-in_default : goal.returns-in_default
+returns-in_default c = record {
+  value = sym (ap need_for c.requires.says ∙ others_need c.args.name (words c.args.first.rest.now) c.in_default.not-Store c.in_default.not-Cas c.in_default.not-Quit);
+  parsed = c.keep_name.ensures.parsed;
+}
 
-pub returns-in_default-clause-value : goal.returns-in_default-clause-value
-returns-in_default-clause-value c =
-    sym (ap need_for c.requires.says ∙ others_need c.args.name (words c.args.first.rest.now) c.in_default.not-Store c.in_default.not-Cas c.in_default.not-Quit)
+pub keep_storing-requires-clause-parts : goal.keep_storing-requires-clause-parts
+keep_storing-requires-clause-parts c =
+    let text = c.args.first.rest.now in
+    parts_further c.args.line.now c.args.first.word.now text c.in-Ok.said.key.now c.in-Ok.said.after.now c.requires.parts
+    (elim c.match-name.branch [
+      in-Store w ↦ subst (λ said. IfOk said (λ said. Parts text said.key.now said.after.now)) (sym w.said-is ∙ c.in-Ok.is) w.read_store-said.ensures.parts
+      | in-Cas w ↦ subst (λ said. IfOk said (λ said. Parts text said.key.now said.after.now)) (sym w.said-is ∙ c.in-Ok.is) w.read_cas-said.ensures.parts
+    ])

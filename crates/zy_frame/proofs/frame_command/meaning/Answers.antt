@@ -2,13 +2,13 @@ use Rattle.std.proofs.Common.{arith, ap, length, subst, ◌∙◌}
 use Rattle.zy_frame.proofs.FrameFits.{Fits, fits}
 use Rattle.zy_frame.proofs.frame_command.meaning.Goals as goal
 
-pub parse_line-requires-clause-within : goal.parse_line-requires-clause-within
-parse_line-requires-clause-within c =
+pub parse_read-requires-clause-within : goal.parse_read-requires-clause-within
+parse_read-requires-clause-within c =
     let f = subst Fits c.in-Line.is (fits c.frame.inside.kind c.frame.invariant.0) in
     omega (arith, f.0, ap length c.bytes.ensures.value)
 
-pub parse_read-requires-clause-within : goal.parse_read-requires-clause-within
-parse_read-requires-clause-within c =
+pub parse_read_block-requires-clause-within : goal.parse_read_block-requires-clause-within
+parse_read_block-requires-clause-within c =
     let f = subst Fits c.in-Block.is (fits c.frame.inside.kind c.frame.invariant.0) in
     omega (arith, f.0, ap length c.bytes-in-Block.ensures.value)
 
