@@ -1,34 +1,35 @@
 -- What was read of a line, by its need.
-use Rattle.std.proofs.Common.{◌≡◌, ℕ, Bool, List, length}
-use Rattle.std.specs.Prelude.{⊤, None, MatchOption}
+use Rattle.std.proofs.Common.{◌≡◌, ℕ, List, refl}
+use Rattle.std.specs.Prelude.{Option, None, Some, MatchOption}
+use Rattle.mc_parse.specs.declared.error_line.ErrorLine.TheVariants.{Unknown}
+use Rattle.mc_parse.specs.declared.name.Name.TheVariants as Names
 use Rattle.mc_parse.specs.declared.need.Need.{Need}
 use Rattle.mc_parse.specs.declared.need.Need.TheVariants.{Nothing, Block, Quit}
 use Rattle.mc_parse.specs.declared.parsed.Parsed.{Parsed}
-use Rattle.mc_parse.specs.Need.{need}
+use Rattle.mc_parse.specs.Arity.{Following, following_of, no_more}
+use Rattle.mc_parse.specs.Form.{find, form_with, form_after}
+use Rattle.mc_parse.specs.Need.{need_for}
 use Rattle.mc_parse.specs.Meaning.{IsBlockFor}
-use Rattle.mc_parse.specs.Parsed.{IsParsedBy, IsParsed, IsStoring}
-
-none_by : (what : Need) (line : List ℕ) (unique flags from to : ℕ) (quiet : Bool)
-    → IsParsedBy what line (record { unique = unique; flags = flags; from = from; to = to; name = None; quiet = quiet })
-none_by Nothing line unique flags from to quiet = tt
-none_by (Block bytes) line unique flags from to quiet = tt
-none_by Quit line unique flags from to quiet = tt
-
--- nothing may have been read of any line
-pub nothing_parsed : (line : List ℕ) (unique flags from to : ℕ) (quiet : Bool)
-    → IsParsed line (record { unique = unique; flags = flags; from = from; to = to; name = None; quiet = quiet })
-unfolding IsParsed
-nothing_parsed line unique flags from to quiet = none_by (need line) line unique flags from to quiet
+use Rattle.mc_parse.specs.Parsed.{IsParsedBy, IsUnnamed, IsNamed, IsStoring}
 
 -- of a line with a block it is what the line stores
 pub block_parsed : (what : Need) (line block : List ℕ) (parsed : Parsed) → IsBlockFor what block → IsParsedBy what line parsed
-    → MatchOption parsed.name ⊤ (IsStoring line parsed)
+    → MatchOption parsed.name (IsUnnamed line) (IsStoring line parsed)
 block_parsed Nothing line block parsed fits is = absurd fits
 block_parsed (Block bytes) line block parsed fits is = is
 block_parsed Quit line block parsed fits is = absurd fits
 
--- where nothing was read, it is what was read of any line
-pub none_parsed : (what : Need) (line : List ℕ) (parsed : Parsed) → parsed.name ≡ None → IsParsedBy what line parsed
-none_parsed Nothing line parsed none = rw none tt
-none_parsed (Block bytes) line parsed none = rw none tt
-none_parsed Quit line parsed none = tt
+-- a line without a name was read, whatever it needs
+pub unnamed_parsed : (what : Need) (line : List ℕ) (parsed : Parsed) → parsed.name ≡ None → IsUnnamed line → IsParsedBy what line parsed
+unnamed_parsed Nothing line parsed none is = rw none is
+unnamed_parsed (Block bytes) line parsed none is = rw none is
+unnamed_parsed Quit line parsed none is = tt
+
+-- so was one with the name quit, which needs no block
+pub quit_parsed : (words : List (List ℕ)) (line : List ℕ) (parsed : Parsed) → MatchOption parsed.name (IsUnnamed line) (IsNamed line parsed)
+    → IsParsedBy (need_for (form_after Names.Quit words)) line parsed
+quit_parsed words line parsed is = go (following_of no_more words)
+  where
+    go : (following : Option Following) → IsParsedBy (need_for (find following Unknown (form_with Names.Quit))) line parsed
+    go None = is
+    go (Some following) = tt

@@ -5,11 +5,16 @@ use Rattle.mc_parse.specs.declared.name.Name.TheVariants.{Store}
 use Rattle.mc_parse.specs.declared.need.Need.{Need}
 use Rattle.mc_parse.specs.declared.need.Need.TheVariants.{Nothing, Block, Quit}
 use Rattle.mc_parse.specs.declared.parsed.Parsed.{Parsed}
+use Rattle.mc_meta.specs.Meta.{meta_line}
 use Rattle.mc_parse.specs.Words.{words}
-use Rattle.mc_parse.specs.Form.{Ask, stores, exchanges, asks, form_after, line_form}
+use Rattle.mc_parse.specs.Form.{Ask, stores, exchanges, asks, form_after, meta_form, line_form}
 use Rattle.mc_parse.specs.Need.{need}
 
--- ---- a line that needs no block
+-- ---- names
+
+-- a line is read as a meta command, since it has no name
+abbrev pub IsUnnamed : List ℕ → Type 0
+IsUnnamed line = line_form line ≡ meta_form line (meta_line line)
 
 -- a line says what this name says with the words after a place
 pub record IsNamed (line : List ℕ) (parsed : Parsed) (name : Name) : Type 0 where
@@ -37,12 +42,12 @@ pub record IsStoring (line : List ℕ) (parsed : Parsed) (name : Name) : Type 0 
 
 -- ---- lines
 
--- this was read of a line with this need, if it has a name
+-- this was read of a line with this need
 abbrev pub IsParsedBy : Need → List ℕ → Parsed → Type 0
-IsParsedBy Nothing line parsed = MatchOption parsed.name ⊤ (IsNamed line parsed)
-IsParsedBy (Block bytes) line parsed = MatchOption parsed.name ⊤ (IsStoring line parsed)
+IsParsedBy Nothing line parsed = MatchOption parsed.name (IsUnnamed line) (IsNamed line parsed)
+IsParsedBy (Block bytes) line parsed = MatchOption parsed.name (IsUnnamed line) (IsStoring line parsed)
 IsParsedBy Quit line parsed = ⊤
 
--- this was read of a line, if it has a name
+-- this was read of a line
 unfoldable pub IsParsed : List ℕ → Parsed → Type 0
 IsParsed line parsed = IsParsedBy (need line) line parsed

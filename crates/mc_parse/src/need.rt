@@ -1,5 +1,5 @@
 //! What must come with a line.
-ghost use Rattle.std.specs.Prelude.{◌≡◌, ◌≤◌, length, codes, if◌then◌else◌, None, ⊤, MatchOption};
+ghost use Rattle.std.specs.Prelude.{◌≡◌, ◌≤◌, length, codes, if◌then◌else◌, MatchOption};
 ghost use Rattle.mc_parse.specs.Words.{words, line_limit};
 ghost use Rattle.mc_parse.specs.Need.{need, need_for, ask_need, meta_need};
 ghost use Rattle.std.specs.Str.{bytes_eq};
@@ -7,7 +7,7 @@ ghost use Rattle.mc_meta.specs.Meta.{meta_line};
 ghost use Rattle.mc_parse.specs.MetaAsk.{meta_ask_seen};
 ghost use Rattle.mc_parse.specs.Form.{ask_seen, form_after, meta_form, line_form};
 ghost use Rattle.mc_parse.specs.Line.{form_seen};
-ghost use Rattle.mc_parse.specs.Parsed.{IsParsed, IsParsedBy, IsNamed, IsStoring};
+ghost use Rattle.mc_parse.specs.Parsed.{IsParsed, IsParsedBy, IsUnnamed, IsNamed, IsStoring};
 ghost use Rattle.mc_parse.specs.Storing.{Parts, storing_form};
 
 use crate::asking::Ask;
@@ -40,19 +40,22 @@ pub fn need_of(line: &[u8]) -> Need
 }
 
 /// What a line needs. What was read of it is kept, so that it isn't read again. Takes no memory.
-#[tactic(auto, unfolding(crate::specs::Need::need, crate::specs::Parsed::IsParsed), using(crate::proofs::MetaLemmas::named_form))]
+#[tactic(auto, unfolding(crate::specs::Need::need, crate::specs::Parsed::IsParsed), using(crate::proofs::MetaLemmas::named_form, crate::proofs::MetaLemmas::wordless_form))]
 pub fn read_need(line: &[u8], parsed: &mut Parsed) -> Need
     requires within { length line.now ≤ line_limit }
     ensures value { result ≡ need line.now }
     ensures parsed { IsParsed line.now parsed.new }
 {
-    parsed.name = None;
     let Some(first) = next_word(line) else {
+        parsed.name = None;
         return Need::Nothing;
     };
     match name_of(first.word) {
         Some(name) => named_need(line, name, first, parsed),
-        None => unnamed_need(line, first.word),
+        None => {
+            parsed.name = None;
+            unnamed_need(line, first.word)
+        }
     }
 }
 
@@ -61,14 +64,16 @@ fn named_need(line: &[u8], name: Name, first: Split<'_>, parsed: &mut Parsed) ->
     requires within { length line.now ≤ line_limit }
     requires says { line_form line.now ≡ form_after name (words first.rest.now) }
     requires parts { Parts line.now first.word.now first.rest.now }
-    requires unread { parsed.old.name ≡ None }
     ensures value { result ≡ need_for (line_form line.now) }
     ensures parsed { IsParsedBy result line.now parsed.new }
 {
     let said = match name {
         Name::Store { verb } => read_store(verb, first.rest),
         Name::Cas => read_cas(first.rest),
-        Name::Quit => return need_for(read_after(name, first.rest)),
+        Name::Quit => {
+            keep_name(line, name, first, parsed);
+            return need_for(read_after(name, first.rest));
+        }
         _ => {
             keep_name(line, name, first, parsed);
             return Need::Nothing;
@@ -91,7 +96,7 @@ fn keep_name(line: &[u8], name: Name, first: Split<'_>, parsed: &mut Parsed)
     requires within { length line.now ≤ line_limit }
     requires says { line_form line.now ≡ form_after name (words first.rest.now) }
     requires parts { Parts line.now first.word.now first.rest.now }
-    ensures parsed { MatchOption parsed.new.name ⊤ (IsNamed line.now parsed.new) }
+    ensures parsed { MatchOption parsed.new.name (IsUnnamed line.now) (IsNamed line.now parsed.new) }
 {
     parsed.name = Some(name);
     parsed.from = (line.len() - first.rest.len()) as u32;
@@ -102,7 +107,7 @@ fn keep_storing(line: &[u8], name: Name, said: Storing<'_>, parsed: &mut Parsed)
     requires within { length line.now ≤ line_limit }
     requires says { line_form line.now ≡ storing_form name said }
     requires parts { Parts line.now said.key.now said.after.now }
-    ensures parsed { MatchOption parsed.new.name ⊤ (IsStoring line.now parsed.new) }
+    ensures parsed { MatchOption parsed.new.name (IsUnnamed line.now) (IsStoring line.now parsed.new) }
 {
     let to = line.len() - said.after.len();
     parsed.unique = said.unique;

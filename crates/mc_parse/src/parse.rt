@@ -71,7 +71,7 @@ pub fn parse_read(alloc: Global, line: &[u8], parsed: &Parsed) -> Result<Command
 {
     match parsed.name {
         Some(name) => named_command(alloc, name, parsed.text(line)),
-        None => parse_line(alloc, line),
+        None => meta_command(alloc, line),
     }
 }
 
@@ -92,7 +92,7 @@ pub fn parse_read_block(
 {
     match parsed.name {
         Some(name) => block_command_for(alloc, parsed.storing(name, line), block),
-        None => parse_block(alloc, line, block),
+        None => meta_block_command(alloc, line, block),
     }
 }
 

@@ -3,15 +3,15 @@ ghost use Rattle.std.specs.Prelude.{◌≡◌, ◌≤◌, ℕ, List, length, dro
 ghost use Rattle.mc_parse.specs.Form.{line_form};
 ghost use Rattle.mc_parse.specs.Line.{form_seen};
 ghost use Rattle.mc_parse.specs.Meaning.{block_command_for};
-ghost use Rattle.mc_parse.specs.Parsed.{IsParsed, IsStoring, key_in};
+ghost use Rattle.mc_parse.specs.Parsed.{IsStoring, key_in};
 
-use crate::asking::Ask;
+use crate::asking::stored_ask;
 use crate::line::Line;
 use crate::name::Name;
 
 /// What was read of a line when its need was asked for, so that it isn't read again. Of a storage line with its
 /// block it is what the line says, with the place of the key; of any other line it is the name with the place of
-/// the text after it. Nothing is kept of a meta command, nor of a line without a name.
+/// the text after it. A meta command has no name here.
 #[derive(Clone, Copy)]
 pub struct Parsed {
     // 0 where the line has none.
@@ -21,17 +21,14 @@ pub struct Parsed {
     // the name.
     pub(crate) from: u32,
     pub(crate) to: u32,
-    // None where nothing is kept.
+    // None where the line is read as a meta command.
     pub(crate) name: Option<Name>,
     pub(crate) quiet: bool,
 }
 
 impl Parsed {
-    /// Nothing.
-    #[tactic(auto, using(crate::proofs::ParsedLemmas::nothing_parsed))]
-    pub fn nothing() -> Parsed
-        ensures value { (line : List ℕ) → IsParsed line result }
-    {
+    /// Nothing yet.
+    pub fn nothing() -> Parsed {
         Parsed {
             unique: 0,
             flags: 0,
@@ -48,23 +45,8 @@ impl Parsed {
         ensures value { (block : List ℕ) → block_command_for block (form_seen result)
             ≡ block_command_for block (line_form line.now) }
     {
-        let key = self.key(line);
-        let ask = match name {
-            Name::Store { verb } => Ask::Store {
-                verb,
-                key,
-                flags: self.flags,
-                bytes: 0,
-            },
-            _ => Ask::Cas {
-                key,
-                flags: self.flags,
-                bytes: 0,
-                unique: self.unique,
-            },
-        };
         Line::Asks {
-            ask,
+            ask: stored_ask(name, self.key(line), self.flags, 0, self.unique),
             quiet: self.quiet,
         }
     }
