@@ -1,14 +1,13 @@
 -- What the words after the name of a storage command say, read one after the other.
 use Rattle.std.proofs.Common.{◌≡◌, ℕ, ◌+◌, ◌-◌, ◌<◌, ◌≤◌, Bool, true, false, List, [], ◌∷◌, ◌++◌, length, take, drop, refl, sym, ap, ◌∙◌, append_assoc, length-append, arith}
 use Rattle.std.specs.List.{list_all}
-use Rattle.std.specs.Prelude.{Option, None, Some, option_map, if◌then◌else◌, nat_le, not, ◌&&◌}
+use Rattle.std.specs.Prelude.{None, Some, option_map, if◌then◌else◌, nat_le, not, ◌&&◌}
 use Rattle.std.proofs.lemmas.Bool.{lt-leb}
 use Rattle.std.proofs.lemmas.List.{take-append-drop, take_all, length-drop}
 use Rattle.std.proofs.Math.Seq.{take-append_seam, drop-append_seam}
 use Rattle.zy_base.specs.Number.{number_of}
 use Rattle.mc_parse.specs.declared.error_line.ErrorLine.TheVariants.{Unknown, BadLine}
 use Rattle.mc_parse.specs.declared.name.Name.TheVariants.{Store, Cas}
-use Rattle.mc_parse.specs.declared.sizes.Sizes.{Sizes}
 use Rattle.mc_parse.specs.declared.verb.Verb.{Verb}
 use Rattle.mc_parse.specs.Words.{is_noreply}
 use Rattle.mc_parse.specs.Arity.{Following, following, from_to, lacks_noreply, asks_silence}

@@ -1,5 +1,5 @@
 -- What was read of a line: its name with the place of the text after it, or what a storage line says.
-use Rattle.std.specs.Prelude.{◌≡◌, ℕ, ◌-◌, ◌≤◌, List, length, take, drop, ⊤, MatchOption}
+use Rattle.std.specs.Prelude.{◌≡◌, ℕ, ◌-◌, ◌≤◌, List, length, take, drop, ⊤, false, None, MatchOption}
 use Rattle.mc_parse.specs.declared.name.Name.{Name}
 use Rattle.mc_parse.specs.declared.name.Name.TheVariants.{Store}
 use Rattle.mc_parse.specs.declared.need.Need.{Need}
@@ -9,6 +9,11 @@ use Rattle.mc_meta.specs.Meta.{meta_line}
 use Rattle.mc_parse.specs.Words.{words}
 use Rattle.mc_parse.specs.Form.{Ask, stores, exchanges, asks, form_after, meta_form, line_form}
 use Rattle.mc_parse.specs.Need.{need}
+
+-- nothing yet
+abbrev pub nothing_parsed : Parsed
+nothing_parsed =
+    record { unique = 0; flags = 0; from = 0; to = 0; name = None; quiet = false }
 
 -- ---- names
 

@@ -14,8 +14,8 @@ use crate::asking::Ask;
 use crate::line::Line;
 use crate::meta_ask::{MetaAsk, read_meta_ask};
 use crate::name::{Name, name_of};
-use crate::reading::read_after;
 use crate::parsed::Parsed;
+use crate::reading::read_after;
 use crate::storing::{Storing, read_cas, read_store};
 use crate::word::{Split, next_word};
 

@@ -3,7 +3,7 @@ ghost use Rattle.std.specs.Prelude.{◌≡◌, ◌≤◌, ℕ, List, length, dro
 ghost use Rattle.mc_parse.specs.Form.{line_form};
 ghost use Rattle.mc_parse.specs.Line.{form_seen};
 ghost use Rattle.mc_parse.specs.Meaning.{block_command_for};
-ghost use Rattle.mc_parse.specs.Parsed.{IsStoring, key_in};
+ghost use Rattle.mc_parse.specs.Parsed.{IsStoring, key_in, nothing_parsed};
 
 use crate::asking::stored_ask;
 use crate::line::Line;
@@ -28,7 +28,9 @@ pub struct Parsed {
 
 impl Parsed {
     /// Nothing yet.
-    pub fn nothing() -> Parsed {
+    pub fn nothing() -> Parsed
+        ensures value { result ≡ nothing_parsed }
+    {
         Parsed {
             unique: 0,
             flags: 0,

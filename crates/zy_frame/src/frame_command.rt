@@ -28,7 +28,12 @@ pub fn meaning(alloc: Global, frame: Frame) -> Result<Command, (Frame, NoMemory)
                 e,
             )),
         },
-        FrameKind::Block { line, block } => match parse_read_block(alloc, line.bytes(), &parsed, block) {
+        FrameKind::Block { line, block } => match parse_read_block(
+            alloc,
+            line.bytes(),
+            &parsed,
+            block,
+        ) {
             Ok(command) => {
                 drop(line);
                 Ok(command)

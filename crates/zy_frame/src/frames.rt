@@ -11,13 +11,17 @@ use zy_base::{NoMemory, Queue};
 pub type Frames = Queue<Frame>;
 
 // Puts a frame at the end of whose line this was read; after a refusal nothing has changed.
-pub(crate) fn append(frames: &mut Frames, kind: FrameKind, parsed: Parsed) -> Result<(), NoMemory>
+#[inline(always)]
+pub(crate) fn append(frames: &mut Frames, kind: FrameKind, parsed: &Parsed) -> Result<(), NoMemory>
     requires frame { IsFrame kind }
-    requires parsed { IsParsedIn kind parsed }
+    requires parsed { IsParsedIn kind parsed.now }
     ensures ok { OnOk result (frames.new ≡ frames.old ++ kind ∷ []) }
     ensures err { OnErr result (frames.new ≡ frames.old) }
 {
-    match frames.push(Frame { kind, parsed }) {
+    match frames.push(Frame {
+        kind,
+        parsed: *parsed,
+    }) {
         Ok(()) => Ok(()),
         Err((frame, e)) => {
             drop(frame);

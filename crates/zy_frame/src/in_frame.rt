@@ -45,7 +45,7 @@ pub(crate) fn take_block(
     wanted.left = 0;
     let line = chomp_kept(mem::replace(&mut wanted.line, Blob::new(alloc)));
     let block = mem::replace(block, Blob::new(alloc));
-    append(frames, FrameKind::Block { line, block }, *parsed)?;
+    append(frames, FrameKind::Block { line, block }, parsed)?;
     Ok(left)
 }
 
@@ -81,6 +81,6 @@ pub(crate) fn pass_block(
     }
     wanted.left = 0;
     let line = chomp_kept(mem::replace(&mut wanted.line, Blob::new(alloc)));
-    append(frames, FrameKind::Large { line }, Parsed::nothing())?;
+    append(frames, FrameKind::Large { line }, &Parsed::nothing())?;
     Ok(left)
 }

@@ -44,7 +44,7 @@ pub(crate) fn end_line(
     ensures err { OnErr result (frames.new ≡ frames.old) }
 {
     if kept.bytes().len() + bytes.len() > LINE_LIMIT {
-        append(frames, FrameKind::Long, Parsed::nothing())?;
+        append(frames, FrameKind::Long, &Parsed::nothing())?;
         kept.truncate(0);
         return Ok(Need::Nothing);
     }
@@ -68,7 +68,7 @@ fn close_line(
     match read_need(chomp(kept.bytes()), parsed) {
         Need::Nothing => {
             let line = chomp_kept(mem::replace(kept, Blob::new(alloc)));
-            append(frames, FrameKind::Line { line }, *parsed)?;
+            append(frames, FrameKind::Line { line }, parsed)?;
             Ok(Need::Nothing)
         }
         need => Ok(need),

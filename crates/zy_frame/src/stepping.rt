@@ -45,7 +45,7 @@ pub(crate) fn step(
         },
         State::Long => match line_end(bytes) {
             Some(at) => {
-                append(frames, FrameKind::Long, Parsed::nothing())?;
+                append(frames, FrameKind::Long, &Parsed::nothing())?;
                 begin_line(alloc, state);
                 Ok(at + 1)
             }

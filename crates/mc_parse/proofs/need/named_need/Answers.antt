@@ -29,6 +29,6 @@ keep_storing-requires-clause-parts c =
     let text = c.args.first.rest.now in
     parts_further c.args.line.now c.args.first.word.now text c.in-Ok.said.key.now c.in-Ok.said.after.now c.requires.parts
     (elim c.match-name.branch [
-      in-Store w ↦ subst (λ said. IfOk said (λ said. Parts text said.key.now said.after.now)) (sym w.said-is ∙ c.in-Ok.is) w.read_store-said.ensures.parts
+      | in-Store w ↦ subst (λ said. IfOk said (λ said. Parts text said.key.now said.after.now)) (sym w.said-is ∙ c.in-Ok.is) w.read_store-said.ensures.parts
       | in-Cas w ↦ subst (λ said. IfOk said (λ said. Parts text said.key.now said.after.now)) (sym w.said-is ∙ c.in-Ok.is) w.read_cas-said.ensures.parts
     ])

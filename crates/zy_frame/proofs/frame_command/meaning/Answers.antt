@@ -1,4 +1,4 @@
-use Rattle.std.proofs.Common.{arith, ap, length, subst, ◌∙◌}
+use Rattle.std.proofs.Common.{arith, ap, length, subst}
 use Rattle.zy_frame.proofs.FrameFits.{Fits, fits}
 use Rattle.zy_frame.proofs.frame_command.meaning.Goals as goal
 

@@ -15,7 +15,7 @@ pub append-requires-clause-frame : goal.append-requires-clause-frame
 append-requires-clause-frame c =
     let same = c.chomp.ensures.value ∙ ap chomped c.bytes.ensures.value in
     rw (c.chomp_kept-line.ensures.value ∙ ap chomped c.replace.ensures.value)
-          (is_line_frame c.args.kept.now c.requires.short (ap need (sym same) ∙ sym c.read_need.ensures.value ∙ c.in-Nothing.is))
+    (is_line_frame c.args.kept.now c.requires.short (ap need (sym same) ∙ sym c.read_need.ensures.value ∙ c.in-Nothing.is))
 
 pub returns-in_ok-append-in-Nothing-clause-value : goal.returns-in_ok-append-in-Nothing-clause-value
 returns-in_ok-append-in-Nothing-clause-value c =
