@@ -9,15 +9,7 @@ use Rattle.mc_parse.specs.declared.parsed.Parsed.{Parsed}
 use Rattle.mc_parse.specs.Arity.{Following, following_of, no_more}
 use Rattle.mc_parse.specs.Form.{find, form_with, form_after}
 use Rattle.mc_parse.specs.Need.{need_for}
-use Rattle.mc_parse.specs.Meaning.{IsBlockFor}
-use Rattle.mc_parse.specs.Parsed.{IsParsedBy, IsUnnamed, IsNamed, IsStoring}
-
--- of a line with a block it is what the line stores
-pub block_parsed : (what : Need) (line block : List ℕ) (parsed : Parsed) → IsBlockFor what block → IsParsedBy what line parsed
-    → MatchOption parsed.name (IsUnnamed line) (IsStoring line parsed)
-block_parsed Nothing line block parsed fits is = absurd fits
-block_parsed (Block bytes) line block parsed fits is = is
-block_parsed Quit line block parsed fits is = absurd fits
+use Rattle.mc_parse.specs.Parsed.{IsParsedBy, IsUnnamed, IsNamed}
 
 -- a line without a name was read, whatever it needs
 pub unnamed_parsed : (what : Need) (line : List ℕ) (parsed : Parsed) → parsed.name ≡ None → IsUnnamed line → IsParsedBy what line parsed

@@ -34,8 +34,8 @@ stored_ask (Store verb) key flags bytes unique = stores verb key flags bytes
 stored_ask name key flags bytes unique = exchanges key flags bytes unique
 
 -- the key of a line, at its place
-abbrev pub key_in : List ℕ → Parsed → List ℕ
-key_in line parsed = take (parsed.to - parsed.from) (drop parsed.from line)
+abbrev pub line_key : List ℕ → Parsed → List ℕ
+line_key line parsed = take (parsed.to - parsed.from) (drop parsed.from line)
 
 -- a line asks to store in the way of this name, some number of bytes under the key at its place
 pub record IsStoring (line : List ℕ) (parsed : Parsed) (name : Name) : Type 0 where
@@ -43,7 +43,7 @@ pub record IsStoring (line : List ℕ) (parsed : Parsed) (name : Name) : Type 0 
   pub within : parsed.to ≤ length line
   pub bytes : ℕ
   pub says : line_form line
-      ≡ asks (stored_ask name (key_in line parsed) parsed.flags bytes parsed.unique) parsed.quiet
+      ≡ asks (stored_ask name (line_key line parsed) parsed.flags bytes parsed.unique) parsed.quiet
 
 -- ---- lines
 

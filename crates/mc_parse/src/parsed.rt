@@ -3,7 +3,7 @@ ghost use Rattle.std.specs.Prelude.{◌≡◌, ◌≤◌, ℕ, List, length, dro
 ghost use Rattle.mc_parse.specs.Form.{line_form};
 ghost use Rattle.mc_parse.specs.Line.{form_seen};
 ghost use Rattle.mc_parse.specs.Meaning.{block_command_for};
-ghost use Rattle.mc_parse.specs.Parsed.{IsStoring, key_in, nothing_parsed};
+ghost use Rattle.mc_parse.specs.Parsed.{IsStoring, line_key, nothing_parsed};
 
 use crate::asking::stored_ask;
 use crate::line::Line;
@@ -57,7 +57,7 @@ impl Parsed {
     fn key<'a>(&self, line: &'a [u8]) -> &'a [u8]
         requires order { self.now.from ≤ self.now.to }
         requires within { self.now.to ≤ length line.now }
-        ensures value { result.now ≡ key_in line.now self.now }
+        ensures value { result.now ≡ line_key line.now self.now }
     {
         &line[self.from as usize..self.to as usize]
     }
