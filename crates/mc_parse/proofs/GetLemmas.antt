@@ -10,9 +10,9 @@ use Rattle.mc_parse.specs.declared.name.Name.TheVariants.{Get}
 use Rattle.mc_parse.specs.declared.need.Need.TheVariants.{Nothing}
 use Rattle.mc_parse.specs.Form.{gets, asks, is_key, check, find, form_with, form_after, line_form}
 use Rattle.mc_parse.specs.Arity.{following}
-use Rattle.mc_parse.specs.Need.{need, need_for, takes_more}
+use Rattle.mc_parse.specs.Need.{need, need_for}
 use Rattle.mc_parse.specs.Meaning.{command_for, fault, IsBlockFor, IsTooLarge}
-use Rattle.mc_parse.specs.Line.{HasFew, retrieval}
+use Rattle.mc_parse.specs.Line.{IsLimited, retrieval}
 
 found_by : (b unique : Bool) (ws : List (List ℕ)) → b ≡ true
     → find (if (b && true) && not false then Some (following ws false) else None) Unknown (λ following. form_with (Get unique) following) ≡ check (list_all is_key ws) BadLine (asks (gets ws unique) false)
@@ -43,26 +43,21 @@ got_nothing : (unique : Bool) (ws : List (List ℕ)) → need_for (form_after (G
 got_nothing unique [] = refl
 got_nothing unique (word ∷ ws) = ap need_for (some_words unique word ws) ∙ checked (list_all is_key (word ∷ ws)) (word ∷ ws) unique
 
-few_by : (name : Name) → ((unique : Bool) → name ≡ Get unique → ⊥) → HasFew name
+few_by : (name : Name) → ((unique : Bool) → name ≡ Get unique → ⊥) → IsLimited name
 few_by (Get unique) other = other unique refl
 few_by name other = tt
 
 -- a line that needs a block is no retrieval
-pub block_few : (line : List ℕ) (name : Name) (ws : List (List ℕ)) (block : List ℕ) → line_form line ≡ form_after name ws → IsBlockFor (need line) block → HasFew name
+pub block_few : (line : List ℕ) (name : Name) (ws : List (List ℕ)) (block : List ℕ) → line_form line ≡ form_after name ws → IsBlockFor (need line) block → IsLimited name
 unfolding need
 block_few line name ws block is fits =
     few_by name (λ unique get. subst (λ n. IsBlockFor n block) (ap need_for is ∙ ap (λ n. need_for (form_after n ws)) get ∙ got_nothing unique ws) fits)
 
 -- so is one whose value is too large
-pub large_few : (line : List ℕ) (name : Name) (ws : List (List ℕ)) → line_form line ≡ form_after name ws → IsTooLarge (need line) → HasFew name
+pub large_few : (line : List ℕ) (name : Name) (ws : List (List ℕ)) → line_form line ≡ form_after name ws → IsTooLarge (need line) → IsLimited name
 unfolding need
 large_few line name ws is large =
     few_by name (λ unique get. subst IsTooLarge (ap need_for is ∙ ap (λ n. need_for (form_after n ws)) get ∙ got_nothing unique ws) large)
-
--- a name that may need something is no retrieval
-pub more_few : (name : Name) → takes_more name ≡ true → HasFew name
-more_few (Get unique) more = absurd (cc)
-more_few name more = tt
 
 -- ---- keys, if there are any
 

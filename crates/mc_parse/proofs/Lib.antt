@@ -9,3 +9,5 @@ pub mod BoundLemmas
 pub mod AskLemmas
 pub mod NeedLemmas
 pub mod GetLemmas
+mod StoringLemmas
+mod ParsedLemmas

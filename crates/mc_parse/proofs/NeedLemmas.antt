@@ -4,6 +4,8 @@ use Rattle.std.specs.Prelude.{Option, None, Some, IfSome}
 use Rattle.mc_parse.specs.declared.error_line.ErrorLine.{ErrorLine}
 use Rattle.mc_parse.specs.declared.error_line.ErrorLine.TheVariants.{Unknown}
 use Rattle.mc_parse.specs.declared.name.Name.{Name}
+use Rattle.mc_parse.specs.declared.name.Name.TheVariants.{Store, Cas, Quit}
+use Rattle.mc_parse.specs.declared.verb.Verb.{Verb}
 use Rattle.mc_parse.specs.declared.need.Need.TheVariants.{Nothing}
 use Rattle.mc_parse.specs.Arity.{following_of}
 use Rattle.mc_parse.specs.Name.{arity_of}
@@ -28,3 +30,11 @@ asked name words (Some ask) fault quiet plain reads = reads.needs plain
 pub needs_nothing : (name : Name) (words : List (List ℕ)) → takes_more name ≡ false → need_for (form_after name words) ≡ Nothing
 needs_nothing name words plain =
     found (following_of (arity_of name) words) Unknown (form_with name) (λ following. checked _ _ _ (asked name following.words (ask_of name following.words) (number_fault name) following.quiet plain (reads name following.words)))
+
+-- the same, where the name is none of those that may need something
+pub others_need : (name : Name) (words : List (List ℕ)) → ((verb : Verb) → name ≡ Store verb → ⊥) → (name ≡ Cas → ⊥) → (name ≡ Quit → ⊥)
+    → need_for (form_after name words) ≡ Nothing
+others_need (Store verb) words store cas quit = absurd (store verb refl)
+others_need Cas words store cas quit = absurd (cas refl)
+others_need Quit words store cas quit = absurd (quit refl)
+others_need name words store cas quit = needs_nothing name words refl

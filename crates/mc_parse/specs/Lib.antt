@@ -7,6 +7,8 @@ pub mod Form
 pub mod Line
 pub mod Need
 pub mod Meaning
+pub mod Parsed
+pub mod Storing
 pub mod OnAll
 pub mod Deed
 pub mod Calls

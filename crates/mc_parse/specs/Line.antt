@@ -26,9 +26,16 @@ texts words = map (λ (word : Bor (List ℕ)). word.now) words
 abbrev pub words_in : Args → List (List ℕ)
 words_in args = texts (take args.count args.words)
 
--- no more than six words may follow a name
+-- the number of words that may follow a name is limited
+abbrev pub IsLimited : Name → Type 0
+IsLimited (Names.Get unique) = ⊥
+IsLimited name = ⊤
+
+-- no more than three words may follow a name
 abbrev pub HasFew : Name → Type 0
 HasFew (Names.Get unique) = ⊥
+HasFew (Names.Store verb) = ⊥
+HasFew Names.Cas = ⊥
 HasFew name = ⊤
 
 -- ---- names

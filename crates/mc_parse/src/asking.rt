@@ -1,8 +1,9 @@
 //! What a line asks for, and what a name asks for with the words after it.
 ghost use Rattle.std.specs.Prelude.{◌≡◌, option_map};
-ghost use Rattle.mc_parse.specs.Form.{number_fault, sizes_of, store_words, cas_ask, cas_words, with_zero};
+ghost use Rattle.mc_parse.specs.Form.{number_fault, sizes_of, with_zero};
 ghost use Rattle.mc_parse.specs.Form.{delete_words, count_words, verbosity_words, ask_of, ask_seen};
 ghost use Rattle.mc_parse.specs.Line.{texts, HasFew};
+ghost use Rattle.mc_parse.specs.Parsed.{stored_ask};
 
 use crate::error_line::ErrorLine;
 use crate::name::Name;
@@ -51,15 +52,13 @@ pub(crate) enum Ask<'a> {
     Stats,
 }
 
-/// What a name asks for with the words that follow; `None` where a number is bad.
+/// What a name asks for with the few words that follow; `None` where a number is bad.
 pub(crate) fn read_ask<'a>(name: Name, words: &[&'a [u8]]) -> Option<Ask<'a>>
     requires few { HasFew name }
     ensures value { option_map ask_seen result ≡ ask_of name (texts words.now) }
 {
     match name {
-        Name::Store { verb } => read_store(verb, words),
-        Name::Cas => read_cas(words),
-        Name::Get { .. } => unreachable!(),
+        Name::Store { .. } | Name::Cas | Name::Get { .. } => unreachable!(),
         Name::Delete => read_delete(words),
         Name::Count { up } => read_count(up, words),
         Name::Version => Some(Ask::Version),
@@ -80,53 +79,28 @@ pub(crate) fn number_fault(name: Name) -> ErrorLine
     }
 }
 
-// Key, flags, exptime and bytes.
-fn read_store<'a>(verb: Verb, words: &[&'a [u8]]) -> Option<Ask<'a>>
-    ensures value { option_map ask_seen result ≡ store_words verb (texts words.now) }
+/// What a storage line asks for: a verb stores as it says, and any other name is `cas`.
+pub(crate) fn stored_ask(name: Name, key: &[u8], flags: u32, bytes: u32, unique: u64) -> Ask<'_>
+    ensures value { ask_seen result ≡ stored_ask name key.now flags bytes unique }
 {
-    match words {
-        [key, flags, exptime, bytes] => match read_sizes(flags, exptime, bytes) {
-            Some(Sizes { flags, bytes }) => Some(Ask::Store {
-                verb,
-                key,
-                flags,
-                bytes,
-            }),
-            None => None,
+    match name {
+        Name::Store { verb } => Ask::Store {
+            verb,
+            key,
+            flags,
+            bytes,
         },
-        _ => None,
-    }
-}
-
-// Key, flags, exptime, bytes and unique.
-fn read_cas<'a>(words: &[&'a [u8]]) -> Option<Ask<'a>>
-    ensures value { option_map ask_seen result ≡ cas_words (texts words.now) }
-{
-    match words {
-        [key, flags, exptime, bytes, unique] => {
-            cas_ask(key, read_sizes(flags, exptime, bytes), read_number(unique))
-        }
-        _ => None,
-    }
-}
-
-// The same over an item, with its unique.
-fn cas_ask(key: &[u8], sizes: Option<Sizes>, unique: Option<u64>) -> Option<Ask<'_>>
-    ensures value { option_map ask_seen result ≡ cas_ask key.now sizes unique }
-{
-    match (sizes, unique) {
-        (Some(Sizes { flags, bytes }), Some(unique)) => Some(Ask::Cas {
+        _ => Ask::Cas {
             key,
             flags,
             bytes,
             unique,
-        }),
-        _ => None,
+        },
     }
 }
 
-// Flags and bytes, where the word between them is an exptime.
-fn read_sizes(flags: &[u8], exptime: &[u8], bytes: &[u8]) -> Option<Sizes>
+/// Flags and bytes, where the word between them is an exptime.
+pub(crate) fn read_sizes(flags: &[u8], exptime: &[u8], bytes: &[u8]) -> Option<Sizes>
     ensures value { result ≡ sizes_of flags.now exptime.now bytes.now }
 {
     if !is_exptime(exptime) {

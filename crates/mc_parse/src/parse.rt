@@ -8,6 +8,7 @@ ghost use Rattle.mc_parse.specs.Need.{need};
 ghost use Rattle.mc_parse.specs.declared.name.Name.TheVariants as Names;
 ghost use Rattle.mc_parse.specs.Form.{is_key, form_after, ask_seen};
 ghost use Rattle.mc_parse.specs.Line.{form_seen, retrieval};
+ghost use Rattle.mc_parse.specs.Parsed.{IsParsed};
 ghost use Rattle.mc_parse.specs.Meaning.{line_command, block_command, large_command, IsBlockFor, IsTooLarge};
 ghost use Rattle.mc_parse.specs.Meaning.{alone_command, value_command, command_for, block_command_for};
 ghost use Rattle.mc_parse.specs.Meaning.{large_command_for, fault, is_ended, value_of};
@@ -18,6 +19,7 @@ use crate::error_line::ErrorLine;
 use crate::line::Line;
 use crate::meta_command::{meta_block_command, meta_command, meta_large_command};
 use crate::name::Name;
+use crate::parsed::Parsed;
 use crate::reading::{name_in, read_after};
 use crate::word::next_word;
 use mc_meta::is_key;
@@ -55,6 +57,41 @@ pub fn parse_block(alloc: Global, line: &[u8], block: Blob) -> Result<Command, (
 {
     match name_in(line) {
         Some(found) => block_command_for(alloc, read_after(found.name, found.rest), block),
+        None => meta_block_command(alloc, line, block),
+    }
+}
+
+/// The command of a line that needs nothing, of which this was read.
+#[tactic(auto, unfolding(crate::specs::Meaning::line_command, crate::specs::Parsed::IsParsed))]
+pub fn parse_read(alloc: Global, line: &[u8], parsed: &Parsed) -> Result<Command, NoMemory>
+    requires within { length line.now ≤ line_limit }
+    requires parsed { IsParsed line.now parsed.now }
+    requires alone { need line.now ≡ Need.Nothing }
+    ensures value { IfOk result (λ command. command ≡ line_command line.now) }
+{
+    match parsed.name {
+        Some(name) => named_command(alloc, name, parsed.text(line)),
+        None => meta_command(alloc, line),
+    }
+}
+
+/// The command of a line that needs a block, of which this was read, with its block. After a refusal the block is
+/// handed back.
+#[tactic(auto, unfolding(crate::specs::Meaning::block_command, crate::specs::Parsed::IsParsed))]
+pub fn parse_read_block(
+    alloc: Global,
+    line: &[u8],
+    parsed: &Parsed,
+    block: Blob,
+) -> Result<Command, (Blob, NoMemory)>
+    requires within { length line.now ≤ line_limit }
+    requires parsed { IsParsed line.now parsed.now }
+    requires fits { IsBlockFor (need line.now) block }
+    ensures value { IfOk result (λ command. command ≡ block_command line.now block) }
+    ensures returned { IfErr result (λ e. e.0 ≡ block) }
+{
+    match parsed.name {
+        Some(name) => block_command_for(alloc, parsed.storing(name, line), block),
         None => meta_block_command(alloc, line, block),
     }
 }

@@ -4,13 +4,15 @@ ghost use Rattle.std.specs.List.{list_all};
 ghost use Rattle.mc_meta.specs.Meta.{meta_line};
 ghost use Rattle.mc_parse.specs.Words.{words};
 ghost use Rattle.mc_parse.specs.Form.{is_key, keys_among, form_with, form_after, meta_form, line_form};
-ghost use Rattle.mc_parse.specs.Line.{texts, form_seen, HasFew};
+ghost use Rattle.mc_parse.specs.Line.{texts, form_seen, IsLimited, HasFew};
+ghost use Rattle.mc_parse.specs.Storing.{storing_seen};
 
 use crate::args::Args;
-use crate::asking::{number_fault, read_ask};
+use crate::asking::{number_fault, read_ask, stored_ask};
 use crate::error_line::ErrorLine;
 use crate::line::Line;
 use crate::name::{Name, arity_of, has_one_key, name_of};
+use crate::storing::{Storing, read_cas, read_store};
 use crate::word::next_word;
 use mc_meta::is_key;
 
@@ -40,8 +42,33 @@ pub(crate) fn name_in(line: &[u8]) -> Option<Named<'_>>
     }
 }
 
-/// What the text after a name says, after which few words may follow.
+/// What the text after a name says that is no retrieval.
 pub(crate) fn read_after(name: Name, text: &[u8]) -> Line<'_>
+    requires limited { IsLimited name }
+    ensures value { form_seen result ≡ form_after name (words text.now) }
+{
+    match name {
+        Name::Store { verb } => storing_line(name, read_store(verb, text)),
+        Name::Cas => storing_line(name, read_cas(text)),
+        _ => read_few(name, text),
+    }
+}
+
+// What a storage line says.
+fn storing_line(name: Name, said: Result<Storing<'_>, ErrorLine>) -> Line<'_>
+    ensures value { form_seen result ≡ storing_seen name said.entry }
+{
+    match said {
+        Ok(said) => Line::Asks {
+            ask: stored_ask(name, said.key, said.flags, said.bytes, said.unique),
+            quiet: said.quiet,
+        },
+        Err(fault) => Line::Fault(fault),
+    }
+}
+
+// What the text after a name says, after which few words may follow.
+fn read_few(name: Name, text: &[u8]) -> Line<'_>
     requires few { HasFew name }
     ensures value { form_seen result ≡ form_after name (words text.now) }
 {

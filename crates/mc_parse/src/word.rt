@@ -1,6 +1,7 @@
 //! The words of a line.
 ghost use Rattle.std.specs.Prelude.{◌≡◌, ◌<◌, [], ◌∷◌, length, IfSome, IfNone};
 ghost use Rattle.mc_parse.specs.Words.{words, is_noreply};
+ghost use Rattle.mc_parse.specs.Storing.{Parts};
 
 use mc_meta::{count_spaces, word_length};
 
@@ -15,6 +16,7 @@ pub(crate) struct Split<'a> {
 #[tactic(auto, using(crate::proofs::WordLemmas::words_none))]
 pub(crate) fn next_word(text: &[u8]) -> Option<Split<'_>>
     ensures found { IfSome result (λ s. words text.now ≡ s.word.now ∷ words s.rest.now) }
+    ensures parts { IfSome result (λ s. Parts text.now s.word.now s.rest.now) }
     ensures shorter { IfSome result (λ s. length s.rest.now < length text.now) }
     ensures none { IfNone result (words text.now ≡ []) }
 {

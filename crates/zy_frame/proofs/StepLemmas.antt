@@ -1,6 +1,6 @@
 -- What each step of a framer gives, over the values that it leads from and to.
 use Rattle.std.proofs.Common.{◌≡◌, ◌≢◌, ℕ, ◌+◌, ◌-◌, ◌<◌, ◌≤◌, true, false, List, [], ◌∷◌, ◌++◌, length, take, drop, refl, sym, ap, ◌∙◌, arith, append_assoc, append-nil, length-append, ne_eqb}
-use Rattle.std.specs.Prelude.{Option, None, Some, nat_lt, if◌then◌else◌, Bool, option_to_list}
+use Rattle.std.specs.Prelude.{Option, None, Some, nat_lt, if◌then◌else◌, Bool}
 use Rattle.std.proofs.lemmas.Bool.{ltb-true, ltb-false}
 use Rattle.std.proofs.lemmas.List.{length-take}
 use Rattle.std.proofs.Math.Seq.{drop-length}
@@ -16,8 +16,8 @@ use Rattle.zy_frame.specs.declared.state.State.TheVariants.{Line, Long, Block, L
 use Rattle.mc_parse.specs.Words.{line_limit}
 use Rattle.zy_frame.specs.Line.{IsShort, first_line, chomped, line_feed}
 use Rattle.zy_frame.specs.Frame.{frame_at}
-use Rattle.zy_frame.specs.Progress.{IsAwaited, IsKeptBlock, IsLargeBlock, outcome_of, with_frames, ends_long, ends_frame, goes_on}
-use Rattle.zy_frame.specs.Steps.{awaited, progress_of, after_line, after_block, Goes, Moves, Closes, ClosesTo, waiting}
+use Rattle.zy_frame.specs.Progress.{IsAwaited, IsKeptBlock, IsLargeBlock, outcome_of, ends_long, ends_frame, goes_on}
+use Rattle.zy_frame.specs.Steps.{awaited, after_line, after_block, Goes, Moves, Closes, ClosesTo, waiting}
 use Rattle.zy_frame.proofs.LineLemmas.{ended, spelled, first_line-append, first_line-append_none, first_line-ended}
 use Rattle.zy_frame.proofs.GoingOn.{in_long, long_ends, ends_long-begun_with, ends_frame-part, ends_frame-all, line_ends, quit_ends, block_begins, kept_block, large_block, ends_frame-same}
 

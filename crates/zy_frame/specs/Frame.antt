@@ -1,7 +1,7 @@
 -- Frames: the bytes of a stream that make a frame, and its meaning (docs/PROFILE.md, "Lines and
 -- words" and "Commands").
 use Rattle.std.specs.Prelude.{◌≡◌, ℕ, ◌+◌, nat_lt, if◌then◌else◌, List}
-use Rattle.std.specs.Prelude.{length, Option, None, Some, MatchOption}
+use Rattle.std.specs.Prelude.{length, Option, None, Some, MatchOption, ⊤}
 use Rattle.zy_base.specs.Shard.{value_limit}
 use Rattle.mc_parse.specs.declared.need.Need.{Need}
 use Rattle.mc_parse.specs.declared.need.Need.TheVariants as Needs
@@ -10,6 +10,8 @@ use Rattle.mc_parse.specs.Need.{need}
 use Rattle.mc_parse.specs.Meaning.{line_command, block_command, large_command, long_command}
 use Rattle.zy_frame.specs.declared.frame_kind.FrameKind.{FrameKind}
 use Rattle.zy_frame.specs.declared.frame_kind.FrameKind.TheVariants.{Line, Block, Large, Long}
+use Rattle.mc_parse.specs.declared.parsed.Parsed.{Parsed}
+use Rattle.mc_parse.specs.Parsed.{IsParsed}
 use Rattle.mc_parse.specs.Words.{line_limit}
 use Rattle.zy_frame.specs.Line.{Ended, first_line, chomped}
 
@@ -62,6 +64,12 @@ pub record IsFrame (kind : FrameKind) : Type 0 where
   pub text : List ℕ
   pub is_text : IsFrameText text
   pub of_text : kind ≡ frame_of text
+
+-- this was read of the line of a frame, if the frame has its line and any block of it
+abbrev pub IsParsedIn : FrameKind → Parsed → Type 0
+IsParsedIn (Line line) parsed = IsParsed line parsed
+IsParsedIn (Block line block) parsed = IsParsed line parsed
+IsParsedIn kind parsed = ⊤
 
 -- ---- commands
 

@@ -1,7 +1,7 @@
 -- How a framer's state is seen, and what a step from one to another does. No public clause cites
 -- this module.
 use Rattle.std.specs.Prelude.{◌≡◌, ℕ, ◌+◌, ◌<◌, ◌≤◌, ◌==◌, nat_lt, if◌then◌else◌, Bool, true, false, List, []}
-use Rattle.std.specs.Prelude.{◌∷◌, ◌++◌, length, drop, Option, option_to_list, Result, Ok, Err}
+use Rattle.std.specs.Prelude.{◌∷◌, ◌++◌, length, drop, Option, option_to_list, Result, Ok, Err, ⊤}
 use Rattle.zy_base.specs.Shard.{value_limit}
 use Rattle.mc_parse.specs.declared.need.Need.{Need}
 use Rattle.mc_parse.specs.declared.need.Need.TheVariants as Needs
@@ -10,7 +10,9 @@ use Rattle.zy_frame.specs.declared.frame_kind.FrameKind.{FrameKind}
 use Rattle.zy_frame.specs.declared.wanted.Wanted.{Wanted}
 use Rattle.zy_frame.specs.declared.state.State.{State}
 use Rattle.zy_frame.specs.declared.state.State.TheVariants.{Line, Long, Block, Large, Quit, Refused}
-use Rattle.zy_frame.specs.Line.{line_feed}
+use Rattle.mc_parse.specs.declared.parsed.Parsed.{Parsed}
+use Rattle.mc_parse.specs.Parsed.{IsParsed}
+use Rattle.zy_frame.specs.Line.{line_feed, chomped}
 use Rattle.zy_frame.specs.Progress.{Awaited, Progress, in_line, in_long_line, in_block, in_large_block, behind_quit}
 use Rattle.zy_frame.specs.Progress.{without_memory, Keeps, outcome_of, with_frames, goes_on, IsRefused}
 
@@ -51,6 +53,11 @@ abbrev pub after_block : State → State
 after_block (Block wanted block) = if wanted.left == 0 then Line [] else Block wanted block
 after_block (Large wanted) = if wanted.left == 0 then Line [] else Large wanted
 after_block state = state
+
+-- this was read of the line of a block that is to come and is kept
+abbrev pub IsParsedFor : State → Parsed → Type 0
+IsParsedFor (Block wanted block) parsed = IsParsed (chomped wanted.line) parsed
+IsParsedFor state parsed = ⊤
 
 -- ---- steps
 

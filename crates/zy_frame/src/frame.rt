@@ -2,6 +2,7 @@
 ghost use Rattle.std.specs.Prelude.{◌≡◌, IfOk};
 
 use crate::frame_kind::FrameKind;
+use mc_parse::Parsed;
 use std::alloc::Global;
 use std::marker::Model;
 use zy_base::{Blob, NoMemory};
@@ -10,17 +11,19 @@ use zy_base::{Blob, NoMemory};
 #[derive(Drop)]
 pub struct Frame {
     pub kind: FrameKind,
+    // What was read of its line.
+    pub(crate) parsed: Parsed,
 }
 
 impl Model for Frame {
     ghost use Rattle.zy_frame.specs.declared.frame_kind.FrameKind.{FrameKind};
-    ghost use Rattle.zy_frame.specs.Frame.{IsFrame};
+    ghost use Rattle.zy_frame.specs.Frame.{IsFrame, IsParsedIn};
 
     ghost Value = { FrameKind };
 
     ghost view = { λ frame. frame.kind };
 
-    ghost invariant = { λ frame. IsFrame frame.kind };
+    ghost invariant = { λ frame. IsFrame frame.kind × IsParsedIn frame.kind frame.parsed };
 }
 
 impl Frame {
@@ -29,6 +32,9 @@ impl Frame {
         ensures value { IfOk result (λ copy. copy ≡ self.now) }
     {
         let kind = self.kind.copy()?;
-        Ok(Frame { kind })
+        Ok(Frame {
+            kind,
+            parsed: self.parsed,
+        })
     }
 }

@@ -4,7 +4,7 @@ ghost use Rattle.zy_frame.specs.Frame.{command_of};
 
 use crate::frame::Frame;
 use crate::frame_kind::FrameKind;
-use mc_parse::{Command, ErrorLine, parse_block, parse_large, parse_line};
+use mc_parse::{Command, ErrorLine, parse_large, parse_read, parse_read_block};
 use std::alloc::Global;
 use zy_base::NoMemory;
 
@@ -13,8 +13,9 @@ pub fn meaning(alloc: Global, frame: Frame) -> Result<Command, (Frame, NoMemory)
     ensures value { IfOk result (λ command. command ≡ command_of frame) }
     ensures returned { IfErr result (λ e. e.0 ≡ frame) }
 {
-    match frame.kind {
-        FrameKind::Line { line } => match parse_line(alloc, line.bytes()) {
+    let Frame { kind, parsed } = frame;
+    match kind {
+        FrameKind::Line { line } => match parse_read(alloc, line.bytes(), &parsed) {
             Ok(command) => {
                 drop(line);
                 Ok(command)
@@ -22,11 +23,17 @@ pub fn meaning(alloc: Global, frame: Frame) -> Result<Command, (Frame, NoMemory)
             Err(e) => Err((
                 Frame {
                     kind: FrameKind::Line { line },
+                    parsed,
                 },
                 e,
             )),
         },
-        FrameKind::Block { line, block } => match parse_block(alloc, line.bytes(), block) {
+        FrameKind::Block { line, block } => match parse_read_block(
+            alloc,
+            line.bytes(),
+            &parsed,
+            block,
+        ) {
             Ok(command) => {
                 drop(line);
                 Ok(command)
@@ -34,6 +41,7 @@ pub fn meaning(alloc: Global, frame: Frame) -> Result<Command, (Frame, NoMemory)
             Err((block, e)) => Err((
                 Frame {
                     kind: FrameKind::Block { line, block },
+                    parsed,
                 },
                 e,
             )),

@@ -8,6 +8,7 @@ ghost use Rattle.zy_frame.specs.Steps.{Advances};
 use crate::frames::Frames;
 use crate::state::{State, put};
 use crate::stepping::step;
+use mc_parse::Parsed;
 use std::alloc::Global;
 use std::marker::Model;
 use zy_base::{Blob, NoMemory};
@@ -18,17 +19,19 @@ use zy_base::{Blob, NoMemory};
 pub struct Framer {
     alloc: Global,
     state: State,
+    // What was read of the line of the block that is to come, if it is kept.
+    parsed: Parsed,
 }
 
 impl Model for Framer {
     ghost use Rattle.zy_frame.specs.Progress.{Progress, Keeps};
-    ghost use Rattle.zy_frame.specs.Steps.{progress_of};
+    ghost use Rattle.zy_frame.specs.Steps.{progress_of, IsParsedFor};
 
     ghost Value = { Progress };
 
     ghost view = { λ framer. progress_of framer.state };
 
-    ghost invariant = { λ framer. Keeps (progress_of framer.state) };
+    ghost invariant = { λ framer. Keeps (progress_of framer.state) × IsParsedFor framer.state framer.parsed };
 }
 
 impl Framer {
@@ -42,6 +45,7 @@ impl Framer {
             state: State::Line {
                 kept: Blob::new(alloc),
             },
+            parsed: Parsed::nothing(),
         }
     }
 
@@ -88,7 +92,7 @@ impl Framer {
         requires some { 0 < length bytes.now }
         ensures value { Advances self.old self.new frames.old frames.new bytes.now result }
     {
-        match step(self.alloc, &mut self.state, bytes, frames) {
+        match step(self.alloc, &mut self.state, &mut self.parsed, bytes, frames) {
             Ok(taken) => Ok(taken),
             Err(e) => {
                 put(&mut self.state, State::Refused);

@@ -1,21 +1,27 @@
 //! Queues of frames.
 ghost use Rattle.std.specs.Prelude.{◌≡◌, [], ◌∷◌, ◌++◌, OnOk, OnErr};
-ghost use Rattle.zy_frame.specs.Frame.{IsFrame};
+ghost use Rattle.zy_frame.specs.Frame.{IsFrame, IsParsedIn};
 
 use crate::frame::Frame;
 use crate::frame_kind::FrameKind;
+use mc_parse::Parsed;
 use zy_base::{NoMemory, Queue};
 
 /// A queue of frames. Contracts see it as the list of its frames, the first one to come first.
 pub type Frames = Queue<Frame>;
 
-// Puts a frame at the end; after a refusal nothing has changed.
-pub(crate) fn append(frames: &mut Frames, kind: FrameKind) -> Result<(), NoMemory>
+// Puts a frame at the end of whose line this was read; after a refusal nothing has changed.
+#[inline(always)]
+pub(crate) fn append(frames: &mut Frames, kind: FrameKind, parsed: &Parsed) -> Result<(), NoMemory>
     requires frame { IsFrame kind }
+    requires parsed { IsParsedIn kind parsed.now }
     ensures ok { OnOk result (frames.new ≡ frames.old ++ kind ∷ []) }
     ensures err { OnErr result (frames.new ≡ frames.old) }
 {
-    match frames.push(Frame { kind }) {
+    match frames.push(Frame {
+        kind,
+        parsed: *parsed,
+    }) {
         Ok(()) => Ok(()),
         Err((frame, e)) => {
             drop(frame);

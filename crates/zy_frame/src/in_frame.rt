@@ -2,12 +2,15 @@
 ghost use Rattle.std.specs.Prelude.{◌≡◌, ◌<◌, ◌++◌, length, IfOk, OnOk, OnErr};
 ghost use Rattle.zy_frame.specs.declared.state.State.TheVariants.{Block, Large};
 ghost use Rattle.zy_frame.specs.Progress.{IsKeptBlock, IsLargeBlock};
-ghost use Rattle.zy_frame.specs.Steps.{awaited, after_block, Moves};
+ghost use Rattle.mc_parse.specs.Parsed.{IsParsed};
+ghost use Rattle.zy_frame.specs.Line.{chomped};
+ghost use Rattle.zy_frame.specs.Steps.{awaited, after_block, IsParsedFor, Moves};
 
 use crate::frame_kind::FrameKind;
 use crate::frames::{Frames, append};
 use crate::line_end::chomp_kept;
 use crate::wanted::Wanted;
+use mc_parse::Parsed;
 use std::alloc::Global;
 use std::mem;
 use zy_base::{Blob, NoMemory};
@@ -20,13 +23,16 @@ pub(crate) fn take_block(
     alloc: Global,
     wanted: &mut Wanted,
     block: &mut Blob,
+    parsed: &Parsed,
     bytes: &[u8],
     frames: &mut Frames,
 ) -> Result<usize, NoMemory>
     requires keeps { IsKeptBlock (awaited wanted.old) block.old }
+    requires parsed { IsParsed (chomped wanted.old.line) parsed.now }
     requires some { 0 < length bytes.now }
     ensures value { IfOk result (λ taken. Moves (Block wanted.old block.old)
         (after_block (Block wanted.new block.new)) frames.old frames.new bytes.now taken) }
+    ensures parsed { IfOk result (λ taken. IsParsedFor (after_block (Block wanted.new block.new)) parsed.now) }
     ensures err { OnErr result (frames.new ≡ frames.old) }
 {
     let left = wanted.left;
@@ -39,7 +45,7 @@ pub(crate) fn take_block(
     wanted.left = 0;
     let line = chomp_kept(mem::replace(&mut wanted.line, Blob::new(alloc)));
     let block = mem::replace(block, Blob::new(alloc));
-    append(frames, FrameKind::Block { line, block })?;
+    append(frames, FrameKind::Block { line, block }, parsed)?;
     Ok(left)
 }
 
@@ -75,6 +81,6 @@ pub(crate) fn pass_block(
     }
     wanted.left = 0;
     let line = chomp_kept(mem::replace(&mut wanted.line, Blob::new(alloc)));
-    append(frames, FrameKind::Large { line })?;
+    append(frames, FrameKind::Large { line }, &Parsed::nothing())?;
     Ok(left)
 }

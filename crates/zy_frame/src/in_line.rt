@@ -2,12 +2,12 @@
 ghost use Rattle.std.specs.Prelude.{◌≡◌, ◌<◌, ◌++◌, None, [], length, IfOk, OnErr};
 ghost use Rattle.zy_frame.specs.declared.state.State.TheVariants.{Line};
 ghost use Rattle.zy_frame.specs.Line.{first_line, IsShort};
-ghost use Rattle.zy_frame.specs.Steps.{Goes, ClosesTo, after_line, grown_to};
+ghost use Rattle.zy_frame.specs.Steps.{Goes, ClosesTo, after_line, grown_to, IsParsedFor};
 
 use crate::frame_kind::FrameKind;
 use crate::frames::{Frames, append};
 use crate::line_end::{chomp, chomp_kept};
-use mc_parse::{Need, need_of};
+use mc_parse::{Need, Parsed, read_need};
 use std::alloc::Global;
 use std::mem;
 use zy_base::{Blob, LINE_LIMIT, NoMemory};
@@ -33,34 +33,42 @@ pub(crate) fn end_line(
     alloc: Global,
     kept: &mut Blob,
     bytes: &[u8],
+    parsed: &mut Parsed,
     frames: &mut Frames,
 ) -> Result<Need, NoMemory>
     requires short { IsShort kept.old }
     requires none { first_line bytes.now ≡ None }
     ensures value { IfOk result (λ need.
         ClosesTo (kept.old ++ bytes.now) (after_line need (Line kept.new)) frames.old frames.new) }
+    ensures parsed { IfOk result (λ need. IsParsedFor (after_line need (Line kept.new)) parsed.new) }
     ensures err { OnErr result (frames.new ≡ frames.old) }
 {
     if kept.bytes().len() + bytes.len() > LINE_LIMIT {
-        append(frames, FrameKind::Long)?;
+        append(frames, FrameKind::Long, &Parsed::nothing())?;
         kept.truncate(0);
         return Ok(Need::Nothing);
     }
     kept.append(bytes)?;
-    close_line(alloc, kept, frames)
+    close_line(alloc, kept, parsed, frames)
 }
 
 // The same for all bytes of a line that is not too long.
-fn close_line(alloc: Global, kept: &mut Blob, frames: &mut Frames) -> Result<Need, NoMemory>
+fn close_line(
+    alloc: Global,
+    kept: &mut Blob,
+    parsed: &mut Parsed,
+    frames: &mut Frames,
+) -> Result<Need, NoMemory>
     requires short { IsShort kept.old }
     ensures value { IfOk result (λ need.
         ClosesTo kept.old (after_line need (Line kept.new)) frames.old frames.new) }
+    ensures parsed { IfOk result (λ need. IsParsedFor (after_line need (Line kept.new)) parsed.new) }
     ensures err { OnErr result (frames.new ≡ frames.old) }
 {
-    match need_of(chomp(kept.bytes())) {
+    match read_need(chomp(kept.bytes()), parsed) {
         Need::Nothing => {
             let line = chomp_kept(mem::replace(kept, Blob::new(alloc)));
-            append(frames, FrameKind::Line { line })?;
+            append(frames, FrameKind::Line { line }, parsed)?;
             Ok(Need::Nothing)
         }
         need => Ok(need),

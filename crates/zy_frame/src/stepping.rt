@@ -1,7 +1,7 @@
 //! Steps in every state.
 ghost use Rattle.std.specs.Prelude.{◌≡◌, ◌<◌, length, IfOk, OnErr};
 ghost use Rattle.zy_frame.specs.Progress.{Keeps};
-ghost use Rattle.zy_frame.specs.Steps.{progress_of, Moves};
+ghost use Rattle.zy_frame.specs.Steps.{progress_of, IsParsedFor, Moves};
 
 use crate::frame_kind::FrameKind;
 use crate::frames::{Frames, append};
@@ -9,6 +9,7 @@ use crate::in_frame::{pass_block, take_block};
 use crate::in_line::{end_line, grow_line};
 use crate::line_end::line_end;
 use crate::state::{State, begin_line, end_block, put, take_line};
+use mc_parse::Parsed;
 use std::alloc::Global;
 use zy_base::NoMemory;
 
@@ -17,18 +18,21 @@ use zy_base::NoMemory;
 pub(crate) fn step(
     alloc: Global,
     state: &mut State,
+    parsed: &mut Parsed,
     bytes: &[u8],
     frames: &mut Frames,
 ) -> Result<usize, NoMemory>
     requires keeps { Keeps (progress_of state.old) }
+    requires parsed { IsParsedFor state.old parsed.old }
     requires some { 0 < length bytes.now }
     ensures value { IfOk result (λ taken. Moves state.old state.new frames.old frames.new bytes.now taken) }
+    ensures parsed { IfOk result (λ taken. IsParsedFor state.new parsed.new) }
     ensures err { OnErr result (frames.new ≡ frames.old) }
 {
     match state {
         State::Line { kept } => match line_end(bytes) {
             Some(at) => {
-                let need = end_line(alloc, kept, &bytes[..at], frames)?;
+                let need = end_line(alloc, kept, &bytes[..at], parsed, frames)?;
                 take_line(alloc, state, need);
                 Ok(at + 1)
             }
@@ -41,14 +45,14 @@ pub(crate) fn step(
         },
         State::Long => match line_end(bytes) {
             Some(at) => {
-                append(frames, FrameKind::Long)?;
+                append(frames, FrameKind::Long, &Parsed::nothing())?;
                 begin_line(alloc, state);
                 Ok(at + 1)
             }
             None => Ok(bytes.len()),
         },
         State::Block { wanted, block } => {
-            let taken = take_block(alloc, wanted, block, bytes, frames)?;
+            let taken = take_block(alloc, wanted, block, parsed, bytes, frames)?;
             end_block(alloc, state);
             Ok(taken)
         }

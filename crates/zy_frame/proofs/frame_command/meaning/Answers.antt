@@ -1,18 +1,18 @@
-use Rattle.std.proofs.Common.{arith, ap, length, subst, ◌∙◌}
+use Rattle.std.proofs.Common.{arith, ap, length, subst}
 use Rattle.zy_frame.proofs.FrameFits.{Fits, fits}
 use Rattle.zy_frame.proofs.frame_command.meaning.Goals as goal
 
-pub parse_line-requires-clause-within : goal.parse_line-requires-clause-within
-parse_line-requires-clause-within c =
-    let f = subst Fits c.in-Line.is (fits c.frame.inside.kind c.frame.invariant) in
-    omega (arith, f.0, ap length (c.bytes.ensures.value ∙ c.in-Line.line-is))
+pub parse_read-requires-clause-within : goal.parse_read-requires-clause-within
+parse_read-requires-clause-within c =
+    let f = subst Fits c.in-Line.is (fits c.frame.inside.kind c.frame.invariant.0) in
+    omega (arith, f.0, ap length c.bytes.ensures.value)
 
-pub parse_block-requires-clause-within : goal.parse_block-requires-clause-within
-parse_block-requires-clause-within c =
-    let f = subst Fits c.in-Block.is (fits c.frame.inside.kind c.frame.invariant) in
-    omega (arith, f.0, ap length (c.bytes-in-Block.ensures.value ∙ c.in-Block.line-is))
+pub parse_read_block-requires-clause-within : goal.parse_read_block-requires-clause-within
+parse_read_block-requires-clause-within c =
+    let f = subst Fits c.in-Block.is (fits c.frame.inside.kind c.frame.invariant.0) in
+    omega (arith, f.0, ap length c.bytes-in-Block.ensures.value)
 
 pub parse_large-command-requires-clause-within : goal.parse_large-command-requires-clause-within
 parse_large-command-requires-clause-within c =
-    let f = subst Fits c.in-Large.is (fits c.frame.inside.kind c.frame.invariant) in
-    omega (arith, f.0, ap length (c.bytes-in-Large.ensures.value ∙ c.in-Large.line-is))
+    let f = subst Fits c.in-Large.is (fits c.frame.inside.kind c.frame.invariant.0) in
+    omega (arith, f.0, ap length c.bytes-in-Large.ensures.value)

@@ -14,6 +14,7 @@ append-requires c =
     record {
       frame = rw (c.chomp_kept-line.ensures.value ∙ ap chomped c.replace.ensures.value)
           (is_large_frame c.args.wanted.now.line c.args.wanted.now.size keeps.awaits.short keeps.awaits.sized keeps.large);
+      parsed = tt;
     }
 
 pub returns-clause-value : goal.returns-clause-value

@@ -9,14 +9,12 @@ returns-then-bytes-left-clause-value c =
     rw c.in_ok-grow_block.ensures.ok (block_moves c.args.wanted.now.line c.args.block.now c.args.bytes.now c.args.wanted.now.size c.args.wanted.now.left c.args.frames.now
     c.requires.keeps c.requires.some c.if-bytes-left.true)
 
-pub append-requires-2 : goal.append-requires-2
-append-requires-2 c =
+pub append-requires-2-clause-frame : goal.append-requires-2-clause-frame
+append-requires-2-clause-frame c =
     let keeps = c.requires.keeps in
-    record {
-      frame = rw (c.chomp_kept-line.ensures.value ∙ ap chomped c.replace.ensures.value, c.replace-block.ensures.value ∙ c.in_ok-append.ensures.ok)
-          (is_block_frame c.args.wanted.now.line _ c.args.wanted.now.size keeps.awaits.short keeps.awaits.sized keeps.small
-          (block_length c.args.wanted.now.line c.args.block.now c.args.bytes.now c.args.wanted.now.size c.args.wanted.now.left keeps c.if-bytes-left.false));
-    }
+    rw (c.chomp_kept-line.ensures.value ∙ ap chomped c.replace.ensures.value, c.replace-block.ensures.value ∙ c.in_ok-append.ensures.ok)
+    (is_block_frame c.args.wanted.now.line _ c.args.wanted.now.size keeps.awaits.short keeps.awaits.sized keeps.small
+    (block_length c.args.wanted.now.line c.args.block.now c.args.bytes.now c.args.wanted.now.size c.args.wanted.now.left keeps c.if-bytes-left.false))
 
 pub returns-clause-value : goal.returns-clause-value
 returns-clause-value c =

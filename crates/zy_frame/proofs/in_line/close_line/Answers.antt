@@ -6,26 +6,24 @@ use Rattle.zy_frame.proofs.GoingOn.{is_line_frame}
 use Rattle.zy_frame.proofs.StepLemmas.{line_frame, closes_other}
 use Rattle.zy_frame.proofs.in_line.close_line.Goals as goal
 
-pub need_of-requires : goal.need_of-requires
-need_of-requires c =
+pub read_need-requires : goal.read_need-requires
+read_need-requires c =
     let same = c.chomp.ensures.value ∙ ap chomped c.bytes.ensures.value in
     record { within = omega (arith, ap length same, length-chomped c.args.kept.now, c.requires.short.short) }
 
-pub append-requires : goal.append-requires
-append-requires c =
+pub append-requires-clause-frame : goal.append-requires-clause-frame
+append-requires-clause-frame c =
     let same = c.chomp.ensures.value ∙ ap chomped c.bytes.ensures.value in
-    record {
-      frame = rw (c.chomp_kept-line.ensures.value ∙ ap chomped c.replace.ensures.value)
-          (is_line_frame c.args.kept.now c.requires.short (ap need (sym same) ∙ sym c.need_of.ensures.value ∙ c.in-Nothing.is));
-    }
+    rw (c.chomp_kept-line.ensures.value ∙ ap chomped c.replace.ensures.value)
+    (is_line_frame c.args.kept.now c.requires.short (ap need (sym same) ∙ sym c.read_need.ensures.value ∙ c.in-Nothing.is))
 
 pub returns-in_ok-append-in-Nothing-clause-value : goal.returns-in_ok-append-in-Nothing-clause-value
 returns-in_ok-append-in-Nothing-clause-value c =
     let same = c.chomp.ensures.value ∙ ap chomped c.bytes.ensures.value in
-    line_frame c.args.kept.now c.chomp_kept-line.result c.replace.new.dest c.args.frames.now c.append.new.frames c.requires.short (ap need (sym same) ∙ sym c.need_of.ensures.value ∙ c.in-Nothing.is)
+    line_frame c.args.kept.now c.chomp_kept-line.result c.replace.new.dest c.args.frames.now c.append.new.frames c.requires.short (ap need (sym same) ∙ sym c.read_need.ensures.value ∙ c.in-Nothing.is)
     (c.chomp_kept-line.ensures.value ∙ ap chomped c.replace.ensures.value) (c.replace.ensures.after ∙ c.new.ensures.value) c.in_ok-append-in-Nothing.ensures.ok
 
-pub returns-in_default : goal.returns-in_default
-returns-in_default c =
+pub returns-in_default-clause-value : goal.returns-in_default-clause-value
+returns-in_default-clause-value c =
     let same = c.chomp.ensures.value ∙ ap chomped c.bytes.ensures.value in
-    record { value = closes_other c.args.kept.now c.need_of.result c.args.frames.now c.requires.short (ap need (sym same) ∙ sym c.need_of.ensures.value) c.in_default.not-Nothing; err = tt }
+    closes_other c.args.kept.now c.read_need.result c.args.frames.now c.requires.short (ap need (sym same) ∙ sym c.read_need.ensures.value) c.in_default.not-Nothing

@@ -4,7 +4,7 @@ use Rattle.zy_frame.proofs.GoingOn.{is_long_frame}
 use Rattle.zy_frame.proofs.in_line.end_line.Goals as goal
 
 pub append-requires : goal.append-requires
-append-requires c = record { frame = is_long_frame }
+append-requires c = record { frame = is_long_frame; parsed = tt }
 
 pub returns-then-bytes-gt-LINE_LIMIT-clause-value : goal.returns-then-bytes-gt-LINE_LIMIT-clause-value
 returns-then-bytes-gt-LINE_LIMIT-clause-value c =

@@ -13,7 +13,7 @@ returns-in_ok-need-in-Some-clause-value c =
 
 -- in a line that is too long
 pub append-requires : goal.append-requires
-append-requires c = record { frame = is_long_frame }
+append-requires c = record { frame = is_long_frame; parsed = tt }
 
 pub returns-in_ok-append-in-Some-line_end-clause-value : goal.returns-in_ok-append-in-Some-line_end-clause-value
 returns-in_ok-append-in-Some-line_end-clause-value c =

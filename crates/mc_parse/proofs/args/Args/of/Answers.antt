@@ -15,15 +15,15 @@ one_more held count word more all within is =
     ∙ append_assoc (texts (take count held)) (word.now ∷ []) more
     ∙ is
 
--- a word after six words
-too_many : (held : List (Bor (List ℕ))) (count : ℕ) (word : List ℕ) (more all : List (List ℕ)) → 6 ≤ count → count ≤ length held
-    → texts (take count held) ++ word ∷ more ≡ all → 6 < length all
-too_many held count word more all six within is =
+-- a word after three words
+too_many : (held : List (Bor (List ℕ))) (count : ℕ) (word : List ℕ) (more all : List (List ℕ)) → 3 ≤ count → count ≤ length held
+    → texts (take count held) ++ word ∷ more ≡ all → 3 < length all
+too_many held count word more all some within is =
     let size = ap (λ (words : List (List ℕ)). length words) is in
     omega (arith, size, length-append (texts (take count held)) (word ∷ more), length-map (take count held) (λ (w : Bor (List ℕ)). w.now), length-take-le count held within)
 
-pub returns-then-count-ge6-clause-value : goal.returns-then-count-ge6-clause-value
-returns-then-count-ge6-clause-value c =
+pub returns-then-count-ge3-clause-value : goal.returns-then-count-ge3-clause-value
+returns-then-count-ge3-clause-value c =
     too_many c.loop-split.words c.loop-split.count c.in-Some.split.word.now (words c.in-Some.split.rest.now) (words c.args.text.now) (omega arith) (omega arith)
     (ap (λ (more : List (List ℕ)). texts (take c.loop-split.count c.loop-split.words) ++ more) (sym c.in-Some.ensures.found) ∙ c.loop-split.invariant.2)
 

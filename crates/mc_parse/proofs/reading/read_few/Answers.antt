@@ -11,7 +11,7 @@ use Rattle.mc_parse.specs.Name.{arity_of}
 use Rattle.mc_parse.specs.Arity.{Following, has_count, lacks_noreply, asks_silence}
 use Rattle.mc_parse.specs.Form.{find, form_with, form_after}
 use Rattle.mc_parse.proofs.ArityLemmas.{both, but_last-take, follows_by}
-use Rattle.mc_parse.proofs.reading.read_after.Goals as goal
+use Rattle.mc_parse.proofs.reading.read_few.Goals as goal
 
 -- with noreply after them, the words but the last follow the name quietly
 says_silently : (name : Name) (held : List (Bor (List ℕ))) (all : List (List ℕ)) → texts held ≡ all → asks_silence (arity_of name) (texts held) ≡ true

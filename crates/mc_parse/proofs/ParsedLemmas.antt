@@ -1,0 +1,27 @@
+-- What was read of a line, by its need.
+use Rattle.std.proofs.Common.{◌≡◌, ℕ, List}
+use Rattle.std.specs.Prelude.{Option, None, Some, MatchOption}
+use Rattle.mc_parse.specs.declared.error_line.ErrorLine.TheVariants.{Unknown}
+use Rattle.mc_parse.specs.declared.name.Name.TheVariants as Names
+use Rattle.mc_parse.specs.declared.need.Need.{Need}
+use Rattle.mc_parse.specs.declared.need.Need.TheVariants.{Nothing, Block, Quit}
+use Rattle.mc_parse.specs.declared.parsed.Parsed.{Parsed}
+use Rattle.mc_parse.specs.Arity.{Following, following_of, no_more}
+use Rattle.mc_parse.specs.Form.{find, form_with, form_after}
+use Rattle.mc_parse.specs.Need.{need_for}
+use Rattle.mc_parse.specs.Parsed.{IsParsedBy, IsUnnamed, IsNamed}
+
+-- a line without a name was read, whatever it needs
+pub unnamed_parsed : (what : Need) (line : List ℕ) (parsed : Parsed) → parsed.name ≡ None → IsUnnamed line → IsParsedBy what line parsed
+unnamed_parsed Nothing line parsed none is = rw none is
+unnamed_parsed (Block bytes) line parsed none is = rw none is
+unnamed_parsed Quit line parsed none is = tt
+
+-- so was one with the name quit, which needs no block
+pub quit_parsed : (words : List (List ℕ)) (line : List ℕ) (parsed : Parsed) → MatchOption parsed.name (IsUnnamed line) (IsNamed line parsed)
+    → IsParsedBy (need_for (form_after Names.Quit words)) line parsed
+quit_parsed words line parsed is = go (following_of no_more words)
+  where
+    go : (following : Option Following) → IsParsedBy (need_for (find following Unknown (form_with Names.Quit))) line parsed
+    go None = is
+    go (Some following) = tt
