@@ -8,8 +8,8 @@ from meaning import FORMS
 from model import bucket_of, shard_of
 
 KEYS = [b"a", b"b", b"c", b"k" * 250]
-# the commands with one key and no block
-KEYED = [verb for verb, form in FORMS.items() if form.startswith("key ") and "bytes" not in form]
+# the commands with a key and a number
+COUNTING = [verb.encode() for verb, form in FORMS.items() if form == "key amount [noreply]"]
 # lines without a call, faulty ones, and lines at the edges of the profile
 LINES = """
 version; version 1; verbosity 1; verbosity 4294967295 noreply; verbosity 4294967296; verbosity noreply; verbosity
@@ -56,19 +56,8 @@ def meta(draw, shards, keys):
     return b" ".join(words) + b"\r\n" + (value + end if name == b"ms" else b"")
 
 
-def keyed(draw, key):
-    """A line of a command with one key and no block, by the table of the model; now and then one of its words is wrong."""
-    verb = draw.choice(KEYED)
-    words = [verb.encode()]
-    for name in FORMS[verb].split():
-        word = {"key": key, "[noreply]": b"noreply", "[zero]": b"0"}.get(name, b"%d" % draw.randrange(20))
-        if "[" not in name or draw.randrange(3) == 0:
-            words.append(b"z" if draw.randrange(30) == 0 else word)
-    return b" ".join(words) + b"\r\n"
-
-
 def request(draw, shards, keys):
-    key, kind = draw.choice(keys), draw.randrange(14)
+    key, quiet, kind = draw.choice(keys), draw.choice((b"", b"", b" noreply")), draw.randrange(14)
     if kind < 4:
         return storage(draw, shards, keys)
     if kind > 9:
@@ -76,7 +65,9 @@ def request(draw, shards, keys):
     if kind < 7:
         asked = [draw.choice(keys) for _ in range(draw.randrange(1, 4))]
         return b" ".join([draw.choice((b"get", b"gets")), *asked]) + b"\r\n"
-    return keyed(draw, key) if kind < 9 else draw.choice(OTHERS)
+    if kind == 7:
+        return b"%s %s %d%s\r\n" % (draw.choice(COUNTING), key, draw.randrange(20), quiet)
+    return b"delete %s%s\r\n" % (key, quiet) if kind == 8 else draw.choice(OTHERS)
 
 
 def drawn_capture(draw, shards, keys=KEYS, first=()):

@@ -12,7 +12,8 @@ use Rattle.zy_base.specs.declared.call_reply.CallReply.{CallReply}
 use Rattle.zy_base.specs.declared.tallied.Tallied.{Tallied}
 use Rattle.zy_base.specs.declared.call_reply.CallReply.TheVariants.{Miss, Hit, Stored, NotStored, Exists, NotFound}
 use Rattle.zy_base.specs.declared.call_reply.CallReply.TheVariants.{Deleted, Number, NotNumber, TooLarge, Flushed, Tally}
-use Rattle.zy_base.specs.Table.{CallParts, parts_of, key_part, flags_part, number_part, value_part, Act, says, shows, puts, appends, prepends, exchanges, counts_up, counts_down, takes, clears, tallies}
+use Rattle.zy_base.specs.Table.{CallParts, parts_of, key_part, flags_part, number_part, value_part, Act, says, shows, puts}
+use Rattle.zy_base.specs.Table.{appends, prepends, exchanges, counts_up, counts_down, takes, clears, tallies}
 use Rattle.zy_base.specs.Table.{Acts, always, by_item}
 use Rattle.zy_base.specs.Call.{key_of}
 use Rattle.zy_base.specs.Code.{tally, call_row, reply_code}
