@@ -3,3 +3,4 @@ pub mod Drive
 pub mod Deal
 pub mod Group
 pub mod Seat
+pub mod Same

@@ -4,6 +4,7 @@ ghost use Rattle.zy_core.specs.Core.{Fits, identity_of};
 ghost use Rattle.zy_core.specs.Cores.{identities, AreCores, AreInlets, EachFits, EachSettled};
 ghost use Rattle.zy_drive.specs.Drive.{returned_cores, IsSettledRun, IsBrokenRun};
 ghost use Rattle.zy_rx.specs.Feed.{rings_of};
+ghost use Rattle.zy_drive.specs.Same.{SameCore, SameCores};
 
 mod draws;
 
@@ -73,7 +74,7 @@ fn round<F: Feeder, G: Gate>(
     requires few { vec_len cores.old ≤ 64 }
     requires fits { EachFits shared.now (identities cores.old.items) }
     requires inlets { AreInlets (rings_of (F.inlets feeder.old)) (identities cores.old.items) }
-    ensures same { identities cores.new.items ≡ identities cores.old.items }
+    ensures same { SameCores cores.old.items cores.new.items }
     ensures ended { (F.ended feeder.new ↔ F.ended feeder.old) × (F.broken feeder.new ↔ F.broken feeder.old) }
     ensures leads { F.leads feeder.old feeder.new }
     ensures rings { rings_of (F.inlets feeder.new) ≡ rings_of (F.inlets feeder.old) }
@@ -97,7 +98,7 @@ fn meet_and_turn<F: Feeder, G: Gate>(
 ) -> Result<(), NoMemory>
     requires fits { Fits shared.now (identity_of core.old) }
     requires inlet { slice_get (rings_of (F.inlets feeder.old)) core.old.home.core ≡ Some core.old.outlet.ring }
-    ensures same { identity_of core.new ≡ identity_of core.old }
+    ensures same { SameCore core.old core.new }
     ensures ended { (F.ended feeder.new ↔ F.ended feeder.old) × (F.broken feeder.new ↔ F.broken feeder.old) }
     ensures leads { F.leads feeder.old feeder.new }
     ensures rings { rings_of (F.inlets feeder.new) ≡ rings_of (F.inlets feeder.old) }

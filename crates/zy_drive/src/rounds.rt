@@ -2,6 +2,7 @@
 ghost use Rattle.std.specs.Prelude.{◌≡◌, ◌≢◌, true, IfOk};
 ghost use Rattle.zy_core.specs.Core.{Fits, identity_of};
 ghost use Rattle.zy_core.specs.Cores.{identities, EachFits, EachSettled};
+ghost use Rattle.zy_drive.specs.Same.{SameCore, SameCores};
 
 use crate::round::Round;
 use zy_base::{Gate, NoMemory};
@@ -19,7 +20,7 @@ pub(crate) fn turn_one<G: Gate>(
     looks: &mut Looks,
 ) -> Result<Round, NoMemory>
     requires fits { Fits shared.now (identity_of core.old) }
-    ensures same { identity_of core.new ≡ identity_of core.old }
+    ensures same { SameCore core.old core.new }
     ensures awake { IfOk result (λ round. round ≢ Round.Rested) }
 {
     if core.is_refused() {
@@ -40,7 +41,7 @@ pub(crate) fn turn_each<G: Gate>(
     looks: &mut Looks,
 ) -> Result<Round, NoMemory>
     requires fits { EachFits shared.now (identities cores.old.items) }
-    ensures same { identities cores.new.items ≡ identities cores.old.items }
+    ensures same { SameCores cores.old.items cores.new.items }
     ensures awake { IfOk result (λ round. round ≢ Round.Rested) }
 {
     let mut round = Round::Idle;
@@ -55,7 +56,7 @@ pub(crate) fn turn_each<G: Gate>(
 // Each core that is settled counts itself, once. Says whether one of them did so.
 pub(crate) fn note_each(cores: &mut Vec<Core>, shared: &Shared) -> bool
     requires fits { EachFits shared.now (identities cores.old.items) }
-    ensures same { identities cores.new.items ≡ identities cores.old.items }
+    ensures same { SameCores cores.old.items cores.new.items }
 {
     let mut counted = false;
     for i in 0..cores.len() {
@@ -69,7 +70,7 @@ pub(crate) fn note_each(cores: &mut Vec<Core>, shared: &Shared) -> bool
 // Whether each core finds that all cores are done. Then each of these is settled.
 pub(crate) fn all_done(cores: &mut Vec<Core>, shared: &Shared) -> bool
     requires fits { EachFits shared.now (identities cores.old.items) }
-    ensures same { identities cores.new.items ≡ identities cores.old.items }
+    ensures same { SameCores cores.old.items cores.new.items }
     ensures settled { result ≡ true → EachSettled cores.new.items }
 {
     for i in 0..cores.len() {

@@ -3,6 +3,7 @@ ghost use Rattle.std.specs.Prelude.{◌≡◌};
 ghost use Rattle.zy_core.specs.Core.{Fits, identity_of};
 ghost use Rattle.zy_core.specs.Cores.{identities, EachFits};
 ghost use Rattle.zy_drive.specs.Group.{IsAlone};
+ghost use Rattle.zy_drive.specs.Same.{SameCore, SameCores, SameBell};
 
 use crate::round::Round;
 use crate::rounds::TURN_LIMIT;
@@ -21,8 +22,8 @@ pub(crate) fn nap_first<R: Wait, G: Gate>(
     requires fits { EachFits driving.now.shared.now (identities cores.old.items) }
     requires alone { IsAlone pass.old.core (identities cores.old.items) }
     requires bells { pass.old.bells ≡ driving.now.bells.now }
-    ensures same { identities cores.new.items ≡ identities cores.old.items }
-    ensures pass { (pass.new.bells ≡ pass.old.bells) × (pass.new.core ≡ pass.old.core) }
+    ensures same { SameCores cores.old.items cores.new.items }
+    ensures pass { SameBell pass.old pass.new }
 {
     let core = &mut cores[0];
     nap_one(driving, core, pass)
@@ -37,8 +38,8 @@ fn nap_one<R: Wait, G: Gate>(
     requires fits { Fits driving.now.shared.now (identity_of core.old) }
     requires core { pass.old.core ≡ core.old.home.core }
     requires bells { pass.old.bells ≡ driving.now.bells.now }
-    ensures same { identity_of core.new ≡ identity_of core.old }
-    ensures pass { (pass.new.bells ≡ pass.old.bells) × (pass.new.core ≡ pass.old.core) }
+    ensures same { SameCore core.old core.new }
+    ensures pass { SameBell pass.old pass.new }
 {
     if core.is_refused() {
         return Err(NoMemory);
@@ -74,8 +75,8 @@ pub(crate) fn call_up_first<R, G>(
     requires fits { EachFits driving.now.shared.now (identities cores.old.items) }
     requires alone { IsAlone pass.old.core (identities cores.old.items) }
     requires bells { pass.old.bells ≡ driving.now.bells.now }
-    ensures same { identities cores.new.items ≡ identities cores.old.items }
-    ensures pass { (pass.new.bells ≡ pass.old.bells) × (pass.new.core ≡ pass.old.core) }
+    ensures same { SameCores cores.old.items cores.new.items }
+    ensures pass { SameBell pass.old pass.new }
 {
     let core = &mut cores[0];
     core.call_up(driving.shared, driving.bells, pass);

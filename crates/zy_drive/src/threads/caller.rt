@@ -25,7 +25,7 @@ impl<'a> Caller<'a> {
         Caller { watch, root, rings }
     }
 
-    // Loads sleepers, and rings each core whose bit is 1, if that is due and cores rest.
+    // Loads sleepers, and rings each core whose bit is 1, if `is_due` and cores rest.
     pub(crate) fn ring_if<R, G>(&mut self, is_due: bool, driving: &Driving<'_, R, G>)
         requires watch { self.old.watch.table ≡ driving.now.shared.now.control.id }
         requires bells { self.old.root.now.bells ≡ driving.now.bells.now }

@@ -2,7 +2,7 @@
 ghost use Rattle.std.specs.Prelude.{◌≡◌, ◌+◌, ◌<◌, ◌≤◌, ℕ, List, [], ◌∷◌, ◌++◌, length, vec_len, vec_capacity, IfSome, IfNone};
 ghost use Rattle.zy_drive.specs.Deal.{lists_of, Deals, gathered, TakesFirst, HasNoFirst, HaveRoom};
 
-// Takes the first of the first group, again and again, so often; that group goes to the end each time.
+// Takes the first of the first group, `count` times; that group goes to the end each time.
 pub(crate) fn collect<T: Drop>(groups: Vec<Vec<T>>, count: usize, back: &mut Vec<T>)
     requires room { vec_len back.old + count ≤ vec_capacity back.old }
     ensures value { back.new.items ≡ back.old.items ++ gathered count (lists_of groups.items) }

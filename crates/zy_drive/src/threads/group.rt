@@ -2,6 +2,7 @@
 ghost use Rattle.std.specs.Prelude.{◌≡◌, ◌≢◌, true, false, IfOk};
 ghost use Rattle.zy_core.specs.Cores.{identities, EachFits, EachSettled};
 ghost use Rattle.zy_drive.specs.Group.{grouped, IsAlone};
+ghost use Rattle.zy_drive.specs.Same.{SameCores, SameBell};
 
 use crate::round::Round;
 use crate::rounds::{all_done, have_all_blocks, note_each, turn_each};
@@ -62,7 +63,7 @@ impl Group {
         driving: &Driving<'_, R, G>,
     ) -> Result<Round, NoMemory>
         requires fits { EachFits driving.now.shared.now (identities self.old.cores) }
-        ensures same { identities self.new.cores ≡ identities self.old.cores }
+        ensures same { SameCores self.old.cores self.new.cores }
     {
         let round = self.turn(driving)?;
         self.look(driving.shared);
@@ -75,7 +76,7 @@ impl Group {
         driving: &Driving<'_, R, G>,
     ) -> Result<Round, NoMemory>
         requires fits { EachFits driving.now.shared.now (identities self.old.cores) }
-        ensures same { identities self.new.cores ≡ identities self.old.cores }
+        ensures same { SameCores self.old.cores self.new.cores }
         ensures awake { IfOk result (λ round. round ≢ Round.Rested) }
     {
         self.done = false;
@@ -98,8 +99,8 @@ impl Group {
         requires fits { EachFits driving.now.shared.now (identities self.old.cores) }
         requires alone { IsAlone pass.old.core (identities self.old.cores) }
         requires bells { pass.old.bells ≡ driving.now.bells.now }
-        ensures same { identities self.new.cores ≡ identities self.old.cores }
-        ensures pass { (pass.new.bells ≡ pass.old.bells) × (pass.new.core ≡ pass.old.core) }
+        ensures same { SameCores self.old.cores self.new.cores }
+        ensures pass { SameBell pass.old pass.new }
     {
         self.done = false;
         let round = nap_first(driving, &mut self.cores, pass)?;
@@ -112,8 +113,8 @@ impl Group {
         requires fits { EachFits driving.now.shared.now (identities self.old.cores) }
         requires alone { IsAlone pass.old.core (identities self.old.cores) }
         requires bells { pass.old.bells ≡ driving.now.bells.now }
-        ensures same { identities self.new.cores ≡ identities self.old.cores }
-        ensures pass { (pass.new.bells ≡ pass.old.bells) × (pass.new.core ≡ pass.old.core) }
+        ensures same { SameCores self.old.cores self.new.cores }
+        ensures pass { SameBell pass.old pass.new }
     {
         self.done = false;
         call_up_first(driving, &mut self.cores, pass);
@@ -122,7 +123,7 @@ impl Group {
     // Looks whether all cores are done.
     pub(crate) fn look(&mut self, shared: &Shared)
         requires fits { EachFits shared.now (identities self.old.cores) }
-        ensures same { identities self.new.cores ≡ identities self.old.cores }
+        ensures same { SameCores self.old.cores self.new.cores }
     {
         self.done = false;
         self.done = all_done(&mut self.cores, shared);

@@ -61,7 +61,7 @@ impl Patience {
     }
 }
 
-// Spins so many times.
+// Spins `times` times.
 fn spin_for(times: u32) {
     for _ in 0..times {
         hint::spin_loop();

@@ -2,6 +2,7 @@
 ghost use Rattle.std.specs.Prelude.{◌≡◌, ◌≤◌, IfOk, OnErr, Ok};
 ghost use Rattle.zy_core.specs.Cores.{identities, EachFits};
 ghost use Rattle.zy_drive.specs.Group.{IsAlone, CanRest, idle_after, resting_after};
+ghost use Rattle.zy_drive.specs.Same.{SameCores};
 
 use crate::round::Round;
 use crate::threads::driving::Driving;
@@ -29,7 +30,7 @@ impl Model for Rester {
 }
 
 impl Rester {
-    // A round of the group: a nap after so many turns that did not work, and else a turn. If others
+    // A round of the group: a nap after `rest` turns that did not work, and else a turn. If others
     // may have something to do since, the core calls them up.
     fn go_on<R: Wait, G: Gate>(
         &mut self,
@@ -39,7 +40,7 @@ impl Rester {
         requires fits { EachFits driving.now.shared.now (identities group.old.cores) }
         requires alone { IsAlone self.old.core (identities group.old.cores) }
         requires bells { self.old.bells ≡ driving.now.bells.now }
-        ensures same { identities group.new.cores ≡ identities group.old.cores }
+        ensures same { SameCores group.old.cores group.new.cores }
         ensures rested { result ≡ Ok Round.Rested → self.old.rest ≤ self.old.idle }
         ensures ok { IfOk result (λ round. self.new ≡ resting_after round self.old) }
         ensures err { OnErr result (self.new ≡ self.old) }
@@ -76,7 +77,7 @@ pub(crate) fn go_on<R: Wait, G: Gate>(
 ) -> Result<Round, NoMemory>
     requires fits { EachFits driving.now.shared.now (identities group.old.cores) }
     requires rests { CanRest driving.now.bells.now (identities group.old.cores) rester.old }
-    ensures same { identities group.new.cores ≡ identities group.old.cores }
+    ensures same { SameCores group.old.cores group.new.cores }
     ensures rests { CanRest driving.now.bells.now (identities group.old.cores) rester.new }
 {
     match rester {
@@ -93,7 +94,7 @@ pub(crate) fn call_up<R, G>(
 )
     requires fits { EachFits driving.now.shared.now (identities group.old.cores) }
     requires rests { CanRest driving.now.bells.now (identities group.old.cores) rester.old }
-    ensures same { identities group.new.cores ≡ identities group.old.cores }
+    ensures same { SameCores group.old.cores group.new.cores }
     ensures rests { CanRest driving.now.bells.now (identities group.old.cores) rester.new }
 {
     match rester {

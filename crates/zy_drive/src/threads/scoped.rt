@@ -3,6 +3,7 @@ ghost use Rattle.std.specs.Prelude.{◌≡◌, true};
 ghost use Rattle.zy_drive.specs.Group.{AllAt};
 ghost use Rattle.zy_drive.specs.Seat.{all_of_groups, AllFit, AllSettled};
 ghost use Rattle.zy_rx.specs.Feed.{rings_of};
+ghost use Rattle.zy_drive.specs.Same.{SameGroups};
 
 use crate::threads::caller::Caller;
 use crate::threads::driving::{Driving, FirstGroup};
@@ -42,7 +43,7 @@ pub(crate) fn in_scope<R: Threads + Wait + Sync, W: Feeder + Drop, G: Gate + Syn
     requires rests { AllAt driving.now.bells.now resters }
     requires bells { root.old.bells ≡ driving.now.bells.now }
     requires fresh { ¬ W.ended feeder × ¬ W.broken feeder }
-    ensures same { all_of_groups result.1.groups.items ≡ all_of_groups room.groups.items }
+    ensures same { SameGroups room.groups.items result.1.groups.items }
     ensures settled { result.1.is_done ≡ true → AllSettled result.1.groups.items }
     ensures ended { result.1.how ≡ How.Ended → W.ended result.0 }
     ensures broken { result.1.how ≡ How.Broken → W.broken result.0 }
@@ -56,7 +57,7 @@ pub(crate) fn in_scope<R: Threads + Wait + Sync, W: Feeder + Drop, G: Gate + Syn
             requires { AllFit driving.now.shared.now (all_of_groups room.groups.items)
                 × AllAt driving.now.bells.now resters
                 × (root.now.bells ≡ driving.now.bells.now) × (¬ W.ended feeder × ¬ W.broken feeder) }
-            ensures same { all_of_groups result.1.groups.items ≡ all_of_groups room.groups.items }
+            ensures same { SameGroups room.groups.items result.1.groups.items }
             ensures settled { result.1.is_done ≡ true → AllSettled result.1.groups.items }
             ensures ended { result.1.how ≡ How.Ended → W.ended result.0 }
             ensures broken { result.1.how ≡ How.Broken → W.broken result.0 }
@@ -85,7 +86,7 @@ fn run<'s, E, R: Threads + Wait + Sync, F: Feeder, G: Gate + Sync>(
     requires rests { AllAt driving.now.bells.now resters }
     requires bells { root.old.bells ≡ driving.now.bells.now }
     requires fresh { ¬ F.ended feeder.old × ¬ F.broken feeder.old }
-    ensures same { all_of_groups result.groups.items ≡ all_of_groups room.groups.items }
+    ensures same { SameGroups room.groups.items result.groups.items }
     ensures settled { result.is_done ≡ true → AllSettled result.groups.items }
     ensures ended { result.how ≡ How.Ended → F.ended feeder.new }
     ensures broken { result.how ≡ How.Broken → F.broken feeder.new }

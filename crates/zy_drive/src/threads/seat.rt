@@ -3,6 +3,7 @@ ghost use Rattle.std.specs.Prelude.{◌≡◌, ◌≤◌, true, length};
 ghost use Rattle.zy_core.specs.Cores.{identities, EachFits, EachSettled};
 ghost use Rattle.zy_drive.specs.Group.{CanRest};
 ghost use Rattle.zy_drive.specs.Seat.{seat_identities};
+ghost use Rattle.zy_drive.specs.Same.{SameCores};
 
 use crate::threads::driving::{Driving, FirstGroup};
 use crate::threads::group::Group;
@@ -82,7 +83,7 @@ fn start_group<'s, E, R: Wait + Sync, G: Gate + Sync>(
         move || -> Group
             requires { EachFits shared.now (identities group.cores) × CanRest bells.now (identities group.cores) rester
                 × (length bells.now ≡ length shared.now.rings) × (length bells.now ≤ 64) }
-            ensures same { identities result.cores ≡ identities group.cores }
+            ensures same { SameCores group.cores result.cores }
         {
             let driving = Driving::new(rt, shared, bells, gate, leave);
             drive_group(&driving, group, rester, bit)
@@ -105,7 +106,7 @@ fn drive_group<R: Wait, G: Gate>(
 ) -> Group
     requires fits { EachFits driving.now.shared.now (identities group.cores) }
     requires rests { CanRest driving.now.bells.now (identities group.cores) rester }
-    ensures same { identities result.cores ≡ identities group.cores }
+    ensures same { SameCores group.cores result.cores }
 {
     let mut group = group;
     let mut rester = rester;

@@ -3,6 +3,7 @@ ghost use Rattle.std.specs.Prelude.{◌≡◌, ◌+◌, ◌≤◌, ◌++◌, tru
 ghost use Rattle.zy_core.specs.Cores.{EachFits};
 ghost use Rattle.zy_drive.specs.Group.{AllAt};
 ghost use Rattle.zy_drive.specs.Seat.{seat_identities, all_of_seats, all_of_groups, AllFit, AllSettled};
+ghost use Rattle.zy_drive.specs.Same.{SameSeats};
 
 use crate::round::Round;
 use crate::threads::driving::{Driving, FirstGroup};
@@ -49,8 +50,7 @@ pub(crate) fn go_on_here<R, G: Gate>(
     seats: &mut Vec<Seat>,
 ) -> Result<Round, NoMemory>
     requires fits { AllFit driving.now.shared.now (all_of_seats seats.old.items) }
-    ensures same { all_of_seats seats.new.items ≡ all_of_seats seats.old.items }
-    ensures len { vec_len seats.new ≡ vec_len seats.old }
+    ensures same { SameSeats seats.old seats.new }
 {
     let mut all = Round::Idle;
     for i in 0..seats.len() {

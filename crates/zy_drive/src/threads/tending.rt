@@ -1,9 +1,10 @@
 //! What the caller does while threads drive the cores.
-ghost use Rattle.std.specs.Prelude.{◌≡◌, ◌≢◌, ◌↔◌, true, false, vec_len};
+ghost use Rattle.std.specs.Prelude.{◌≡◌, ◌≢◌, ◌↔◌, true, false};
 ghost use Rattle.zy_control.specs.Pass.{seeing_stop};
 ghost use Rattle.zy_drive.specs.Seat.{IfMade};
 ghost use Rattle.zy_drive.specs.Seat.{all_of_seats, AllFit};
 ghost use Rattle.zy_rx.specs.Feed.{rings_of};
+ghost use Rattle.zy_drive.specs.Same.{SameSeats};
 
 use crate::feeding::{Step, feed_once};
 use crate::round::Round;
@@ -17,8 +18,8 @@ use zy_base::{Gate, NoMemory};
 use zy_core::Shared;
 use zy_rx::Feeder;
 
-// How many items are offered in a row before the cores that are with the caller take a turn: as many
-// as a core receives in one.
+// How many items are offered in a row before the cores that are with the caller take a turn: the most
+// that a core receives in one.
 const ITEMS_A_TURN: u32 = 64;
 
 // How the caller's own loop ended.
@@ -56,8 +57,7 @@ pub(crate) fn tend<R: Wait, F: Feeder, G: Gate>(
     requires watch { caller.old.watch.table ≡ driving.now.shared.now.control.id }
     requires bells { caller.old.root.now.bells ≡ driving.now.bells.now }
     requires fresh { ¬ F.ended feeder.old × ¬ F.broken feeder.old }
-    ensures same { all_of_seats seats.new.items ≡ all_of_seats seats.old.items }
-    ensures len { vec_len seats.new ≡ vec_len seats.old }
+    ensures same { SameSeats seats.old seats.new }
     ensures watch { caller.new.watch.table ≡ caller.old.watch.table }
     ensures bells { caller.new.root.now.bells ≡ caller.old.root.now.bells }
     ensures ended { result ≡ How.Ended → F.ended feeder.new }
@@ -141,15 +141,14 @@ fn found(has_offered: bool, round: Round) -> Round {
     }
 }
 
-// A turn of each core that is with the caller, if that is due.
+// A turn of each core that is with the caller, if `is_due`.
 fn go_on_if<R, G: Gate>(
     is_due: bool,
     driving: &Driving<'_, R, G>,
     seats: &mut Vec<Seat>,
 ) -> Result<Round, NoMemory>
     requires fits { AllFit driving.now.shared.now (all_of_seats seats.old.items) }
-    ensures same { all_of_seats seats.new.items ≡ all_of_seats seats.old.items }
-    ensures len { vec_len seats.new ≡ vec_len seats.old }
+    ensures same { SameSeats seats.old seats.new }
 {
     if is_due {
         go_on_here(driving, seats)

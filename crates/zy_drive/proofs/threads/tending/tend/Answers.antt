@@ -11,8 +11,8 @@ loop-preserved g c =
     let inv = c.loop.invariant in (
       tt,
       tt,
-      c.go_on_if.ensures.same ∙ inv.2,
-      c.go_on_if.ensures.len ∙ inv.3,
+      c.go_on_if.ensures.same.0 ∙ inv.2,
+      c.go_on_if.ensures.same.1 ∙ inv.3,
       c.ring_if-in-loop.ensures.watch ∙ c.ring_if.ensures.watch ∙ ap (λ (h : Held). h.table) c.feed_next.ensures.watch ∙ inv.4,
       c.ring_if-in-loop.ensures.bells ∙ c.ring_if.ensures.bells ∙ c.feed_next.ensures.bells ∙ inv.5,
       g.met.F.Feeder.leads_on _ _ _ inv.6 c.feed_next.ensures.leads,
