@@ -10,9 +10,9 @@ class Callers:
     """Which connections call which keys, and which keys are stored at all."""
 
     def __init__(self, streams):
-        """Of streams by connection and session; `timed` are keys that get an exptime, `counted` those with a counter."""
+        """Of streams by connection and session; `counted` are keys with a counter."""
         self.of_key, self.second, self.stored, self.flush, self.connections = {}, {}, set(), None, set()
-        self.timed, self.counted, self.streams, self.values, self.joined = set(), set(), streams, None, set()
+        self.counted, self.streams, self.values, self.joined = set(), streams, None, set()
         number, last = 0, None
         for connection, session in sorted(streams):
             number, last = number if connection == last else 0, connection
@@ -21,7 +21,6 @@ class Callers:
                 if command.verb == "flush_all" and not self.flush:
                     self.flush = connection, number
                 self.stored.update(stored_by(command, frame))
-                self.timed.update(timed_by(command, frame))
                 if command.verb in COUNTING or command.verb == "fault" and frame.startswith(b"ma "):
                     self.counted.update(keys_of(command, line_of(frame)))
                 for key in command.keys:

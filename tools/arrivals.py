@@ -49,7 +49,7 @@ class Arrivals:
 
     def capture(self):
         """The bytes of the capture."""
-        records = [close(record.connection) if isinstance(record, Close) else segment(*record) for _, record in self.records()]
+        records = [close(*record) if isinstance(record, Close) else segment(*record) for _, record in self.records()]
         return b"".join([capture_start(self.count, self.version), *records, END])
 
     def sessions(self):

@@ -139,7 +139,8 @@ class Causes:
             found = found or [self.without_key(commands[0], exchange)]
         last = max((causes[-1] for causes in found), key=CAUSES.index)
         some = {cause for causes in found if causes[-1] == last for cause in causes}
-        return Blame(tuple(cause for cause in CAUSES if cause in some), next(filter(None, map(self.callers.order, commands)), None))
+        why = next(filter(None, map(self.callers.order, commands)), None)
+        return Blame(tuple(cause for cause in CAUSES if cause in some), why)
 
     def of_several(self, commands):
         """The cause where it is not known which of several commands was answered how."""

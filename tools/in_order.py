@@ -104,7 +104,8 @@ class InOrder:
         """A cause, with the times where commands that came at one time may be another one."""
         if cause not in (why.BEFORE, why.EXPIRY, why.LOST, why.SERVERS):
             return (cause,)
-        if shown and shown.values[0] is not None and key in self.callers.second and not self.callers.may_store(key, shown.values[0]):
+        value = shown.values[0] if shown and key in self.callers.second else None
+        if value is not None and not self.callers.may_store(key, value):
             return (why.BEFORE,)
         if not is_open and key not in self.unsure:
             return (cause,)

@@ -177,10 +177,11 @@ class Order:
         new = one.seen.after(key, last.item)
         if new is WRONG or new is UNKNOWN or last.seen.after(key, new) is WRONG:
             return False
-        is_shown = now is not UNKNOWN and self.wanted[wanted_of(key, now)] > 0
-        if one.seen.after(key, now) is not WRONG and not is_shown and not (one.seen.name == "set" and not self.wanted[wanted_of(key, new)]):
+        is_new_shown = self.wanted[wanted_of(key, new)] > 0
+        if new is not None and is_new_shown:
             return False
-        if new is not None and self.wanted[wanted_of(key, new)]:
+        is_shown = now is not UNKNOWN and self.wanted[wanted_of(key, now)] > 0
+        if one.seen.after(key, now) is not WRONG and not is_shown and (one.seen.name != "set" or is_new_shown):
             return False
         self.leave(one, last.place)
         self.places[last.place].insert(0, one.arrival)
@@ -192,16 +193,19 @@ class Order:
         [key] = one.keys
         waiting = self.waiting[key]
         shown = Counter(wanted_of(key, other.seen.items[key]) for other in waiting if other.seen.items)
-        for other in [other for other in waiting if other is not one and other.seen.name == "set" and not other.seen.is_reading
-                      and self.is_first(other)]:
+        for other in [other for other in self.changing(one, key) if other.seen.name == "set"]:
             item = wanted_of(key, other.seen.stored())
-            if item and other.seen.stored()[:2] != one.seen.stored()[:2] and 0 < shown[item] == self.wanted[item]:
+            if item and item != wanted_of(key, one.seen.stored()) and 0 < shown[item] == self.wanted[item]:
                 self.put(other)
+
+    def changing(self, one, key):
+        """The other commands that wait, may go now and change a key."""
+        return [other for other in self.waiting[key]
+                if other is not one and not other.seen.is_reading and self.is_first(other)]
 
     def path(self, one, key):
         """The fewest commands that wait after which one fits a key; none where none are found."""
-        others = [other for other in self.waiting[key] if other is not one and not other.seen.is_reading and self.is_first(other)]
-        found, tried = deque([(self.item(key), [])]), 0
+        others, found, tried = self.changing(one, key), deque([(self.item(key), [])]), 0
         while found and tried < TRIED:
             item, path = found.popleft()
             for other in others:
@@ -218,9 +222,8 @@ class Order:
     def other(self, arrival):
         """A command without a key goes where it came: a `flush_all` and one that zygos does not serve after all that wait
         for the keys that it may change."""
-        command = arrival.command
-        is_wide = command.verb == "flush_all"
-        keys = keys_of(command, line_of(arrival.frame)) if command.verb == "fault" and not arrival.frame.startswith(TOUCHING) else ()
+        command, line, is_wide = arrival.command, line_of(arrival.frame), arrival.command.verb == "flush_all"
+        keys = keys_of(command, line) if command.verb == "fault" and not line.startswith(TOUCHING) else ()
         for key in list(self.waiting) if is_wide else keys:
             while self.waiting.get(key):
                 self.force(self.waiting[key][0])
@@ -271,7 +274,7 @@ def judged(arrivals, answered, texts):
     try:
         judge = Judge(arrivals.capture(), outputs, loses=True, limit=LIMIT, has_reasons=False)
         judge.run()
-    except Verdict:
+    except (Verdict, ValueError):  # also numbers in answers that are none
         return None
     left, calls, order = {}, Counter(event.asked for event in judge.order), []
     for arrival, *_ in answered:

@@ -41,7 +41,8 @@ class Replay:
             if unique != command.numbers["unique"]:
                 command = command._replace(numbers={**command.numbers, "unique": unique})
                 frame = with_unique(frame, unique)
-        replies = [self.shards[shard].answer(call) for shard, call in calls(len(self.shards), command) if call.name != "tally"]
+        made = [one for one in calls(len(self.shards), command) if one[1].name != "tally"]
+        replies = [self.shards[shard].answer(call) for shard, call in made]
         for key, unique in shown(line_of(frame), recorded) if recorded else ():
             if (item := self.item(key)) and unique.isdigit():
                 self.names[key, int(unique)] = item.unique

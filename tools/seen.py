@@ -24,7 +24,8 @@ def shown(command, answer):
     found = dict.fromkeys(command.keys)
     if answer.startswith(b"VALUE "):
         for words, value in items(answer):
-            found[words[0]] = Item(int(words[1]), value, int(words[3]) if len(words) > 3 else None)
+            if len(words) > 2 and all(word.isdigit() for word in words[1:]):
+                found[words[0]] = Item(int(words[1]), value, int(words[3]) if len(words) > 3 else None)
     elif answer.startswith((b"HD", b"VA ")):
         at = line_end(answer, 0)
         marks = [word[1:] for word in words_of(answer[:at].removesuffix(b"\r\n")) if word[:1] == b"f" and word[1:].isdigit()]

@@ -171,7 +171,8 @@ class Steps:
         if one != other:
             return one != self.other.get(other_at + 1), other != self.one.get(one_at + 1)
         lines = self.lines(group_at)
-        return tuple(is_answered(lines, list(self.texts(side, at, len(lines)))) for side, at in ((self.one, one_at), (self.other, other_at)))
+        return tuple(is_answered(lines, list(self.texts(side, at, len(lines))))
+                     for side, at in ((self.one, one_at), (self.other, other_at)))
 
     def lines(self, at):
         """The lines of the next commands, up to one whose answers are not known one by one."""

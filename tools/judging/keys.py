@@ -26,7 +26,8 @@ class Keys:
     `unsure` nothing can be refused. Without `has_reasons` nothing is said of why there is no order.
     """
 
-    def __init__(self, events, shards, loses=False, is_warm=False, limit=200000, look=lambda: None, unsure=(), has_reasons=True):
+    def __init__(self, events, shards, loses=False, is_warm=False, limit=200000, look=lambda: None, unsure=(),
+                 has_reasons=True):
         self.unsure, self.has_reasons = set(unsure), has_reasons
         self.states, self.shards, self.is_warm, self.limit, self.look = States(True, loses), shards, is_warm, limit, look
         self.events, self.first, self.found, self.shard_of = {}, {}, {}, {}
