@@ -40,8 +40,8 @@ pub record RestTo (cores : ℕ) (before after : Cored) (nap : Nap) : Type 0 wher
   pub loaded : after ≡ stepped (seeing_stop stop (seeing_done done before.control)) turned
   pub is : nap ≡ nap_of cores (has_counted before.control.role) turn done stop
 
--- the core's pass at the bells after a nap: if it rested its token was taken, when it had made as many steps on the
--- control words as this pass has; and else it made no step
+-- the core's pass at the bells after a nap: if it rested its token was taken, after the steps on the control words
+-- that this pass has; and else it made no step
 abbrev pub bell_after : Held → Nap → bells.Passed → bells.Passed
 bell_after control (Awake turn) p = p
 bell_after control (Ending done stop) p = p

@@ -63,7 +63,7 @@ impl Blocks {
         None
     }
 
-    // At least as many as there are blocks.
+    // At least the number of blocks.
     pub(crate) fn room(&self) -> usize
         ensures value { length self.now ≤ result }
     {

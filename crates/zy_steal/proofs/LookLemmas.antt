@@ -40,7 +40,7 @@ where_false test core (x ∷ xs) zero is =
 where_false test core (x ∷ xs) (suc k) is =
     let next : core + suc k ≡ core + 1 + k = omega arith in where_false test (core + 1) xs k (sym (ap test next) ∙ is)
 
--- another core than this one, of so many others
+-- another core than this one, among `others` others
 abbrev pub is_other : ℕ → ℕ → ℕ → Bool
 is_other core others k = nat_lt k (others + 1) && not (k == core)
 

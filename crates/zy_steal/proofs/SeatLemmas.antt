@@ -26,7 +26,7 @@ module _ {T : Type 0} where
   seats-length [] = refl
   seats-length (x ∷ xs) = ap suc (seats-length xs)
 
-  -- there are as many passes
+  -- the number of passes is the same
   pub count_same : (vs ws : List (Held T)) → seats_of ws ≡ seats_of vs → length ws ≡ length vs
   count_same vs ws same = let a = ap length same in let b = seats-length vs in let c = seats-length ws in omega arith
 
