@@ -128,9 +128,8 @@ class Virtual:
     def run(self, cores, skewed, law, load, number, count, prices, samples=0):
         """What a run at this load of its cores counts, in percent."""
         gap = law.mean * 1000 / (cores * load / 100)
-        waits = WAITS if any(prices.values()) else (0, 0)
         words = [cores, int(skewed), law.shape, law.mean * 1000, gap * 1000, count, number, samples,
-                 *(prices[name] for name in counted.PARTS), *waits]
+                 *(prices[name] for name in counted.PARTS), *WAITS]
         found = counted.Counted()
         with open(law.written(self.room), "rb") as source:
             ran = subprocess.run([self.program, "virtual", *(str(round(word)) for word in words)], stdin=source,
