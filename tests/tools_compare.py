@@ -248,6 +248,10 @@ def shared_causes():
     caused("a touch of a shared key", [store + b"touch a 1\r\nmn\r\n", b"get a\r\n"], [b"STORED\r\nTOUCHED\r\nMN\r\n", b"END\r\n"],
            [b"STORED\r\nERROR\r\nMN\r\n", ITEM], "touch 1" + REFUSED,
            "get 1" + ORDER.format(both))
+    caused("a touch that both serve", [store + b"touch a 0\r\n", b"get a\r\n"], [b"STORED\r\nTOUCHED\r\n", ITEM],
+           [b"STORED\r\nNOT_FOUND\r\n", ITEM], "touch 1: may come of the order in which the server took commands that came at one time,"
+           f" or of the order in which connections are served, for {both}" + AFTER)
+    caused("one of a key of its own", [b"touch a 0\r\n"], [b"TOUCHED\r\n"], [b"NOT_FOUND\r\n"], "touch 1" + SERVERS)
     caused("a shared number that became shorter", [b"set a 0 0 3\r\n100\r\ndecr a 1\r\n", b"get a\r\n"],
            [b"STORED\r\n99\r\n", item_of(b"99 ")], [b"STORED\r\n99\r\n", item_of(b"99")], "get 1" + PADDED)
     caused("one of a connection, and what follows", [b"set a 0 0 3\r\n100\r\ndecr a 1\r\nget a\r\nappend a 0 0 1\r\nx\r\nget a\r\n"],

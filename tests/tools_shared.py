@@ -97,6 +97,10 @@ def connections():
     hit = b"VALUE a 0 1\r\nx\r\nEND\r\n"
     made = capture(2, [segment(1, b"get a\r\n"), segment(0, b"get a b\r\n")])
     same("the first one that came", {1: set_of(b"a", b"x")}, warmed(made, replies([hit, hit])))
+    made = capture(2, [segment(0, b"get a\r\n"), segment(1, b"set a 0 0 1\r\nx\r\n"), segment(1, b""), segment(0, b"")])
+    same("what was stored at one time", {}, warmed(made, replies([hit, b"STORED\r\n"])))
+    made = capture(2, [segment(0, b"get a\r\n"), segment(0, b""), segment(1, b"set a 0 0 1\r\nx\r\n"), segment(1, b"")])
+    same("what was stored later", {0: set_of(b"a", b"x")}, warmed(made, replies([hit, b"STORED\r\n"])))
     made = capture(1, [segment(0, b"get b\r\n"), close(0), segment(0, b"get a\r\n")], 2)
     same("a later session", {0: set_of(b"a", b"x")}, warmed(made, sessions([[b"END\r\n", hit]])))
     same("other traffic", "tools/warm: not of the same traffic: sent has 1 connections and 1 sessions, answered has 2 and 2\n",

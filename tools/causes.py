@@ -6,7 +6,7 @@ known of what zygos answers near the order of arrival (in_order.py).
 """
 from collections import namedtuple
 
-from answers import items, line_end, without_uniques
+from answers import FAULT, items, line_end, without_uniques
 from apart import TOUCHING, keys_of, stored_by, timed_by
 from meaning import framed, line_of
 
@@ -139,7 +139,8 @@ class Causes:
             found = found or [self.without_key(commands[0], exchange)]
         last = max((causes[-1] for causes in found), key=CAUSES.index)
         some = {cause for causes in found if causes[-1] == last for cause in causes}
-        why = next(filter(None, map(self.callers.order, commands)), None)
+        called = [command._replace(keys=keys_of(command, line)) for _, line, command in exchange.group]
+        why = next(filter(None, map(self.callers.order, called)), None)
         return Blame(tuple(cause for cause in CAUSES if cause in some), why)
 
     def of_several(self, commands):
@@ -171,9 +172,7 @@ class Causes:
         one, other = exchange.one[1] or b"", exchange.other[1] or b""
         [(number, line, command)] = exchange.group
         if command.verb == "fault":
-            for name in () if line.startswith(TOUCHING) else keys_of(command, line):
-                self.key(name).cause = REFUSED
-            return dict.fromkeys(keys_of(command, line), REFUSED)
+            return self.of_fault(command, line, (one, other))
         causes = {}
         for name, seen in self.seen(command, one, other).items():
             if self.callers.order(command):
@@ -181,6 +180,16 @@ class Causes:
             else:
                 causes[name] = self.key(name).cause = self.of_key(command, name, seen, (one, other))
         return causes
+
+    def of_fault(self, command, line, answers):
+        """The causes by key where zygos does not serve a line, or where two other servers do."""
+        names = keys_of(command, line)
+        if not any(map(FAULT.match, answers)):
+            is_shared = self.callers.order(command._replace(keys=names))
+            return dict.fromkeys(names, (TIMES, ORDER) if is_shared else SERVERS)
+        for name in () if line.startswith(TOUCHING) else names:
+            self.key(name).cause = REFUSED
+        return dict.fromkeys(names, REFUSED)
 
     @staticmethod
     def seen(command, one, other):
