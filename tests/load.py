@@ -23,13 +23,15 @@ import os
 import random
 import re
 import sys
+from collections import namedtuple
 
 sys.dont_write_bytecode = True
 sys.path.insert(0, os.path.join(os.path.dirname(os.path.dirname(os.path.realpath(__file__))), "tools"))
-from pace import ALWAYS, Answers, Commands
+from pace import NEVER, Answers, Commands, Pending
 from thought import KINDS, Client
 
 FLEET = "get get get get get get get mget mget set set add delete"
+Sent = namedtuple("Sent", "command")
 SHOWN = re.compile(rb"VALUE ([^ ]+) [0-9]+ [0-9]+ ([0-9]+)\r\n")
 
 
@@ -47,18 +49,21 @@ async def client(place, number, words):
     reader, writer = await asyncio.open_connection(host, int(port))
     draw = Skewed(words.seed * 4096 + number)
     one = Client(number, draw, [b"key:%d" % at for at in range(words.keys)], words.kinds)
-    commands, answers, left = Commands(), Answers(), words.commands
+    commands, answers, pending, left = Commands(), Answers(), Pending(), words.commands
     while left:
         count = min(left, draw.randint(1, words.in_flight))
         text = b"".join(one.command() for _ in range(count))
         left -= count
-        owed = sum(command.answered == ALWAYS for command in commands.feed(text))
+        for command in commands.feed(text):
+            if command.answered != NEVER:
+                pending.add(Sent(command))
         writer.write(text)
-        while owed:
+        while pending.sure:
             heard = await reader.read(65536)
             if not heard:
                 sys.exit(f"tests/load.py: the server has closed connection {number}")
-            owed -= sum(1 for _ in answers.feed(heard))
+            for answer in answers.feed(heard):
+                pending.take(answer)
             one.uniques.update((key, int(unique)) for key, unique in SHOWN.findall(heard))
     writer.close()
     await writer.wait_closed()
