@@ -1,6 +1,6 @@
 -- Lists, element by element.
 use Rattle.std.specs.List.{slice_get}
-use Rattle.std.proofs.Common.{◌≡◌, ℕ, zero, suc, ◌+◌, ◌<◌, ◌≤◌, List, [], ◌∷◌, ◌++◌, length, take, drop, get_or, None, Some, refl, ap, ◌∙◌, sym, arith}
+use Rattle.std.proofs.Common.{◌≡◌, ℕ, zero, suc, ◌+◌, ◌<◌, ◌≤◌, List, [], ◌∷◌, ◌++◌, length, take, drop, get_or, None, Some, refl, ap, ◌∙◌, sym, subst, arith}
 use Rattle.std.proofs.lemmas.Option.{slice_get_read, get_or_from_slice_get}
 
 module _ {A : Type 0} where
@@ -50,3 +50,11 @@ module _ {A : Type 0} where
   take_one (y ∷ ys) (suc k) x is =
       let on : suc k + 1 ≡ suc (k + 1) = omega arith in
       ap (λ (n : ℕ). take n (y ∷ ys)) on ∙ ap (λ (l : List A). y ∷ l) (take_one ys k x is)
+
+  -- what each element of a list is at its place, and a further one at any, each of both is
+  pub each_pushed : (P : ℕ → A → Type 0) (xs : List A) (x : A) → ((k : ℕ) (y : A) → slice_get xs k ≡ Some y → P k y) → ((k : ℕ) → P k x)
+      → (k : ℕ) (y : A) → slice_get (xs ++ x ∷ []) k ≡ Some y → P k y
+  each_pushed P [] x each last zero y is = let same : x ≡ y = cc in subst (P 0) same (last 0)
+  each_pushed P [] x each last (suc k) y is = absurd (cc)
+  each_pushed P (z ∷ xs) x each last zero y is = each 0 y is
+  each_pushed P (z ∷ xs) x each last (suc k) y is = each_pushed (λ n. P (suc n)) xs x (λ n. each (suc n)) (λ n. last (suc n)) k y is
