@@ -64,9 +64,14 @@ abbrev may_all : Option Ask → Bool
 may_all None = true
 may_all (Some ask) = may_be_quiet ask
 
-never : (keys : Bool) (fault : ErrorLine) (found : Option Ask) (quiet : Bool) → is_loud (said keys fault found quiet) ≡ true → may_all found ≡ true
-never keys fault None quiet loud = refl
-never false fault (Some ask) quiet loud = absurd (cc)
+-- something was found, which may be asked for without an answer
+abbrev may_any : Option Ask → Bool
+may_any None = false
+may_any (Some ask) = may_be_quiet ask
+
+never : (keys : Bool) (fault : ErrorLine) (found : Option Ask) (quiet : Bool) → is_loud (said keys fault found quiet) ≡ true → may_any found ≡ true
+never false fault found quiet loud = absurd (cc)
+never true fault None quiet loud = absurd (cc)
 never true fault (Some ask) quiet loud = go (may_be_quiet ask) loud
   where
     go : (may : Bool) → may && not quiet ≡ true → may ≡ true
@@ -216,7 +221,7 @@ record Never (name : Name) : Type 0 where
   pub follows : (words : List (List ℕ))
       → following_of (arity_of name) words ≡ (if has_count (arity_of name) (length words) && not false then Some (following words false) else None)
   -- what it asks for may not be asked for without an answer
-  pub loud : (words : List (List ℕ)) → may_all (ask_of name words) ≡ false
+  pub loud : (words : List (List ℕ)) → may_any (ask_of name words) ≡ false
 
 -- whether noreply may follow a name, and after how many words
 data Ends (name : Name) : Type 0 where
@@ -266,7 +271,7 @@ silences_some name least most ends words loud =
     ∙ sym (ap silent (is words ∙ said_loudly name words (has_count (from_to least most) (length words)) (lacks_noreply (from_to least most) words) (asks_silence (from_to least most) words) facts))
 
 -- what is asked for by a name that takes no noreply
-never_some : (name : Name) (words : List (List ℕ)) (has : Bool) → may_all (ask_of name words) ≡ false
+never_some : (name : Name) (words : List (List ℕ)) (has : Bool) → may_any (ask_of name words) ≡ false
     → is_loud (find (if has && not false then Some (following words false) else None) Unknown (λ following. form_with name following)) ≡ false
 never_some name words false may = refl
 never_some name words true may = go (is_loud (form_with name (record { words = words; quiet = false }))) refl
