@@ -27,7 +27,7 @@ from formats import Part, read_capture
 
 ALONE = ["run", "--cores", "1", "--threads", "1"]
 # Of a command of the shorter traffic: 3 % more than it takes.
-FEW, MOST = 20_000, 6_150
+FEW, MOST = 20_000, 5_720
 # The functions by which a segment is fed.
 FEEDING = re.compile(r"CaptureFeeder|^zy_feed\b")
 
