@@ -63,6 +63,7 @@ class Chart:
 
     def __init__(self, title, lines, x, y):
         self.x, self.y, self.lines = x, y, []
+        self.title, self.about = title, "; ".join([*lines, f"upwards: {y.label}; across: {x.label}"])
         self.top = 34 + 16 * len(lines) + 12
         self.text(14, 24, title, size=15)
         for at, line in enumerate(lines):
@@ -150,5 +151,6 @@ class Chart:
         """The chart; the command that made it is its last line."""
         self.text(14, HEIGHT - 14, f"made by: {command}", size=11, colour="#333333")
         head = (f'<svg xmlns="http://www.w3.org/2000/svg" width="{WIDTH}" height="{HEIGHT}" '
-                f'viewBox="0 0 {WIDTH} {HEIGHT}" font-family="sans-serif">')
+                f'viewBox="0 0 {WIDTH} {HEIGHT}" font-family="sans-serif" role="img">\n'
+                f"<title>{html.escape(self.title)}</title>\n<desc>{html.escape(self.about)}</desc>")
         return "\n".join([head, f'<rect width="{WIDTH}" height="{HEIGHT}" fill="white"/>', *self.lines, "</svg>\n"])

@@ -13,11 +13,11 @@ import subprocess
 import sys
 import time
 
-sys.dont_write_bytecode = True
-TOP = os.path.dirname(os.path.dirname(os.path.realpath(__file__)))
+from zygos_tools import figures
+from zygos_tools.repository import TOP
+
 HERE = os.path.join(TOP, "bench")
 DOCS = os.path.join(TOP, "docs")
-sys.path.insert(0, os.path.join(TOP, "tools"))
 # quiet where it is interrupted, or its reader goes away
 signal.signal(signal.SIGPIPE, signal.SIG_DFL)
 signal.signal(signal.SIGINT, signal.SIG_DFL)
@@ -27,6 +27,9 @@ Cost = collections.namedtuple("Cost", "wall used resident")
 # A rate of 200 connections is what all whole runs have.
 CONNECTIONS = 200
 
+
+# Traffic of `zygos gen`, and of `bench/traffic --like cache`.
+GENERATED, CACHE = TRAFFIC = ("generated", "cache")
 
 NAME = "bench/run " + os.path.basename(sys.argv[0]).removesuffix(".py")
 
@@ -54,6 +57,15 @@ class Words(argparse.ArgumentParser):
         super().__init__(prog=NAME, usage=argparse.SUPPRESS, add_help=False, allow_abbrev=False)
         self.page, self.last = page.strip(), last
         self.add_argument("-h", "--help", action="store_true")
+
+    def noting(self):
+        """The script can write its figures into the file that pages quote."""
+        self.add_argument("--note", action="store_true")
+
+    def of_traffic(self, default="generated"):
+        """The script serves generated traffic, or traffic as caches see it with this number of keys."""
+        self.add_argument("--traffic", choices=TRAFFIC, default=default)
+        self.add_argument("--keys", type=count)
 
     def error(self, message):
         stop(f"{message}; --help says more", 2)
@@ -98,6 +110,20 @@ def read_json(path):
         stop(f"{path}: {error.strerror}")
     except ValueError:
         stop(f"{path}: no JSON")
+
+
+def note(given, name, **values):
+    """Writes the figures of a script into bench/figures.json, under this name, if that was asked for."""
+    if given.note:
+        figures.note(name, command_line(), {key: round(value, 4) for key, value in values.items()})
+        say_quotes(name)
+
+
+def say_quotes(name):
+    """Prints which pages quote these figures otherwise."""
+    for page, group, text in figures.misquoted():
+        if group == name:
+            print(f"{page} has to say now: {text}")
 
 
 # ---- the programs
@@ -176,14 +202,46 @@ def least(runs, *words, **more):
     return min((run(*words, **more) for _ in range(runs)), key=lambda cost: cost.used)
 
 
+def interleaved(runs, commands, path):
+    """The costs of commands by name, which read this file in turn."""
+    costs = {name: [] for name in commands}
+    for _ in range(runs):
+        for name, command in commands.items():
+            costs[name].append(run(command, path))
+    return costs
+
+
+class Ratio:
+    """How many times another command's cost one costs in interleaved runs: the median, the least and the most."""
+
+    def __init__(self, costs, others, kind):
+        found = sorted(getattr(cost, kind) / getattr(other, kind) for cost, other in zip(costs, others))
+        self.median, self.least, self.most = statistics.median(found), found[0], found[-1]
+
+    def __str__(self):
+        return f"{self.median:.2f} ({self.least:.2f} to {self.most:.2f}) times"
+
+
+def ahead(costs, alone):
+    """A sentence that says from how many threads zygos is faster than plain C on one. `costs` are those of zygos by
+    number of threads."""
+    slower = [threads for threads, found in costs.items() if Ratio(found, alone, "wall").median >= 1]
+    first = min((threads for threads in costs if threads > max(slower, default=0)), default=None)
+    if first is None:
+        return f"zygos on up to {max(costs)} threads is not faster than plain C with a journal on one"
+    return f"zygos is faster than plain C with a journal on one thread from {first} threads on"
+
+
 def medians(costs):
     """The medians of the seconds, of the processor seconds and of the memory of runs."""
     return Cost(*map(statistics.median, zip(*costs)))
 
 
-def cores(number, threads=None):
-    """The words for cores on as many threads, or on another number."""
-    return ["--cores", str(number), "--threads", str(number if threads is None else threads)]
+def cores(number, threads=None, rest=None):
+    """The words for cores on as many threads, or on another number. Idle ones sleep as under ./zygos, or as is said."""
+    threads = number if threads is None else threads
+    rest = rest if rest is not None else 1 if threads <= 4 else 100
+    return ["--cores", str(number), "--threads", str(threads), "--rest", str(rest)]
 
 
 # ---- traffic
@@ -194,6 +252,20 @@ def generated(program, path, commands, connections=CONNECTIONS):
     each = max(1, commands // connections)
     run([program, "gen", "--number", 1, "--conns", connections, "--commands", each], sink=path)
     return path
+
+
+def like_cache(path, commands, keys):
+    """Writes the capture of traffic as caches see it with this number of commands, and gives its path."""
+    run([os.path.join(HERE, "traffic"), "--like", "cache", "--commands", commands, "--keys", keys], sink=path)
+    return path
+
+
+def made(given, program, path, commands, part=1):
+    """Writes the capture of the traffic that was asked for, and gives its path. Traffic as caches see it has this part
+    of the keys that were asked for, or half as many keys as commands."""
+    if given.traffic == CACHE:
+        return like_cache(path, commands, max(1, given.keys // part if given.keys else commands // 2))
+    return generated(program, path, commands)
 
 
 def entries(program, connections, commands):

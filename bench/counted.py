@@ -1,7 +1,7 @@
-"""What runs of `zygos_bench tail` and `zygos_bench virtual` count."""
+"""What runs of `zygos_tail` count."""
 import math
 
-# The parts of turns, in the order of zygos_bench.
+# The parts of turns, in the order of zygos_tail.
 PARTS = ("turn", "item", "collected", "hold", "theft", "command", "look", "moved")
 
 

@@ -8,7 +8,7 @@ import random
 import common
 
 SHAPES = {"fixed": 0, "exponential": 1, "bimodal": 2}
-# How zygos_bench is asked for times that it reads, and the most of them.
+# How zygos_tail is asked for times that it reads, and the most of them.
 READ, MOST = 3, 1 << 20
 # The requests of a simulation, of which the first tenth does not count.
 REQUESTS = 60_000
@@ -36,7 +36,7 @@ class Law:
         return 1.0
 
     def written(self, room):
-        """The path of what zygos_bench reads: each time in nanoseconds, 4 bytes, the most significant first."""
+        """The path of what zygos_tail reads: each time in nanoseconds, 4 bytes, the most significant first."""
         if not self.times:
             return os.devnull
         path = os.path.join(room, "times")

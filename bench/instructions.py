@@ -1,17 +1,22 @@
 #!/usr/bin/env python3
-"""Counts the instructions of serving generated traffic on one thread, and prints where they go.
+"""Counts the instructions of serving traffic on one thread, and prints where they go.
 
-Seconds differ from run to run, instructions hardly do. They are counted by callgrind, a part of valgrind, for the
-traffic of `zygos gen --number 1` with 200 connections. Printed are the instructions of a command, and beside them those
-of `bench/plain.c`, a plain server in C, with a journal that it keeps; the instructions by which a segment is fed, from
-the piece of the input to the receive ring of its home core; and the functions that take the most: how many instructions
-of a command are their own, and how many they take with all that they call.
+Seconds differ from run to run, instructions hardly do. They are counted by callgrind, a part of valgrind, for two
+kinds of traffic of 200 connections: `generated` is that of `zygos gen --number 1`, with short keys, and `cache` that
+of `bench/traffic --like cache`, with one key of 30 bytes in each command. For each, these are printed: the
+instructions of a command, and beside them those of `bench/plain.c`, a plain server in C, with a journal that it keeps;
+the instructions by which a segment is fed, from the piece of the input to the receive ring of its home core; and the
+functions that take the most: how many instructions of a command are their own, and how many they take with all that
+they call.
 
-usage: bench/run instructions [--commands N] [--functions N] [--check] [PROGRAM]
+usage: bench/run instructions [--traffic KIND] [--commands N] [--keys N] [--functions N] [--check | --note] [PROGRAM]
 
+--traffic KIND only generated or cache
 --commands N   the number of commands (200000)
+--keys N       the number of keys of cache (half the commands)
 --functions N  the number of functions (40)
---check        counts 20,000 commands of the program alone; the status is 1 where a command takes more than it may
+--check        counts 20,000 commands of zygos only; the status is 1 if a command takes more instructions than its bound
+--note         writes them into bench/figures.json, which the pages quote
 PROGRAM        a program that is built (if left out, the repository's, which is proved and built first where it isn't)
 """
 import collections
@@ -19,15 +24,17 @@ import os
 import re
 import shutil
 import subprocess
-import sys
 import tempfile
 
 import common
-from formats import Part, read_capture
+from zygos_tools.files.formats import read_capture
+from zygos_tools.files.part import Part
 
 ALONE = ["run", "--cores", "1", "--threads", "1"]
-# Of a command of the shorter traffic: 3 % more than it takes.
-FEW, MOST = 20_000, 5_720
+# For --check, the number of commands and the bounds on the instructions of one: 3 % more than it takes.
+FEW, MOST = 20_000, {common.GENERATED: 5_720, common.CACHE: 4_690}
+# The groups of bench/figures.json.
+GROUPS = {common.GENERATED: "instructions", common.CACHE: "instructions, cache"}
 # The functions by which a segment is fed.
 FEEDING = re.compile(r"CaptureFeeder|^zy_feed\b")
 
@@ -83,12 +90,12 @@ def counted(room, path, command):
     return Count(out)
 
 
-def traffic(program, room, commands):
-    """The path of generated traffic, and its numbers of commands and of segments."""
-    each = max(1, commands // common.CONNECTIONS)
-    path = common.generated(program, os.path.join(room, "capture"), each * common.CONNECTIONS)
+def traffic(given, program, room, commands):
+    """The path of a capture of the traffic that was asked for, and its numbers of commands and of segments."""
+    commands = max(1, commands // common.CONNECTIONS) * common.CONNECTIONS
+    path = common.made(given, program, os.path.join(room, given.traffic), commands)
     with open(path, "rb") as file:
-        return path, each * common.CONNECTIONS, len(read_capture(Part("capture", file.read())).records)
+        return path, commands, len(read_capture(Part("capture", file.read())).records)
 
 
 # ---- what is printed
@@ -102,36 +109,48 @@ def functions(count, commands, most):
         print(f"{own / commands:8.0f}{whole[name] / commands:8.0f}  {name[:100]}")
 
 
-def check(program, room):
-    """Whether a command takes at most what it may."""
-    path, commands, _ = traffic(program, room, FEW)
-    each = counted(room, path, [program, *ALONE]).all / commands
-    print(f"{each:.0f} instructions a command of {commands:,}; it may take {MOST}")
-    if each > MOST:
-        common.stop(f"a command takes {each:.0f} instructions, and may take {MOST}")
+def check(given, program, room):
+    """Checks whether a command takes more instructions than its bound."""
+    path, commands, _ = traffic(given, program, room, FEW)
+    each, most = counted(room, path, [program, *ALONE]).all / commands, MOST[given.traffic]
+    print(f"{given.traffic}: {each:.0f} instructions a command of {commands:,}; the bound is {most}", flush=True)
+    return each <= most
+
+
+def report(given, program, room):
+    """Prints the instructions of a command and of a segment, beside plain C, and those of functions."""
+    path, commands, segments = traffic(given, program, room, given.commands)
+    plain = counted(room, path, [common.plain(room), "--journal"]).all / commands
+    count = counted(room, path, [program, *ALONE])
+    each, fed = count.all / commands, count.within(FEEDING) / segments
+    print(f"{given.traffic}: {commands:,} commands in {segments:,} segments, on one thread")
+    print(f"a command: {each:.0f} instructions; plain C with a journal: {plain:.0f}; {each / plain:.2f} times")
+    print(f"a segment is fed: {fed:.0f} instructions")
+    common.note(given, GROUPS[given.traffic], command=each, plain=plain, times=each / plain, segment=fed)
+    functions(count, commands, given.functions)
 
 
 def main():
     words = common.Words(__doc__, "program")
+    words.of_traffic(default=None)
     words.add_argument("--commands", type=common.count, default=200_000)
     words.add_argument("--functions", type=common.count, default=40)
     words.add_argument("--check", action="store_true")
+    words.noting()
     given = words.given()
     if not shutil.which("valgrind"):
         common.stop("valgrind is not on this machine: apt-get install valgrind")
     program = common.built("zygos", given.program)
-    with tempfile.TemporaryDirectory() as room:
-        if given.check:
-            return check(program, room)
-        path, commands, segments = traffic(program, room, given.commands)
-        plain = counted(room, path, [common.plain(room), "--journal"]).all / commands
-        count = counted(room, path, [program, *ALONE])
-        each = count.all / commands
-        print(f"{commands:,} commands in {segments:,} segments, on one thread")
-        print(f"a command: {each:.0f} instructions; plain C with a journal: {plain:.0f}; {each / plain:.2f} times")
-        print(f"a segment is fed: {count.within(FEEDING) / segments:.0f} instructions")
-        functions(count, commands, given.functions)
-    return 0
+    over = []
+    for kind in [given.traffic] if given.traffic else common.TRAFFIC:
+        given.traffic = kind
+        with tempfile.TemporaryDirectory() as room:
+            if not given.check:
+                report(given, program, room)
+            elif not check(given, program, room):
+                over.append(kind)
+    if over:
+        common.stop(f"a command takes more instructions than its bound: {', '.join(over)}")
 
 
-sys.exit(main())
+main()

@@ -12,7 +12,7 @@ import os
 import tempfile
 
 import common
-from formats import capture, pieces
+from zygos_tools.files.formats import capture, pieces
 
 SIZES = (100_000, 1_000_000)
 

@@ -3,11 +3,10 @@ import os
 import random
 import struct
 import subprocess
-import sys
 import tempfile
 
 import common
-from formats import Call, Entry, Reply, capture as capture_of, journal as journal_of, segment
+from zygos_tools.files.formats import Call, Entry, Reply, capture as capture_of, journal as journal_of, segment
 
 
 class Bench:
@@ -86,11 +85,11 @@ def journal(bench):
     """merging 16 and 256 histories, writing a journal and reading one"""
     worst = 0
     for shards in (16, 256):
-        few, many = (bench.each(3, "journal", 1, entries, shards) for entries in (100_000, 1_000_000))
+        few, many = (bench.each(3, "journal", "merge", entries, shards) for entries in (100_000, 1_000_000))
         worst = max(worst, many / few * 10)
         print(f"merging {shards} histories: {1e3 / many:.1f} million entries a second; "
               f"ten times the entries in {many / few * 10:.1f} times the time")
-    few, many = (bench.least(3, "journal", 2, entries) for entries in (100_000, 1_000_000))
+    few, many = (bench.least(3, "journal", "write", entries) for entries in (100_000, 1_000_000))
     print(f"writing: {1e3 * many[0] / many[1]:.0f} MB/s; "
           f"ten times the entries in {many[1] / few[1]:.1f} times the time")
     worst = max(worst, many[1] / few[1])
@@ -101,7 +100,7 @@ def journal(bench):
             with open(path, "wb") as out:
                 entries = [Entry(i + 1, i % 16, i % 100, i // 100, 0, call, stored) for i in range(count)]
                 out.write(journal_of(entries, []))
-            found.append((os.path.getsize(path), bench.fed(path, "journal", 3)))
+            found.append((os.path.getsize(path), bench.fed(path, "journal", "read")))
     ratio = found[1][1] / found[0][1]
     print(f"reading: {found[1][0] / found[1][1] * 1e3:.0f} MB/s; ten times the entries in {ratio:.1f} times the time")
     return max(worst, ratio) > 12
@@ -146,25 +145,25 @@ def pcap(bench):
 def store(bench):
     """one pass on one shard beside the shard alone; 1, 2 and 4 threads on 16 shards"""
     calls = 1_000_000
-    alone, by_pass = (bench.each(5, "store", which, calls) for which in (0, 9))
+    alone, by_pass = (bench.each(5, "store", part, calls) for part in ("shard", "pass"))
     print(f"the shard alone: {alone:.0f} ns a call; "
           f"one pass alone: {by_pass:.0f} ns, {100 * by_pass / alone:.0f} percent")
     for threads in (1, 2, 4):
-        nanos = bench.least(5, "store", threads, calls)[1]
+        nanos = bench.least(5, "store", "threads", calls, threads)[1]
         print(f"{threads} threads on 16 shards: {threads * calls * 1e9 / nanos:.0f} calls a second")
     return 10 * by_pass > 13 * alone
 
 
-def claims(bench, which, thieves):
-    """The nanoseconds of a claim from the shuffle queue (0) or one with a lock (1), by this number of thieves."""
-    return bench.each(3, "shuffle", which, thieves, 1_000_000 if thieves else 5_000_000)
+def claims(bench, queue, thieves):
+    """The nanoseconds of a claim from the shuffle queue, the `ring`, or one with a `lock`, by this number of thieves."""
+    return bench.each(3, "shuffle", queue, thieves, 1_000_000 if thieves else 5_000_000)
 
 
 def shuffle(bench):
     """the shuffle queue and one with a lock: the home alone, and claims by 1 to 3 thieves"""
     for thieves in (0, 1, 2, 3):
-        for which, name in enumerate(("ring", "lock")):
-            found = claims(bench, which, thieves)
+        for name in ("ring", "lock"):
+            found = claims(bench, name, thieves)
             if thieves:
                 print(f"{name}, thieves {thieves}: {1e9 / found:.0f} claims a second")
             else:
@@ -174,14 +173,14 @@ def shuffle(bench):
 
 def hold(bench):
     """the hold of a block beside the same calls on a shard alone"""
-    alone, held = (bench.each(5, "conn", which, 20, 64) for which in (0, 1))
+    alone, held = (bench.each(5, "conn", part, 20, 64) for part in ("shard", "block"))
     print(f"a shard alone: {alone:.0f} ns a call; a hold: {held:.0f} ns a command, {100 * held / alone:.0f} percent")
     return False
 
 
 def held_and_served(bench, size):
     """The nanoseconds of a command in a hold of `size`, and of one at its home, from segment to text."""
-    return tuple(bench.each(5, "conn", which, 1280 // size, size) for which in (1, 2))
+    return tuple(bench.each(5, "conn", part, 1280 // size, size) for part in ("block", "home"))
 
 
 def home(bench):

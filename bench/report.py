@@ -13,7 +13,8 @@ import sys
 import tempfile
 
 import common
-from formats import Part, cut
+from zygos_tools.files.formats import cut
+from zygos_tools.files.part import Part
 
 # connections, and commands of each
 SIZES = ((200, 500), (200, 5000), (4000, 250))

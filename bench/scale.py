@@ -2,36 +2,44 @@
 """Serves the same traffic on 1, 2, 3 and 4 threads with as many cores, in three kinds of capture, and prints what it
 costs.
 
-The traffic is that of `zygos gen --number 1` with 200 connections and 1,000,000 commands. The capture `even` is the
-generated one, with its own short segments: the connections are at home at all cores. In `skewed` all connections are
-at home at core 0, so that the other cores have only what they steal; it is also served by one core on one thread. In
-`large` the streams of `even` come in turn in segments of 1,400 bytes. Printed are the machine, and for each kind and
-number of threads the medians of wall seconds and of processor seconds of the runs, how these compare with one thread;
-the same of `bench/plain.c`, a plain server in C, with its journal, 16 locked shards and as many threads; and from the
-journal of one further run the number of holds, the commands of a hold, how many holds had 1, 2 to 3, 4 to 7 and so on
-up to 64 commands, and the share that was by another core than the connection's home.
+The traffic is `generated`, that of `zygos gen --number 1`, or `cache`, that of `bench/traffic --like cache`, both with
+200 connections. The capture `even` has it with its own short segments: the connections are at home at all cores. In
+`skewed` all connections are at home at core 0, so that the other cores have only what they steal. In `large` the
+streams of `even` come in turn in segments of 1,400 bytes. Printed are the machine, and for each kind and number of
+threads the medians of wall seconds and of processor seconds of the runs, and how these compare with one thread; the
+same of `bench/plain.c`, a plain server in C, with its journal, 16 locked shards and as many threads; and from the
+journal of another run the number of holds, the commands of a hold, how many holds had 1, 2 to 3, 4 to 7 and so on up
+to 64 commands, and the share that was by another core than the connection's home. The runs of zygos and of plain C on
+all numbers of threads are interleaved. Their ratios are medians over the turns, with the least and the most: on a
+machine that others use they say more than seconds. The last line of a kind says from how many threads zygos is faster
+than plain C on one.
 
 Then `even` is served by 2 and 4 cores on as many threads with `--rest 0` and with `--rest 100`: from a file, and over
 a pipe that gives it in 20 pieces, with a pause of 100 ms after each. The pauses are in the wall seconds; processor
 seconds are those of the program alone.
 
-usage: bench/run scale [--commands N] [--runs N] [--only KIND] [--picture FILE] [PROGRAM]
+usage: bench/run scale [--traffic KIND] [--commands N] [--keys N] [--runs N] [--only KIND] [--picture FILE] [--note]
+                       [PROGRAM]
 
+--traffic KIND  generated or cache (generated)
 --commands N    the number of commands (1000000)
+--keys N        the number of keys of cache (half the commands)
 --runs N        the number of timed runs of each kind (5)
 --only KIND     even, skewed or large alone, or `rest` for the runs with and without rest
---picture FILE  writes a chart, as docs/scale.svg, for which all kinds are served
+--picture FILE  writes a chart, for which all kinds are served
+--note          writes figures of `even` into bench/figures.json, which the pages quote: of generated traffic the
+                medians of seconds, of cache the ratios to plain C
 PROGRAM         a program that is built (if left out, the repository's, which is proved and built first where it isn't)
 """
 import os
 import subprocess
-import sys
 import tempfile
 import time
 
 import chart
 import common
-from formats import Hold, Part, capture, journal_records, read_capture, segment
+from zygos_tools.files.formats import Hold, capture, journal_records, read_capture, segment
+from zygos_tools.files.part import Part
 
 MOST, NUMBERS = 4, 4096
 THREADS = (1, 2, 3, 4)
@@ -104,7 +112,7 @@ def with_rests(program, path, runs):
     for serve, name in ((common.run, "from a file"), (run_paused, f"with {PIECES} pauses of {PAUSE * 1000:.0f} ms")):
         for threads in RESTING:
             for rest in RESTS:
-                words = [program, "run", *common.cores(threads), "--rest", str(rest)]
+                words = [program, "run", *common.cores(threads, rest=rest)]
                 cost = common.medians([serve(words, path) for _ in range(runs)])
                 print(f"even, {name}, {threads} cores on as many threads, --rest {rest}: {cost.wall:.2f} s, "
                       f"{cost.used:.2f} s of processor time", flush=True)
@@ -132,11 +140,13 @@ def about_holds(program, path, threads, commands):
 
 
 def beside_plain(costs, plain, kind, threads):
-    """What is said of the plain server on as many threads."""
-    cost, beside, alone = map(common.medians, (costs[kind, threads], plain[kind, threads], plain[kind, 1]))
+    """What is said of the plain server on as many threads and on one."""
+    found, others, alone = costs[kind, threads], plain[kind, threads], plain[kind, 1]
+    beside = common.medians(others)
     return (f"plain C with a journal: {beside.wall:.2f} s, {beside.used:.2f} s of processor time, "
-            f"{alone.wall / beside.wall:.2f} times as fast as one; zygos takes {cost.wall / beside.wall:.2f} times its "
-            f"time and {cost.used / beside.used:.2f} times its processor time")
+            f"{common.medians(alone).wall / beside.wall:.2f} times as fast as one\n  zygos takes "
+            f"{common.Ratio(found, others, 'wall')} its time, {common.Ratio(found, others, 'used')} its processor time "
+            f"and {common.Ratio(found, alone, 'wall')} the time of plain C on one thread")
 
 
 def report(costs, kind, threads, about):
@@ -179,21 +189,48 @@ def picture(costs, commands, runs):
     return drawn
 
 
+def serve_in_turn(costs, plain, kind, program, server, path, runs):
+    """Serves a capture on all numbers of threads, interleaved, and adds what that costs zygos and the plain server."""
+    commands = {}
+    for threads in THREADS:
+        commands["zygos", threads] = [program, "run", *common.cores(threads)]
+        commands["plain", threads] = [*server, threads]
+    for (name, threads), found in common.interleaved(runs, commands, path).items():
+        (costs if name == "zygos" else plain)[kind, threads] = found
+
+
+def note(given, costs, plain):
+    """Notes figures by number of threads: the seconds of generated traffic, or the ratios to plain C of cache."""
+    values = {}
+    for threads in THREADS:
+        cost, other = costs["even", threads], plain["even", threads]
+        if given.traffic == common.GENERATED:
+            values[f"threads_{threads}"], values[f"plain_{threads}"] = (common.medians(it).wall for it in (cost, other))
+        else:
+            values[f"wall_{threads}"] = common.Ratio(cost, other, "wall").median
+            values[f"used_{threads}"] = common.Ratio(cost, other, "used").median
+            values[f"one_{threads}"] = common.Ratio(cost, plain["even", 1], "wall").median
+    common.note(given, "threads" if given.traffic == common.GENERATED else "threads, cache", **values)
+
+
 def main():
     words = common.Words(__doc__, "program")
+    words.of_traffic()
     words.add_argument("--commands", type=common.count, default=1_000_000)
     words.add_argument("--runs", type=common.count, default=5)
     words.add_argument("--only", choices=[*KINDS, "rest"])
     words.add_argument("--picture")
+    words.noting()
     given = words.given()
     program = common.built("zygos", given.program)
     kinds = [given.only] if given.only and not given.picture else [*KINDS, "rest"]
     commands = max(1, given.commands // common.CONNECTIONS) * common.CONNECTIONS
-    print(f"{commands} commands, median of {given.runs} runs, {common.machine()}", flush=True)
+    print(f"{commands} commands of {given.traffic} traffic, median of {given.runs} runs, {common.machine()}",
+          flush=True)
     costs, plain = {}, {}
     with tempfile.TemporaryDirectory() as room:
         server = [common.plain(room), "--journal", "--threads"]
-        with open(common.generated(program, os.path.join(room, "generated"), commands), "rb") as file:
+        with open(common.made(given, program, os.path.join(room, "capture"), commands), "rb") as file:
             records = read_capture(Part("capture", file.read())).records
         for kind in kinds:
             path = os.path.join(room, kind)
@@ -201,13 +238,15 @@ def main():
             if kind == "rest":
                 with_rests(program, path, given.runs)
             else:
+                serve_in_turn(costs, plain, kind, program, server, path, given.runs)
                 for threads in THREADS:
-                    words = [program, "run", *common.cores(threads)]
-                    costs[kind, threads] = [common.run(words, path) for _ in range(given.runs)]
-                    plain[kind, threads] = [common.run([*server, threads], path) for _ in range(given.runs)]
                     report(costs, kind, threads, beside_plain(costs, plain, kind, threads) + "\n  "
                            + about_holds(program, path, threads, commands))
+                by_threads = {threads: costs[kind, threads] for threads in THREADS}
+                print(f"{kind}: {common.ahead(by_threads, plain[kind, 1])}", flush=True)
             os.remove(path)
+    if ("even", 1) in costs:
+        note(given, costs, plain)
     if given.picture:
         common.draw(picture(costs, commands, given.runs), given.picture)
 

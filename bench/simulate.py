@@ -13,7 +13,7 @@ served within ten times the mean service time of 5, 10 and 25 us on three cores,
 --json`, if it is given; and both on up to 64 cores, even and skewed, with and without stealing.
 
 usage: bench/run simulate [--measure FILE | --costs FILE] [--tail FILE] [--commands N] [--traffic N]
-                          [--picture FOLDER] [--program PATH] [--bench PATH]
+                          [--picture FOLDER] [--program PATH] [--bench PATH] [--timer PATH]
 
 --measure FILE    measures the costs here, in about three minutes, and writes them to FILE
 --costs FILE      costs that were measured before
@@ -21,8 +21,9 @@ usage: bench/run simulate [--measure FILE | --costs FILE] [--tail FILE] [--comma
 --commands N      the commands of a simulated run (100000)
 --traffic N       the commands that the program serves where it is measured (1000000)
 --picture FOLDER  writes scale-cores.svg and tail-cores.svg
---program PATH    `zygos`, built, and
---bench PATH      `zygos_bench` (if left out, the repository's, which are proved and built first where they aren't)
+--program PATH    `zygos`, built;
+--bench PATH      `zygos_bench`, and
+--timer PATH      `zygos_tail` (if left out, the repository's, which are proved and built first if they aren't)
 
 An example: bench/run simulate --measure costs.json --picture docs
 """
@@ -86,8 +87,8 @@ def parts_of(bench, path, segments):
     few, many, apart = parts.held_and_served(bench, 4), parts.held_and_served(bench, 64), 1 / 4 - 1 / 64
     hold = max(0, (few[0] - many[0]) / apart)
     settle = max(0, ((few[1] - few[0]) - (many[1] - many[0])) / apart)
-    alone, stolen = parts.claims(bench, 0, 0), parts.claims(bench, 0, 1)
-    call, shared = bench.each(3, "store", 1, 1_000_000), bench.each(3, "store", 4, 1_000_000)
+    alone, stolen = parts.claims(bench, "ring", 0), parts.claims(bench, "ring", 1)
+    call, shared = (bench.each(3, "store", "threads", 1_000_000, threads) for threads in (1, 4))
     return {**COSTS, "feed": bench.fed(path, "capture") / segments, "settle": settle, "claim": hold + alone / 2,
             "item": max(0, many[1] - many[0] - settle / 64), "steal": max(0, stolen - alone), "call": call,
             "away": max(0, (shared - call) * 4 / 3)}
@@ -102,11 +103,12 @@ def rates_of(program, path, commands, runs):
 
 def measured(given):
     """The costs of this machine."""
-    program, timer = common.built("zygos", given.program), common.built("zygos_bench", given.bench)
+    program, bench = common.built("zygos", given.program), common.built("zygos_bench", given.bench)
+    timer = common.built("zygos_tail", given.timer)
     with tempfile.TemporaryDirectory() as room:
         commands = max(1, given.traffic // common.CONNECTIONS) * common.CONNECTIONS
         path = common.generated(program, os.path.join(room, "capture"), commands)
-        cost = parts_of(parts.Bench(timer), path, 2 * commands)
+        cost = parts_of(parts.Bench(bench), path, 2 * commands)
         rates = rates_of(program, path, commands, 3)
     fixed = 2 * (cost["feed"] + cost["item"]) + (cost["settle"] + cost["claim"]) / 30
     cost["command"] = max(0, 1e9 / rates[1] - fixed - CALLS * cost["call"])
@@ -121,12 +123,12 @@ def measured(given):
 
 def beside_service(timer):
     """The microseconds that a request takes its core beside a fixed service of 10, at 1.5 times the full load."""
-    words = ["tail", 1, 0, 0, 10_000, round(10e6 / 1.5), 40_000, 1]
+    words = ["threads", 1, 0, 0, 10_000, round(10e6 / 1.5), 40_000, 1]
     ran = subprocess.run([timer, *map(str, words)], stdin=subprocess.DEVNULL, capture_output=True, text=True,
                          check=False)
     spans = [line.split() for line in ran.stdout.splitlines() if line.startswith("nanos ")]
     if not spans:
-        common.stop("zygos_bench tail: it printed no times")
+        common.stop("zygos_tail: it printed no times")
     return int(spans[0][3]) / 40_000 / 1e3 - 10
 
 
@@ -311,6 +313,7 @@ def main():
     words.add_argument("--picture")
     words.add_argument("--program")
     words.add_argument("--bench")
+    words.add_argument("--timer")
     given = words.given()
     if given.measure and given.costs:
         common.stop("--measure or --costs; --help says more", 2)

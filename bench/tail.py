@@ -25,7 +25,7 @@ nothing. `bench/README.md` says more.
 usage: bench/run tail [--cores N] [--loads L,..] [--service US,..] [--law LAW] [--only KIND] [--runs N] [--seconds S]
                       [--picture FOLDER] [--json] [PROGRAM]
        bench/run tail --virtual [--cores N,..] [--loads L,..] [--service US,..] [--law LAW] [--only KIND] [--runs N]
-                      [--costs FILE] [--picture FOLDER] [--json] [PROGRAM]
+                      [--costs FILE] [--picture FOLDER] [--json] [--note] [PROGRAM]
 
 --virtual         in virtual time
 --cores N         1 to 8 cores (as many as leave a processor for the feeder, 3 at most); with --virtual up to 64, and
@@ -41,7 +41,8 @@ usage: bench/run tail [--cores N] [--loads L,..] [--service US,..] [--law LAW] [
 --costs FILE      what turns cost, as --virtual --json printed it before, in place of measuring it
 --picture FOLDER  writes a chart for each law, mean and kind: tail.svg and tail-skew.svg where there is one law and mean
 --json            prints all points as JSON
-PROGRAM           `zygos_bench`, built (if left out, the repository's, which is proved and built first where it isn't)
+--note            with --virtual, writes the loads into bench/figures.json, which the pages quote
+PROGRAM           `zygos_tail`, built (if left out, the repository's, which is proved and built first if it isn't)
 
 Examples: bench/run tail --service 10 --law exponential
           bench/run tail --virtual --cores 3 --service 10 --picture docs
@@ -111,7 +112,7 @@ class Bench:
         """Starts a run at this load of its cores, in percent. Returns it and its number of requests."""
         gap = law.mean * 1000 / (cores * load / 100)
         count = max(100, int(self.length(law.mean) * 1e9 / gap))
-        words = ["tail", cores, int(skewed), law.shape, int(law.mean * 1000), int(gap * 1000), count, number]
+        words = ["threads", cores, int(skewed), law.shape, int(law.mean * 1000), int(gap * 1000), count, number]
         with open(law.written(self.room), "rb") as source:
             run = subprocess.Popen([self.program, *map(str, words)], stdin=source, stdout=subprocess.PIPE, text=True,
                                    preexec_fn=hurry)
@@ -137,7 +138,7 @@ class Bench:
         for run, count in begun:
             text, _ = run.communicate()
             if run.returncode:
-                common.stop(f"zygos_bench: ended with status {run.returncode}")
+                common.stop(f"zygos_tail: ended with status {run.returncode}")
             found.add(text, count)
         return found
 
@@ -230,9 +231,11 @@ def words_given():
     words.add_argument("--costs")
     words.add_argument("--picture")
     words.add_argument("--json", action="store_true")
+    words.noting()
     given = words.given()
-    if given.costs and not given.virtual:
-        common.stop("--costs is for --virtual; --help says more", 2)
+    for option in ("costs", "note"):
+        if getattr(given, option) and not given.virtual:
+            common.stop(f"--{option} is for --virtual; --help says more", 2)
     if given.cores and any(cores != int(cores) for cores in given.cores):
         common.stop("--cores takes whole numbers", 2)
     if given.cores and not given.virtual and (len(given.cores) > 1 or given.cores[0] > 8):
@@ -308,6 +311,8 @@ def in_virtual_time(given, cases, program, say):
     with tempfile.TemporaryDirectory() as room:
         bench = virtual.Virtual(program, given.runs, room, given.costs, say)
         loads = bench.table(given.cores, cases, say)
+        common.note(given, "tail", **{f"{kind.split()[-1]}_{row['cores']}_{row['connections']}_{row['service']:g}": row[kind]
+                                      for row in loads if row["law"] == "exponential" for kind in (STEALING, "without")})
         for case in cases if given.loads or given.picture else []:
             for cores in given.cores:
                 say(f"{cores} cores, ".rstrip(" ,"))
@@ -321,7 +326,7 @@ def in_virtual_time(given, cases, program, say):
 def main():
     given = words_given()
     cases = cases_of(given)
-    program = common.built("zygos_bench", given.program)
+    program = common.built("zygos_tail", given.program)
     say = lambda text: print(text, file=sys.stderr if given.json else sys.stdout, flush=True)
     found = (in_virtual_time if given.virtual else on_threads)(given, cases, program, say)
     if given.json:

@@ -1,4 +1,4 @@
-"""Virtual time: what the parts of turns cost, measured here, and runs of `zygos_bench virtual` at these prices."""
+"""Virtual time: what the parts of turns cost, measured here, and runs of `zygos_tail virtual` at these prices."""
 import collections
 import concurrent.futures
 import math
@@ -135,7 +135,7 @@ class Virtual:
             ran = subprocess.run([self.program, "virtual", *(str(round(word)) for word in words)], stdin=source,
                                  capture_output=True, text=True, check=False)
         if ran.returncode:
-            common.stop(f"zygos_bench: ended with status {ran.returncode}")
+            common.stop(f"zygos_tail: ended with status {ran.returncode}")
         found.add(ran.stdout, count)
         return found
 

@@ -4,8 +4,9 @@ import random
 import edits
 import plain
 from drawn import OTHERS, crowded_capture, drawn_capture
-from formats import (Call, Entry, Hold, Part, Reply, capture, close, journal, read_capture, read_journal, read_replies,
-                     replies, segment, sessions)
+from zygos_tools.files.formats import (Call, Entry, Hold, Reply, capture, close, journal, read_capture, read_journal,
+                                       read_replies, replies, segment, sessions)
+from zygos_tools.files.part import Part
 from program import BOTH, ONE, answer, check, run, same
 
 FIRST = b"set a 0 0 1\r\nx\r\ngets a\r\n"
@@ -159,7 +160,7 @@ def edges():
 
 
 def crowded():
-    """The same of captures whose keys are in one bucket, which has more of them than fit in its row."""
+    """The same of captures whose keys are in one bucket, or in one of its parts: more keys than fit in its row."""
     drawn(range(1000, 1020), crowded_capture, (1, 3))
 
 

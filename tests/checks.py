@@ -1,21 +1,67 @@
-"""Runs a tool of tools/, and compares what it prints with what is wanted."""
-import importlib.machinery
+"""What the tests share: cases of unittest made of functions, how a tool is run, and how what it prints is compared.
+
+Each difference that a test finds is a failure of its own, and the test goes on. What is left out on a machine, for want
+of a memcached or of the program, is a skip with a reason: it is counted, and the last lines name it.
+"""
+import contextlib
 import os
 import subprocess
 import sys
 import tempfile
-import types
+import threading
+import unittest
 
-TOP = os.path.dirname(os.path.dirname(os.path.realpath(__file__)))
-sys.dont_write_bytecode = True
-sys.path.insert(0, os.path.join(TOP, "tools"))
-NAME = "tests/" + os.path.basename(sys.argv[0])
-failures = []
+from zygos_tools.repository import TOP
+
+
+class Case(unittest.TestCase):
+    """A test whose differences are told by functions; `running` is the one that runs now."""
+
+    running, late = None, []
+
+    def run(self, result=None):
+        Case.running, Case.late = self, []
+        return super().run(result)
+
+    def carry_out(self, part, has_folder):
+        """Carries out a function, in an empty folder if it needs one."""
+        with tempfile.TemporaryDirectory() if has_folder else contextlib.nullcontext() as folder:
+            before = os.getcwd()
+            os.chdir(folder or before)
+            try:
+                part()
+            finally:
+                os.chdir(before)
+        for name, why in Case.late:
+            fail(name, why)
+
+
+def cases(*parts, has_folder=False):
+    """A class with a test for each of these functions; with `has_folder` each is in an empty folder."""
+    tests = {f"test_{part.__name__}": lambda self, part=part: self.carry_out(part, has_folder) for part in parts}
+    return type("Tests", (Case,), {"__module__": parts[0].__module__, **tests})
 
 
 def fail(name, why):
-    failures.append(name)
-    print(f"{NAME}: {name}: {why}")
+    """Tells a difference; the test goes on."""
+    if threading.current_thread() is not threading.main_thread():
+        Case.late.append((name, why))
+        return
+    if Case.running is None:
+        raise AssertionError(f"{name}: {why}")
+    with Case.running.subTest(name):
+        raise AssertionError(why)
+
+
+def skip(why):
+    """Leaves out the rest of a test."""
+    raise unittest.SkipTest(why)
+
+
+def left_out(name, why):
+    """Leaves out a part of a test, which goes on."""
+    with Case.running.subTest(name):
+        skip(why)
 
 
 def brief(value):
@@ -28,8 +74,49 @@ def same(name, wanted, got):
         fail(name, f"wanted {brief(wanted)}, got {brief(got)}")
 
 
+# ---- how tests are run
+
+
+def counts_of(result):
+    """How many tests passed, failed and were left out, wholly or in part."""
+    failed = {str(getattr(test, "test_case", test)) for test, _ in [*result.failures, *result.errors]}
+    skipped = {str(test) for test, _ in result.skipped if not hasattr(test, "test_case")}
+    passed = result.testsRun - len(failed) - len(skipped - failed)
+    return passed, len(failed), len(result.skipped)
+
+
+def run_suite(suite, verbosity=1):
+    """Runs tests; prints what was left out, and the counts in a last line. Gives whether none failed."""
+    result = unittest.TextTestRunner(sys.stdout, verbosity=verbosity).run(suite)
+    for test, why in result.skipped:
+        print(f"left out: {test}: {why}")
+    print("{} passed, {} failed, {} skipped".format(*counts_of(result)), flush=True)
+    return not counts_of(result)[1]
+
+
+def carry_out(*parts):
+    """Runs functions as tests, and ends."""
+    suite = unittest.defaultTestLoader.loadTestsFromTestCase(cases(*parts))
+    sys.exit(not run_suite(suite))
+
+
+# ---- tools
+
+
 def path_of(tool):
     return os.path.join(TOP, "tools", tool)
+
+
+def program_path():
+    """Where the built program is."""
+    return os.path.realpath(os.environ.get("ZYGOS_PROGRAM") or os.path.join(TOP, "crates/zygos/out/zygos"))
+
+
+def built_program():
+    """Where the built program is; without one, the rest of a test is left out."""
+    if not os.access(program_path(), os.X_OK):
+        skip(f"{os.path.relpath(program_path(), TOP)} is not built")
+    return program_path()
 
 
 def run(tool, *words, given=b"", **more):
@@ -48,13 +135,6 @@ def says(name, line, tool, *words, given=b"", status=1):
     same(name, (status, f"tools/{tool}: {line}\n".encode()), (ran.returncode, ran.stderr))
 
 
-def module(tool):
-    """A tool as a module."""
-    made = types.ModuleType(tool)
-    importlib.machinery.SourceFileLoader(tool, path_of(tool)).exec_module(made)
-    return made
-
-
 def written(folder, **files):
     """Writes files into a folder, and gives their paths."""
     paths = {name: os.path.join(folder, name) for name in files}
@@ -64,18 +144,19 @@ def written(folder, **files):
     return paths
 
 
+# Starts a tool and prints its status, and the most KiB that it had resident. A process counts what the one that started it
+# has, so a tool whose memory is measured is started by a small one.
+MEASURING = """
+import os, sys
+_, status, used = os.wait4(os.spawnv(os.P_NOWAIT, sys.argv[1], sys.argv[1:]), 0)
+print(os.waitstatus_to_exitcode(status), used.ru_maxrss, file=sys.stderr)
+"""
+
+
 def most_memory(tool, *words, source):
     """The most bytes that a tool has resident, in MiB, as it reads a file; and its status."""
     with open(source, "rb") as given, tempfile.TemporaryFile() as taken:
-        process = subprocess.Popen([path_of(tool), *words], stdin=given, stdout=taken)
-        _, status, used = os.wait4(process.pid, 0)
-        process.returncode = os.waitstatus_to_exitcode(status)
-    return used.ru_maxrss / 1024, process.returncode
-
-
-def carry_out(*parts):
-    """Carries out the parts of a test, and ends with what they found."""
-    for part in parts:
-        part()
-    print(f"{NAME}: {len(failures)} failed" if failures else f"{NAME}: ok")
-    sys.exit(1 if failures else 0)
+        ran = subprocess.run([sys.executable, "-c", MEASURING, path_of(tool), *words], stdin=given, stdout=taken,
+                             stderr=subprocess.PIPE, check=True)
+    status, most = ran.stderr.split()[-2:]
+    return int(most) / 1024, int(status)

@@ -9,6 +9,10 @@ MEMCACHED = {
     "a block that does not end": b"CLIENT_ERROR bad data chunk\r\nVERSION 1.6.18\r\n",
     "cas": b"STORED\r\nEXISTS\r\nVALUE a 0 1 1\r\nx\r\nEND\r\nNOT_FOUND\r\nEXISTS\r\nVALUE a 0 1 1\r\nx\r\nEND\r\n",
     "faulty lines": b"ERROR\r\n" * 3 + b"CLIENT_ERROR bad command line format\r\nVERSION 1.6.18\r\nOK\r\nNOT_FOUND\r\n",
+    "touch": b"STORED\r\nTOUCHED\r\nNOT_FOUND\r\nVALUE a 0 1\r\nx\r\nEND\r\n",
+    "gat and gats": b"STORED\r\nVALUE a 5 1\r\nx\r\nEND\r\nVALUE a 5 1 1\r\nx\r\nEND\r\n",
+    "version": b"VERSION 1.6.18\r\n",
+    "the largest number": b"STORED\r\n18446744073709551615\r\n0\r\n7\r\nVALUE n 0 20\r\n7                   \r\nEND\r\n",
 }
 
 
@@ -60,3 +64,26 @@ def examples(lines):
     lines("a session of a web page",
           b"set session:42 0 3600 11\r\nhello world\r\nget session:41 session:42 session:43\r\ndelete session:42 noreply\r\nget session:42\r\n",
           b"STORED\r\nVALUE session:42 0 11\r\nhello world\r\nEND\r\nEND\r\n")
+    lines("version", b"version\r\n", b"VERSION zygos-1.0\r\n")
+    lines("verbosity", b"verbosity 0\r\nverbosity\r\nverbosity x\r\nverbosity 0 noreply\r\nget a\r\n",
+          b"OK\r\nERROR\r\nCLIENT_ERROR bad command line format\r\nEND\r\n")
+    lines("flush_all", b"set a 0 0 1\r\nx\r\nset b 0 0 1\r\ny\r\nflush_all\r\nget a b\r\nadd a 0 0 1\r\nz\r\n"
+          b"flush_all noreply\r\nget a\r\n", b"STORED\r\nSTORED\r\nOK\r\nEND\r\nSTORED\r\nEND\r\n")
+    lines("touch", b"set a 0 0 1\r\nx\r\ntouch a 100\r\ntouch b 100\r\nget a\r\n",
+          b"STORED\r\nERROR\r\nERROR\r\nVALUE a 0 1\r\nx\r\nEND\r\n")
+    lines("gat and gats", b"set a 5 0 1\r\nx\r\ngat 100 a b\r\ngats 100 a\r\n", b"STORED\r\nERROR\r\nERROR\r\n")
+    lines("incr and decr of text", b"set a 0 0 1\r\nx\r\nincr a 1\r\ndecr a 1\r\nget a\r\n",
+          b"STORED\r\n" + b"CLIENT_ERROR cannot increment or decrement non-numeric value\r\n" * 2
+          + b"VALUE a 0 1\r\nx\r\nEND\r\n")
+    lines("the largest number", b"set n 0 0 20\r\n18446744073709551614\r\nincr n 1\r\nincr n 1\r\nincr n 7\r\nget n\r\n",
+          b"STORED\r\n18446744073709551615\r\n0\r\n7\r\nVALUE n 0 1\r\n7\r\nEND\r\n")
+    lines("counting with noreply", b"set n 3 0 2\r\n10\r\nincr n 1 noreply\r\ndecr n 3 noreply\r\nincr n 5\r\nget n\r\n",
+          b"STORED\r\n13\r\nVALUE n 3 2\r\n13\r\nEND\r\n")
+    lines("decr below zero", b"set n 0 0 1\r\n5\r\ndecr n 5\r\ndecr n 1\r\nget n\r\n",
+          b"STORED\r\n0\r\n0\r\nVALUE n 0 1\r\n0\r\nEND\r\n")
+    lines("a get of 100 keys", b"set k77 1 0 2\r\nhi\r\nget " + b" ".join(b"k%02d" % at for at in range(100)) + b"\r\n",
+          b"STORED\r\nVALUE k77 1 2\r\nhi\r\nEND\r\n")
+    lines("delete twice", b"set a 0 0 1\r\nx\r\ndelete a\r\ndelete a\r\ndelete a noreply\r\nget a\r\n",
+          b"STORED\r\nDELETED\r\nNOT_FOUND\r\nEND\r\n")
+    lines("a value of no bytes", b"set a 0 0 0\r\n\r\nget a\r\n", b"STORED\r\nVALUE a 0 0\r\n\r\nEND\r\n")
+    lines("a length over 1 MB waits for its block", b"set a 0 0 1048577\r\n", b"")

@@ -3,9 +3,9 @@ of one bucket, and some faulty lines."""
 import functools
 import itertools
 
-from formats import capture, close, segment
-from meaning import FORMS
-from model import bucket_of, shard_of
+from zygos_tools.files.formats import capture, close, segment
+from zygos_tools.protocol.meaning import FORMS
+from zygos_tools.protocol.model import bucket_of, part_of, shard_of
 
 KEYS = [b"a", b"b", b"c", b"k" * 250]
 # the commands with a key and a number
@@ -93,8 +93,15 @@ def one_bucket(count, front=b"", shards=1):
     return list(itertools.islice((key for key in alike if shard_of(key, shards) == 0), count))
 
 
+@functools.lru_cache
+def one_part(count, front=b"", shards=1):
+    """Keys that begin alike, on one shard and in one part of one bucket of it."""
+    alike = (key for number in itertools.count() if bucket_of(key := front + b"%d" % number) == 7 and part_of(key) == 5)
+    return list(itertools.islice((key for key in alike if shard_of(key, shards) == 0), count))
+
+
 def crowded_capture(draw, shards):
-    """A drawn capture on keys of one bucket, most of which are stored first."""
-    keys = one_bucket(40, shards=shards)
+    """A drawn capture on keys of one bucket, or of one part of it, most of which are stored first."""
+    keys = draw.choice((one_bucket, one_part))(40, shards=shards)
     stored = (b"set %s 0 0 1\r\n%d\r\n" % (key, draw.randrange(9)) for key in draw.sample(keys, draw.randrange(10, 41)))
     return drawn_capture(draw, shards, keys, [segment(0, b"".join(stored))])

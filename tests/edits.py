@@ -1,5 +1,5 @@
 """Edits of a run: of its entries, its holds and its outputs, each on its own."""
-from formats import Hold, capture, journal, replies_file, segment
+from zygos_tools.files.formats import Hold, capture, journal, replies_file, segment
 
 # two connections with five calls: set a, get a and get b of one command; set b, get a
 PAIR = capture(2, [segment(0, b"set a 0 0 1\r\nx\r\ngets a b\r\nversion\r\n"),

@@ -9,16 +9,13 @@ dropped    one in ten sets is answered STORED and forgotten
 mixed      the answers to commands that came together are sometimes sent in another order
 """
 import asyncio
-import os
 import random
 import sys
 import time
 
-sys.dont_write_bytecode = True
-sys.path.insert(0, os.path.join(os.path.dirname(os.path.dirname(os.path.realpath(__file__))), "tools"))
-from formats import Reply
-from meaning import Framer
-from model import Shard, call_of, text_of
+from zygos_tools.files.formats import Reply
+from zygos_tools.protocol.meaning import Framer
+from zygos_tools.protocol.model import Shard, call_of, text_of
 
 FAULTS = ("stale", "uncounted", "dropped", "mixed")
 # how old the copy of a replica is, in seconds

@@ -9,19 +9,18 @@ The order that the judge has found says who saw whose work. A lie is planted onl
 is answered was overwritten before the command began, or was stored after it had ended. Its value is one that a single
 command stores, so nobody else can have stored it.
 """
-import os
 import random
 import sys
 import time
 from bisect import bisect_right
 from collections import Counter, namedtuple
 
-sys.dont_write_bytecode = True
-sys.path.insert(0, os.path.join(os.path.dirname(os.path.dirname(os.path.realpath(__file__))), "tools"))
-from formats import Part, replies_records, replies_version
-from judging.events import ADD, CAS, DELETE, FLUSH, FOREVER, GET, INCR, SET, Verdict
-from judging.judge import Judge
-from judging.seeing import items_of
+from zygos_tools.files.formats import replies_records, replies_version
+from zygos_tools.files.part import Part
+from zygos_tools.judging.events import ADD, CAS, DELETE, FLUSH, FOREVER, GET, INCR, SET, Verdict
+from zygos_tools.judging.judge import Judge
+from zygos_tools.judging.seeing import all_items
+from zygos_tools.judging.table import VERBS
 
 # a lie: what it is, and the answers that it puts in place of others, by their commands
 Lie = namedtuple("Lie", "kind answers")
@@ -39,11 +38,30 @@ class Liar:
         self.capture, self.outputs = capture, outputs_of(replies)
         judge = Judge(capture, self.outputs)
         judge.run()
-        self.recording, self.keys = judge.recording, judge.keys
-        self.stored = Counter(event.item for some in self.keys.events.values() for event in some if self.is_store(event))
+        self.recording, self.keys, self.table = judge.recording, judge.keys, judge.table
+        self.events = {key: self.keys.view(key).events for key in self.keys.names}
+        self.stored = Counter(self.item(event) for some in self.events.values() for event in some if self.is_store(event))
         self.reads, self.seen = [], {}
         for key in sorted(self.keys.found):
-            self.walk(self.keys.found[key])
+            self.walk(self.keys.placed(key))
+
+    @staticmethod
+    def item(event):
+        return event.flags, event.value
+
+    def verb_of(self, asked):
+        return VERBS[self.table.verb[asked.id]]
+
+    def verb(self, event):
+        return VERBS[self.table.verb[event.command]]
+
+    def keys_of(self, asked):
+        return self.table.meaning(asked.id).keys
+
+    def all_asked(self):
+        """The commands of each connection."""
+        for some in self.recording.of_connection:
+            yield [self.table.asked(one) for one in some]
 
     def is_store(self, event):
         return event.kind in (SET, ADD, CAS) and event.want in ("stored", None)
@@ -51,13 +69,13 @@ class Liar:
     def is_alone(self, event):
         """Whether nobody else can have stored what a call surely stored."""
         is_sure = event.kind == SET or event.want == "stored"
-        return is_sure and self.stored[event.item] == 1 and b"." in event.call.value
+        return is_sure and self.stored[self.item(event)] == 1 and b"." in event.value
 
     def walk(self, placed):
         """The stores of a key in their order, each with the reads that saw it."""
-        before, maker, self_seen = None, None, None
+        before, maker = None, None
         for event, is_change, _, _ in placed:
-            if event.kind == GET and event.want == "hit" and event.asked.command.verb == "get" and maker is not None and \
+            if event.kind == GET and event.want == "hit" and self.verb(event) == "get" and maker is not None and \
                     self.is_mine(event):
                 self.reads.append((event, maker, before))
                 self.seen.setdefault(maker, []).append(event)
@@ -65,15 +83,16 @@ class Liar:
                 before, maker = maker, event if self.is_store(event) and self.is_alone(event) else None
 
     def is_mine(self, event):
-        return not event.asked.original.startswith(b"gat") and len({*event.asked.command.keys}) == len(event.asked.command.keys)
+        keys = self.keys_of(event.asked)
+        return not event.asked.original.startswith(b"gat") and len({*keys}) == len(keys)
 
     # ---- answers
 
     def instead(self, event, store):
         """The answer to the command of a read, where it sees what another call stored; None for no item."""
         text = b""
-        for item in items_of(event.asked.answer)[0]:
-            flags, value = item.flags, item.value
+        for item, value in all_items(event.asked.answer):
+            flags = item.flags
             if item.key == event.key:
                 if store is None:
                     continue
@@ -82,7 +101,7 @@ class Liar:
         return text + b"END\r\n"
 
     def sees(self, event, store):
-        return {event.asked: self.instead(event, (store.call.flags, store.call.value))}
+        return {event.asked: self.instead(event, self.item(store))}
 
     # ---- kinds of lies
 
@@ -118,7 +137,7 @@ class Liar:
 
     def swapped(self):
         """Two clients get each other's answers."""
-        alone = [one for one in self.reads if len(one[0].asked.events) == 1]
+        alone = [one for one in self.reads if self.table.count_of_calls(one[0].command) == 1]
         for (event, maker, _), (other, later, _) in zip(alone, alone[1:]):
             if event.key == other.key and maker is not later and maker.end < later.begin and later.end < other.begin and \
                     event.connection != other.connection:
@@ -126,27 +145,27 @@ class Liar:
 
     def mixed(self):
         """A client gets the answers to two commands the other way round."""
-        for asked in self.recording.asked.values():
+        for asked in self.all_asked():
             for one, other in zip(asked, asked[1:]):
-                if one.answer and other.answer and one.command.verb == other.command.verb == "get" and \
-                        not {*one.command.keys} & {*other.command.keys} and len(one.answer) + len(other.answer) > 10:
+                if one.answer and other.answer and self.verb_of(one) == self.verb_of(other) == "get" and \
+                        not {*self.keys_of(one)} & {*self.keys_of(other)} and len(one.answer) + len(other.answer) > 10:
                     yield {one: other.answer, other: one.answer}
 
     def missed(self):
         """A read misses an item that was surely there."""
-        for key, events in sorted(self.keys.events.items()):
+        for key, events in sorted(self.events.items()):
             if not any(event.kind in (DELETE, FLUSH) for event in events):
                 first = min((event.end for event in events if event.kind == SET), default=FOREVER)
                 for event in events:
-                    if event.kind == GET and event.asked.command.verb == "get" and event.want == "hit" and event.begin > first:
+                    if event.kind == GET and self.verb(event) == "get" and event.want == "hit" and event.begin > first:
                         yield {event.asked: self.instead(event, None)}
 
     def uncounted(self):
         """A count does not count: two give the same number, and nothing else has changed it."""
         for key in sorted(self.keys.found):
             last = None
-            for event, is_change, _, _ in self.keys.found[key]:
-                if event.kind == INCR and event.want == "number" and event.call.number:
+            for event, is_change, _, _ in self.keys.placed(key):
+                if event.kind == INCR and event.want == "number" and event.given:
                     if last is not None and self.only_counted(key, last, event):
                         yield {event.asked: b"%d\r\n" % last.number}
                     last = event
@@ -171,7 +190,7 @@ class Liar:
     def told(self, lie):
         """The outputs with a lie in them."""
         texts = {}
-        for some in self.recording.asked.values():
+        for some in self.all_asked():
             for asked in some:
                 texts.setdefault((asked.connection, asked.session), []).append(lie.answers.get(asked, asked.answer) or b"")
         return [one._replace(text=b"".join(texts.get(one[:2], []))) for one in self.outputs]

@@ -19,15 +19,12 @@ stats, version and verbosity as memcached has them, and
 """
 import argparse
 import asyncio
-import os
 import random
 import re
 import sys
 from collections import namedtuple
 
-sys.dont_write_bytecode = True
-sys.path.insert(0, os.path.join(os.path.dirname(os.path.dirname(os.path.realpath(__file__))), "tools"))
-from pace import NEVER, Answers, Commands, Pending
+from zygos_tools.protocol.pace import NEVER, Answers, Commands, Pending
 from thought import KINDS, Client
 
 FLEET = "get get get get get get get mget mget set set add delete"

@@ -27,9 +27,7 @@ import sys
 import tempfile
 import time
 
-sys.dont_write_bytecode = True
-sys.path.insert(0, os.path.join(os.path.dirname(os.path.dirname(os.path.realpath(__file__))), "tools"))
-from recorded import PacketFault, made, toeplitz
+from zygos_tools.recording.packets.recorded import PacketFault, made, toeplitz
 
 # ---- drawn files
 

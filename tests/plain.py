@@ -6,15 +6,14 @@ usage: tests/plain.py [--shards N] < FILES     (a capture, a journal and a repli
 Each cause is looked for as its definition reads, by going through everything again.
 """
 import argparse
-import os
 import sys
 from collections import namedtuple
 
-sys.dont_write_bytecode = True
-sys.path.insert(0, os.path.join(os.path.dirname(os.path.dirname(os.path.realpath(__file__))), "tools"))
-from formats import (MOST_HOLD, Entry, Fault, Hold, Output, Part, Segment,
-                     read_capture, read_end, read_journal, read_replies)
-from model import Shard, calls, commands_of, text_of
+from zygos_tools.files.formats import (MOST_HOLD, Entry, Hold, Output, Segment, read_capture, read_end, read_journal,
+                                       read_replies)
+from zygos_tools.files.part import Fault, Part
+from zygos_tools.protocol.meaning import commands_of
+from zygos_tools.protocol.model import Shard, calls, text_of
 
 # what is checked; `streams` has for each connection those of its sessions
 Given = namedtuple("Given", "shards streams entries holds outputs")

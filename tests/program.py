@@ -3,7 +3,8 @@ import os
 import subprocess
 import sys
 
-TOP = os.path.dirname(os.path.dirname(os.path.realpath(__file__)))
+from zygos_tools.repository import TOP
+
 ONE = ["run", "--cores", "1", "--threads", "1"]
 BOTH = ["--out", "both"]
 failures = []
@@ -14,8 +15,9 @@ def path():
     return sys.argv[1] if len(sys.argv) > 1 else os.path.join(TOP, "crates/zygos/out/zygos")
 
 
-def run(words, given, output=subprocess.PIPE):
-    return subprocess.run([path(), *words], input=given, stdout=output, stderr=subprocess.PIPE, timeout=120, check=False)
+def run(words, given, output=subprocess.PIPE, **how):
+    return subprocess.run([path(), *words], input=given, stdout=output, stderr=subprocess.PIPE, timeout=120, check=False,
+                          **how)
 
 
 def answer(words, given):
@@ -34,3 +36,14 @@ def same(name, wanted, got):
 
 def check(name, words, given, status, written, said=b""):
     same(name, (status, written, said), answer(words, given))
+
+
+def carry_out(name, part, fail):
+    """Carries out a part of a test and returns its answer. A part that hangs or ends early fails in a line of its own, so
+    that the later parts are carried out too."""
+    try:
+        return part()
+    except subprocess.TimeoutExpired as hung:
+        return fail(f"{name}: a program does not end in {hung.timeout:.0f} seconds")
+    except Exception as ended:  # pylint: disable=broad-exception-caught
+        return fail(f"{name}: ended early: {type(ended).__name__}: {ended}")

@@ -12,11 +12,10 @@ import random
 import subprocess
 import sys
 
-TOP = os.path.dirname(os.path.dirname(os.path.realpath(__file__)))
-sys.dont_write_bytecode = True
-sys.path.insert(0, os.path.join(TOP, "tools"))
-from formats import CALLS, REPLIES, Call, Entry, Fault, Hold, Part, Reply, journal, read_end, read_journal
-from model import tally
+from zygos_tools.files.formats import CALLS, REPLIES, Call, Entry, Hold, Reply, journal, read_end, read_journal
+from zygos_tools.files.part import Fault, Part
+from zygos_tools.protocol.model import tally
+from zygos_tools.repository import TOP
 
 KEYS = (b"a", b"b", b"ab", b"k" * 250)
 

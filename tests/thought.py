@@ -6,9 +6,9 @@ memcached does otherwise: it pads numbers, its uniques are of one count, and it 
 import heapq
 import random
 
-from formats import END, Output, capture_start, close, replies_file, segment
-from meaning import Command, Framer
-from model import Shard, call_of, text_of
+from zygos_tools.files.formats import END, Output, capture_start, close, replies_file, segment
+from zygos_tools.protocol.meaning import Command, Framer
+from zygos_tools.protocol.model import Shard, call_of, text_of
 
 USUAL = "get get get mget gets set set setq add delete cas cas incr incrq decr append prepend number mg ms"
 WIDE = USUAL + " md quiet touch touchq gat gats stats version verbosity fault"

@@ -1,66 +1,20 @@
-"""Servers and clients of the tests of recording and playing, and how these tests report."""
+"""Servers and clients of the tests of recording and playing. Nothing here goes by time: what is waited for is a condition."""
 import asyncio
 import contextlib
-import importlib.machinery
 import os
+import select
 import shutil
 import signal
 import socket
 import subprocess
 import sys
-import tempfile
 import threading
 import time
-import types
 
-TOP = os.path.dirname(os.path.dirname(os.path.realpath(__file__)))
-sys.dont_write_bytecode = True
-sys.path.insert(0, os.path.join(TOP, "tools"))
-from formats import Part, Segment, read_capture, read_replies
-
-# how memcached is installed, without being started
-INSTALL = """export RUNLEVEL=1 DEBIAN_FRONTEND=noninteractive
-quick='-o Acquire::Retries=0 -o Acquire::http::Timeout=5'
-apt-get $quick install -y memcached || { apt-get $quick update && apt-get $quick install -y memcached; }"""
-NAME = "tests/" + os.path.basename(sys.argv[0])
-failures = []
-
-
-def fail(name, why):
-    failures.append(name)
-    print(f"{NAME}: {name}: {why}")
-
-
-def brief(value):
-    text = repr(value)
-    return text if len(text) < 400 else f"{text[:200]} .. {text[-100:]}"
-
-
-def same(name, wanted, got):
-    if wanted != got:
-        fail(name, f"wanted {brief(wanted)}, got {brief(got)}")
-
-
-def module_of(tool):
-    """A tool as a module."""
-    loader = importlib.machinery.SourceFileLoader(tool, os.path.join(TOP, "tools", tool))
-    module = types.ModuleType(tool)
-    loader.exec_module(module)
-    return module
-
-
-def all_of(*parts):
-    """Carries out the tests, and ends as they did."""
-    with tempfile.TemporaryDirectory() as folder:
-        os.chdir(folder)
-        for part in parts:
-            for name in os.listdir("."):
-                os.unlink(name)
-            part()
-        os.chdir("/")
-    print(f"{NAME}: {len(failures)} failed" if failures else f"{NAME}: ok")
-    sys.exit(1 if failures else 0)
-
+from checks import fail, skip
+from zygos_tools.files.formats import Segment, read_capture, read_replies
+from zygos_tools.files.part import Part
+from zygos_tools.repository import TOP
 
 # ---- servers
 
@@ -73,11 +27,12 @@ def free_port():
 
 class Server:
     """A small memcached: `set`, `get`, `gets`, `cas`, `mg` with `q` and `c`, `ms` with `C`, `mn` and `quit`; `big N` is
-    answered by an item of N bytes, `wait S` after S seconds, `hush` never, and `echo N` by the N bytes after it. The
-    first unique is that after `unique`. It is in a thread of its own."""
+    answered by an item of N bytes, `hold` once the test calls `release`, `hush` never, and `echo N` by the N bytes after
+    it. The first unique is that after `unique`. It is in a thread of its own."""
 
     def __init__(self, place=("127.0.0.1", 0), unique=0):
-        self.items, self.uniques, self.unique, self.hushed = {}, {}, unique, 0
+        self.items, self.uniques, self.unique, self.hushed, self.held = {}, {}, unique, 0, 0
+        self.released = asyncio.Event()
         self.writers, self.loop = set(), asyncio.new_event_loop()
         threading.Thread(target=self.loop.run_forever, daemon=True).start()
         self.listening = self.do(self.listen(place))
@@ -91,6 +46,10 @@ class Server:
         if isinstance(place, str):
             return await asyncio.start_unix_server(self.serve, place, backlog=4096)
         return await asyncio.start_server(self.serve, *place, backlog=4096)
+
+    def release(self):
+        """Lets commands `hold` be answered."""
+        self.loop.call_soon_threadsafe(self.released.set)
 
     def __enter__(self):
         return self
@@ -147,8 +106,9 @@ class Server:
                 return b"MN\r\n"
             case [b"big", size]:
                 return big(int(size))
-            case [b"wait", seconds]:
-                await asyncio.sleep(float(seconds))
+            case [b"hold"]:
+                self.held += 1
+                await self.released.wait()
                 return b"OK\r\n"
             case [b"echo", size]:
                 writer.write(b"VALUE echo 0 %s\r\n" % size)
@@ -170,31 +130,42 @@ def big(size):
 
 @contextlib.contextmanager
 def memcached():
-    """A real memcached, by its place; None where there is none. It is installed where that can be done."""
-    if not shutil.which("memcached") and os.geteuid() == 0 and shutil.which("apt-get"):
-        with contextlib.suppress(subprocess.TimeoutExpired):
-            subprocess.run(["bash", "-c", INSTALL], stdin=subprocess.DEVNULL, capture_output=True, timeout=60,
-                           check=False)
+    """A real memcached, by its place; where there is none, the rest of the test is left out."""
     if not shutil.which("memcached"):
-        print(f"{NAME}: memcached is not installed: no test with it")
-        yield None
-        return
-    port = free_port()
+        skip("memcached is not installed")
     user = ["-u", "nobody"] if os.geteuid() == 0 else []
-    with subprocess.Popen(["memcached", "-l", "127.0.0.1", "-p", str(port), *user], stderr=subprocess.DEVNULL) as one:
+    while True:  # until the port is still free as memcached takes it
+        port = free_port()
+        process = subprocess.Popen(["memcached", "-l", "127.0.0.1", "-p", str(port), *user], stderr=subprocess.DEVNULL)
+        if is_listening(process, port):
+            break
+    with process:
         try:
-            connected(f"127.0.0.1:{port}").close()
             yield f"127.0.0.1:{port}"
         finally:
-            one.terminate()
+            process.terminate()
+
+
+def is_listening(process, port):
+    """Waits until a memcached listens, or has ended. Gives whether it listens."""
+    while process.poll() is None:
+        with contextlib.suppress(OSError), socket.create_connection(("127.0.0.1", port)) as one:
+            one.sendall(b"version\r\n")
+            if take(one, 7) == b"VERSION" and process.poll() is None:
+                return True
+        time.sleep(0.02)
+    return False
 
 
 # ---- clients
 
+# how often it is looked whether something is so, each 0.05 seconds
+PATIENCE = 2400
+
 
 def connected(place):
     """A connection to a place, as soon as something listens there."""
-    for _ in range(200):
+    for _ in range(PATIENCE):
         with contextlib.suppress(OSError):
             if "/" in place:
                 one = socket.socket(socket.AF_UNIX)
@@ -210,7 +181,7 @@ def connected(place):
 
 def until(name, is_so):
     """Waits until something is so."""
-    for _ in range(600):
+    for _ in range(PATIENCE):
         if is_so():
             return
         time.sleep(0.05)
@@ -267,7 +238,8 @@ class Recorder:
     def __init__(self, server, *words, listen="127.0.0.1:0", files=("my.cap", "my.replies"), tool=("tools/record",),
                  **more):
         given = ["--over", "--listen", listen, "--server", server, *words, *files]
-        self.process = subprocess.Popen([os.path.join(TOP, tool[0]), *tool[1:], *given], stderr=subprocess.PIPE, **more)
+        command = [os.path.join(TOP, tool[0]), *tool[1:], *given]
+        self.process = subprocess.Popen(command, stderr=subprocess.PIPE, bufsize=0, **more)
         self.first = self.process.stderr.readline().decode()
         self.place = self.first.rsplit(" ", 1)[-1].strip()
         self.said = None
@@ -279,10 +251,24 @@ class Recorder:
         self.said = self.process.communicate(timeout=300)[1].decode()
         return self.process.returncode, self.said
 
+    def line(self):
+        """The next line that it says."""
+        ready, _, _ = select.select([self.process.stderr], [], [], 120)
+        return self.process.stderr.readline().decode() if ready else ""
+
     def most_memory(self):
         """The most memory that it had, in bytes."""
         with open(f"/proc/{self.process.pid}/status", encoding="ascii") as file:
             return next(int(line.split()[1]) << 10 for line in file if line.startswith("VmHWM"))
+
+
+def patched(tool, change):
+    """A tool with another limit, as words to be run."""
+    paths = [os.path.join(TOP, name) for name in ("tools", f"tools/{tool}")]
+    with open("tool.py", "w", encoding="utf-8") as file:
+        file.write(f"import runpy, sys\nsys.path.insert(0, {paths[0]!r})\nsys.argv[0] = {paths[1]!r}\n{change}\n"
+                   f"runpy.run_path({paths[1]!r}, run_name='__main__')\n")
+    return sys.executable, "tool.py"
 
 
 def files_of(capture="my.cap", replies="my.replies"):

@@ -1,7 +1,7 @@
 // How the threads of a run wait for each other: a model of all that they share, explored state by state.
 //
 // One transition is one atomic step on something that two threads share, with the work on the thread's own values up to
-// its next such step. docs/THREADS.md ("A model of the waits") says what functions of the source each transition is.
+// its next such step. tests/waits.md says what functions of the source each transition is.
 // All steps are sequentially consistent. What only one of two threads can change is looked at together with the
 // step that follows the look: an item that an end of a ring knows stays there, and so does a free slot.
 //

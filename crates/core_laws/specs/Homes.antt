@@ -14,7 +14,7 @@ use Rattle.zy_table.specs.declared.name.Name.{Name}
 
 -- ---- the outputs of sessions
 
--- the texts of each of these sessions, where the first command has this index, from the replies of
+-- the texts of each of these sessions, if the first command has this index, from the replies of
 -- these entries
 abbrev pub outputs_from : ℕ → List (List ℕ) → List Entry → List (List (List ℕ))
 outputs_from index [] entries = []

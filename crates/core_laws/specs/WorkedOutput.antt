@@ -1,4 +1,4 @@
--- A worked output.
+-- An example output.
 use Rattle.std.specs.Prelude.{ℕ, List, [], ◌∷◌, codes}
 use Rattle.zy_calls.specs.Batch.{Batch}
 use Rattle.zy_calls.specs.Output.{Output, nothing_sent}

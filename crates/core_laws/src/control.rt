@@ -22,7 +22,7 @@ pub fn done_is_at_most_the_number_of_cores()
     ensures value { (cores : ℕ) (s : State ℕ View) → ControlRule cores s → slice_index s.words 0 ≤ cores }
 {}
 
-/// The bit of sleepers with the number of a core is 1 exactly where its seat has announced itself.
+/// The bit of sleepers with the number of a core is 1 if and only if its seat has announced itself.
 pub fn the_bit_of_a_core_is_set_exactly_where_it_has_announced_itself()
     ensures value { (cores : ℕ) (s : State ℕ View) (j number : ℕ) (v : View) (counted announced : Bool)
         → ControlRule cores s → get_elem? s.views j ≡ some v → v.role ≡ Core number counted announced

@@ -19,7 +19,7 @@ pub fn a_block_given_back_leaves_the_hands<T: Marked>()
         → GivesTo q r core place given → seats_of r.items ≡ seats_of p.items }
 {}
 
-/// Worked orders: the cores that a core looks at in a steal call, by the number of cores, its own
+/// Example orders: the cores that a core looks at in a steal call, by the number of cores, its own
 /// number, and the number of its earlier calls.
 pub fn worked_orders()
     ensures alone { order_of 1 0 7 ≡ [] }

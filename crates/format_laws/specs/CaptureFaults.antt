@@ -1,6 +1,6 @@
 -- The faults of a capture, docs/FORMATS.md, "Capture": what a text is that has one of them. Each comes after bytes that
--- spell the beginning of a capture, where the first wrong byte or number follows. That the verdict on a text is bad
--- with a fault exactly where the text has it is a law in src/captures.rt.
+-- encode the beginning of a capture, if the first wrong byte or number follows. That the verdict on a text is bad
+-- with a fault if and only if the text has it is a law in src/captures.rt.
 use Rattle.zy_capture.specs.Capture.{front_text, letters, capture_magic, spelling, IsCapture, Spells, capture_limit}
 use Rattle.zy_capture.specs.Capture.{connection_limit, segment_limit}
 use Rattle.std.specs.Prelude.{◌≡◌, ◌⊎◌, ℕ, ◌+◌, ◌^◌, ◌<◌, ◌≤◌, List, ◌∷◌, ◌++◌, length}
@@ -110,7 +110,7 @@ pub record IsTruncated (text : List ℕ) (at : ℕ) : Type 0 where
   pub place : at ≡ length text
   pub begun : IsBegun text
 
--- the text has a further byte after the largest number that a capture may have, and these do not
+-- the text has another byte after the largest number that a capture may have, and these do not
 -- reach the end byte
 pub record IsTooLong (text : List ℕ) : Type 0 where
   pub front : List ℕ

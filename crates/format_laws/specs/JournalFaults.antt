@@ -1,6 +1,6 @@
 -- The faults of a journal, docs/FORMATS.md, "Journal": what a text is that has one of them. Each comes after bytes that
--- spell the beginning of a journal, where the first field follows that is not lawful there. That the verdict on a text
--- is bad with a fault exactly where the text has it is a law in src/journals.rt.
+-- encode the beginning of a journal, if the first field follows that is invalid there. That the verdict on a text
+-- is bad with a fault if and only if the text has it is a law in src/journals.rt.
 use Rattle.zy_journal_reader.specs.Verdict.{journal_front, IsReadable, SpellsJournal}
 use Rattle.std.specs.Prelude.{◌≡◌, ◌⊎◌, ℕ, ◌+◌, ◌^◌, ◌<◌, ◌≤◌, List, [], ◌∷◌, ◌++◌, length}
 use Rattle.std.specs.Int.{to_be_bytes, w32}
@@ -49,7 +49,7 @@ pub record IsBadJournalTag (text : List ℕ) (at : ℕ) : Type 0 where
   pub no_end : byte ≡ 69 → ⊥
   pub within : at < journal_limit
 
--- the number in a field of an entry is not lawful; what comes before it is
+-- the number in a field of an entry is invalid; what comes before it is
 pub record IsBadEntry (text : List ℕ) (at : ℕ) : Type 0 where
   pub journal : Journal
   pub no_hold : journal.holds ≡ []
@@ -65,7 +65,7 @@ pub record IsBadEntry (text : List ℕ) (at : ℕ) : Type 0 where
   pub place : at ≡ tag_at + length (before field entry)
   pub within : at + length (number_text (shape_of field) number) ≤ journal_limit
 
--- the number in a field of a hold is not lawful; what comes before it is
+-- the number in a field of a hold is invalid; what comes before it is
 pub record IsBadHold (text : List ℕ) (at : ℕ) : Type 0 where
   pub journal : Journal
   pub field : HoldField
@@ -109,7 +109,7 @@ pub record IsTruncatedJournal (text : List ℕ) (at : ℕ) : Type 0 where
   pub place : at ≡ length text
   pub begun : IsBegunJournal text
 
--- the text has a further byte after the largest number that a journal may have, and these do not
+-- the text has another byte after the largest number that a journal may have, and these do not
 -- reach the end byte
 pub record IsTooLongJournal (text : List ℕ) : Type 0 where
   pub front : List ℕ

@@ -1,5 +1,5 @@
 -- The fields of a journal that can be wrong, docs/FORMATS.md, "Journal": what comes before each in its entry or hold,
--- and which numbers are lawful there.
+-- and which numbers are valid there.
 use Rattle.std.specs.Prelude.{ℕ, ◌^◌, ◌<◌, ◌≤◌, List, [], ◌∷◌, ◌++◌, Option, None, Some, IsSome, ⊤}
 use Rattle.std.specs.Int.{to_be_bytes, w32, w64}
 use Rattle.zy_base.specs.declared.entry.Entry.{Entry}
@@ -46,7 +46,7 @@ pub data EntryField : Type 0 where
   ReplyCode : EntryField
   FoundLength : EntryField
 
--- how each is spelled
+-- how each is encoded
 abbrev pub shape_of : EntryField → Shape
 shape_of Stamp = Eight
 shape_of Shard = Four
@@ -87,7 +87,7 @@ abbrev pub IsNotBelow : Option Entry → ℕ → Type 0
 IsNotBelow None stamp = ⊤
 IsNotBelow (Some last) stamp = last.stamp ≤ stamp
 
--- which numbers are lawful there, after the last entry before this one
+-- which numbers are valid there, after the last entry before this one
 abbrev pub IsLawfulNumber : EntryField → Option Entry → Entry → ℕ → Type 0
 IsLawfulNumber Stamp last e n = (0 < n) × (n < stamp_limit) × IsNotBelow last n
 IsLawfulNumber Shard last e n = (n < shard_limit) × IsBehind last (record e { shard = n })
@@ -105,7 +105,7 @@ pub record IsNextEntry (last : Option Entry) (e : Entry) : Type 0 where
   pub fits : FitsEntry e
   pub comes : IsBehind last e
 
--- what an entry has before a field is lawful: nothing, its stamp, or the first fields of an entry
+-- what an entry has before a field is valid: nothing, its stamp, or the first fields of an entry
 -- that may come next
 abbrev pub IsLawfulUpTo : EntryField → Option Entry → Entry → Type 0
 IsLawfulUpTo Stamp last e = ⊤
@@ -130,13 +130,13 @@ abbrev pub IsNotFalling : Option Hold → ℕ → Type 0
 IsNotFalling None conn = ⊤
 IsNotFalling (Some last) conn = last.conn ≤ conn
 
--- which numbers are lawful there, after the last hold before this one
+-- which numbers are valid there, after the last hold before this one
 abbrev pub IsLawfulInHold : HoldField → Option Hold → ℕ → Type 0
 IsLawfulInHold OfConnection last n = (n < connection_limit) × IsNotFalling last n
 IsLawfulInHold OfCore last n = n < core_limit
 IsLawfulInHold OfCount last n = (1 ≤ n) × (n ≤ hold_limit)
 
--- what a hold has before a field is lawful
+-- what a hold has before a field is valid
 abbrev pub IsHoldUpTo : HoldField → Option Hold → Hold → Type 0
 IsHoldUpTo OfConnection last h = ⊤
 IsHoldUpTo OfCore last h = IsLawfulInHold OfConnection last h.conn

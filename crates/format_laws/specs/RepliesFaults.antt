@@ -1,6 +1,6 @@
 -- The faults of a replies file, docs/FORMATS.md, "Replies": what a text is that has one of them. Each comes after bytes
--- that spell the beginning of a replies file, where the first wrong byte or number follows. That the verdict on a text
--- is bad with a fault exactly where the text has it is a law in src/replies.rt.
+-- that encode the beginning of a replies file, if the first wrong byte or number follows. That the verdict on a text
+-- is bad with a fault if and only if the text has it is a law in src/replies.rt.
 use Rattle.zy_capture.specs.Replies.{front_text, connections_after, sessions_after, letters, spelling, IsNextSession}
 use Rattle.zy_capture.specs.Replies.{IsRepliesFile, SpellsReplies, replies_limit}
 use Rattle.std.specs.Prelude.{◌≡◌, ◌⊎◌, ℕ, ◌+◌, ◌^◌, ◌<◌, ◌≤◌, List, ◌∷◌, ◌++◌, length}
@@ -22,14 +22,14 @@ pub record RepliesGoOn (text : List ℕ) (version : ℕ) (items : List SessionBy
 
 -- ---- lawful numbers
 
--- after these records one of this connection is lawful: it is the next connection or, in version 2,
+-- after these records one of this connection is valid: it is the next connection or, in version 2,
 -- the last one again
 abbrev pub IsLawfulConnection : ℕ → List SessionBytes → ℕ → Type 0
 IsLawfulConnection version items conn =
     (conn < connection_limit)
     × ((conn ≡ connections_after 0 items) ⊎ ((version ≡ 2) × (conn + 1 ≡ connections_after 0 items)))
 
--- after these records this session of a connection is lawful: it is the expected one
+-- after these records this session of a connection is valid: it is the expected one
 abbrev pub IsLawfulSession : ℕ → List SessionBytes → ℕ → ℕ → Type 0
 IsLawfulSession version items conn session =
     IsNextSession version (connections_after 0 items) (sessions_after 0 items) conn session × (session < 2 ^ 31)
@@ -47,7 +47,7 @@ pub record IsBadTag (text : List ℕ) (at : ℕ) : Type 0 where
   pub no_end : byte ≡ 69 → ⊥
   pub within : at < replies_limit
 
--- the connection of a record is not lawful
+-- the connection of a record is invalid
 pub record IsBadConnection (text : List ℕ) (at : ℕ) : Type 0 where
   pub version : ℕ
   pub items : List SessionBytes
@@ -60,7 +60,7 @@ pub record IsBadConnection (text : List ℕ) (at : ℕ) : Type 0 where
   pub fits : number < 2 ^ 32
   pub within : at + 3 < replies_limit
 
--- in version 2, the session of a record whose connection is lawful is not
+-- in version 2, the session of a record whose connection is valid is not
 pub record IsBadSession (text : List ℕ) (at : ℕ) : Type 0 where
   pub version : ℕ
   pub second : version ≡ 2
@@ -106,7 +106,7 @@ pub record IsTruncated (text : List ℕ) (at : ℕ) : Type 0 where
   pub place : at ≡ length text
   pub begun : IsBegun text
 
--- the text has a further byte after the largest number that a replies file may have, and these do
+-- the text has another byte after the largest number that a replies file may have, and these do
 -- not reach the end byte
 pub record IsTooLong (text : List ℕ) : Type 0 where
   pub front : List ℕ

@@ -1,4 +1,4 @@
--- A worked journal, docs/FORMATS.md, "Journal".
+-- An example journal, docs/FORMATS.md, "Journal".
 use Rattle.std.specs.Prelude.{ℕ, List, [], ◌∷◌}
 use Rattle.zy_base.specs.declared.call.Call.TheVariants as Calls
 use Rattle.zy_base.specs.declared.call_reply.CallReply.TheVariants as Answers

@@ -24,7 +24,7 @@ behind_entry text =
 abbrev pub behind_hold : List ℕ → List ℕ
 behind_hold text = with_magic (codes "H\0\0\0\u{1}\0\0\0\0\0\0\0\u{1}" ++ text)
 
--- the fault that a text meets after the first `at` bytes of a journal, where a record is expected
+-- the fault that a text meets after the first `at` bytes of a journal, if a record is expected
 abbrev pub met_in_journal : ℕ → List ℕ → Option FileFault
 met_in_journal at text =
     (journal_read_from (at_state (record journal_start { due = Dues.Byte Fields.Tag }) at) text).last.fault

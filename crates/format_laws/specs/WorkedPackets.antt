@@ -1,4 +1,4 @@
--- A worked file: a SYN, and two packets with payload in the wrong order; its packets and its capture.
+-- An example file: a SYN, and two packets with payload in the wrong order; its packets and its capture.
 use Rattle.std.specs.Prelude.{ℕ, List, [], ◌∷◌, true, false}
 use Rattle.zy_pcap.specs.Packet.{Packet}
 

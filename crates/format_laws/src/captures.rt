@@ -18,13 +18,13 @@ ghost use Rattle.zy_capture.specs.Standing.{StandsForRecords};
 ghost use Rattle.zy_capture.specs.Streams.{closes, stream, sessions_of, no_bytes, with_record, with_records};
 ghost use Rattle.format_laws.specs.WorkedCaptures as Worked;
 
-/// The verdict on a text is bad with a fault exactly where the text has that fault.
+/// The verdict on a text is bad with a fault if and only if the text has that fault.
 pub fn a_capture_is_bad_exactly_where_it_has_a_fault()
     ensures exactly { (text : List ℕ) (fault : CaptureFault) → AreBytes text
         → verdict text ≡ Bad fault ↔ HasFaultAsCapture text fault }
 {}
 
-/// While a good capture is read, its version, its count and its records are those that it spells.
+/// While a good capture is read, its version, its count and its records are those that it encodes.
 pub fn a_good_capture_tells_its_parts()
     ensures version { (text : List ℕ) (version count : ℕ) (items : List Record) → AreBytes text
         → verdict text ≡ Good version count items → version_of text ≡ Some version }
@@ -111,7 +111,7 @@ pub fn a_capture_has_few_streams()
 
 // ---- worked files, in which each character is the byte of its code
 
-/// Worked captures, and the streams of their connections.
+/// Example captures, and the streams of their connections.
 #[tactic(auto, unfolding(zy_read::specs::Format::verdict_on, zy_read::specs::Format::reading_of, zy_read::specs::Format::read_on))]
 pub fn worked_captures()
     ensures none { verdict (codes "ZYGCAP1\n\0\0\0\0E") ≡ Good 1 0 [] }
@@ -125,7 +125,7 @@ pub fn worked_captures()
         ≡ (codes "ab" ∷ codes "c" ∷ []) ∷ ([] ∷ [] ∷ []) ∷ [] }
 {}
 
-/// Worked captures that are cut, or have a fault in their magic or their count.
+/// Example captures that are cut, or have a fault in their magic or their count.
 #[tactic(auto, unfolding(zy_read::specs::Format::verdict_on, zy_read::specs::Format::reading_of, zy_read::specs::Format::read_on))]
 pub fn worked_heads()
     ensures none { verdict [] ≡ Bad (Faults.Truncated 0) }
@@ -139,7 +139,7 @@ pub fn worked_heads()
     ensures greatest { verdict (codes "ZYGCAP2\nÿÿÿÿE") ≡ Bad (Faults.ConnCount 4294967295) }
 {}
 
-/// Worked captures with a fault in a record or at the end, and captures of too many bytes.
+/// Example captures with a fault in a record or at the end, and captures of too many bytes.
 #[tactic(auto, unfolding(zy_read::specs::Format::verdict_on, zy_read::specs::Format::reading_of, zy_read::specs::Format::read_on))]
 pub fn worked_records()
     ensures tag { verdict (codes "ZYGCAP1\n\0\0\0\u{1}x") ≡ Bad (Faults.BadTag 12 120) }

@@ -21,7 +21,7 @@ ghost use Rattle.format_laws.specs.JournalFaults.{HasFaultAsJournal};
 ghost use Rattle.zy_journal_reader.specs.Standing.{StandsForJournal};
 ghost use Rattle.format_laws.specs.WorkedJournals.{with_magic, with_call, behind_entry, behind_hold, met_in_journal};
 
-/// The worked journal of the format has its 114 bytes.
+/// The example journal of the format has its 114 bytes.
 pub fn the_worked_journal_has_its_bytes()
     ensures value { journal_bytes worked ≡ worked_bytes }
 {}
@@ -36,7 +36,7 @@ pub fn a_journal_has_few_bytes()
         ≤ 9 + length journal.entries * (2 ^ 22 - 1) + length journal.holds * 13 }
 {}
 
-/// The verdict on a text as a journal is bad with a fault exactly where the text has that fault.
+/// The verdict on a text as a journal is bad with a fault if and only if the text has that fault.
 pub fn a_journal_is_bad_exactly_where_it_has_a_fault()
     ensures exactly { (text : List ℕ) (fault : FileFault) → AreBytes text
         → journal_verdict text ≡ Bad fault ↔ HasFaultAsJournal text fault }
@@ -81,7 +81,7 @@ pub fn how_a_journal_is_cut_does_not_matter()
         → FeedsPieces journals old new pieces gave → Feeds journals old new (concat pieces) gave }
 {}
 
-/// Worked journals: one that is good, others with a fault in their magic, in a hold or after the
+/// Example journals: one that is good, others with a fault in their magic, in a hold or after the
 /// end, and journals of too many bytes.
 #[tactic(auto, unfolding(zy_read::specs::Format::verdict_on, zy_read::specs::Format::reading_of, zy_read::specs::Format::read_on))]
 pub fn worked_journals()
@@ -102,7 +102,7 @@ pub fn worked_journals()
         ≡ Some (Form 9223372036854775807) }
 {}
 
-/// Worked journals with a fault in an entry.
+/// Example journals with a fault in an entry.
 #[tactic(auto, unfolding(zy_read::specs::Format::verdict_on, zy_read::specs::Format::reading_of, zy_read::specs::Format::read_on))]
 pub fn worked_entries()
     ensures no_stamp { journal_verdict (with_magic (codes "J\0\0\0\0\0\0\0\0")) ≡ Bad (Form 9) }
@@ -125,7 +125,7 @@ pub fn worked_entries()
     ensures cut { journal_verdict (with_call (codes "\u{1}úa")) ≡ Bad (Truncated 40) }
 {}
 
-/// Worked journals with a code of no kind of calls or replies: 0, and the first one after the last kind.
+/// Example journals with a code of no kind of calls or replies: 0, and the first one after the last kind.
 #[tactic(auto, unfolding(zy_read::specs::Format::verdict_on, zy_read::specs::Format::reading_of, zy_read::specs::Format::read_on))]
 pub fn worked_codes()
     ensures no_call { journal_verdict (with_call (0 ∷ [])) ≡ Bad (Form 37) }

@@ -13,7 +13,7 @@ ghost use Rattle.zy_pcap.specs.Steps.{file_limit};
 ghost use Rattle.zy_pcap.specs.Sizes.{payload_bytes, file_header, record_bytes};
 ghost use Rattle.format_laws.specs.WorkedPackets.{worked_file, worked_packets, worked_capture};
 
-/// The worked file has its packets, and these make its capture.
+/// The example file has its packets, and these make its capture.
 pub fn the_worked_file_makes_its_capture()
     ensures file { packets 1766 worked_file ≡ Packets worked_packets }
     ensures capture { pcap_capture worked_packets ≡ worked_capture }
@@ -38,7 +38,7 @@ pub fn a_file_is_what_its_fields_say()
         → HasFault (packet_fields port) bytes s fault → packets port bytes ≡ Bad fault }
 {}
 
-/// A packet changes no stream where each of its bytes has an offset at which an earlier packet of the
+/// A packet changes no stream if each of its bytes has an offset at which an earlier packet of the
 /// session has a byte; so a retransmission changes none.
 pub fn a_copy_changes_no_stream()
     ensures covered { (first packet : Packet) (before after : List Packet)
@@ -50,7 +50,7 @@ pub fn a_copy_changes_no_stream()
         ≡ stream_of_packets first ((before ++ packet ∷ between) ++ after) }
 {}
 
-/// Two packets of a session may be exchanged, where they have the same byte at each offset at which
+/// Two packets of a session may be exchanged, if they have the same byte at each offset at which
 /// both have one: the order of packets matters only for which copy is the first one.
 pub fn the_order_of_packets_changes_no_stream()
     ensures order { (first one other : Packet) (before after : List Packet)

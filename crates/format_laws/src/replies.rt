@@ -20,7 +20,7 @@ ghost use Rattle.format_laws.specs.WorkedCaptures as Worked;
 
 // ---- replies files
 
-/// A text is a good replies file, with a version and outputs, exactly where it is their spelling,
+/// A text is a good replies file, with a version and outputs, if and only if it is their encoding,
 /// they are those of a replies file, and it has at most 2^63 - 1 bytes.
 pub fn a_replies_file_is_good_exactly_where_it_is_a_spelling()
     ensures exactly { (text : List ℕ) (version : ℕ) (items : List SessionBytes) → AreBytes text
@@ -28,7 +28,7 @@ pub fn a_replies_file_is_good_exactly_where_it_is_a_spelling()
         ↔ SpellsReplies text version items }
 {}
 
-/// The verdict on a text as a replies file is bad with a fault exactly where the text has that
+/// The verdict on a text as a replies file is bad with a fault if and only if the text has that
 /// fault.
 pub fn a_replies_file_is_bad_exactly_where_it_has_a_fault()
     ensures exactly { (text : List ℕ) (fault : FileFault) → AreBytes text
@@ -36,7 +36,7 @@ pub fn a_replies_file_is_bad_exactly_where_it_has_a_fault()
         ↔ RepliesFaults.HasFaultAsReplies text fault }
 {}
 
-/// While a good replies file is read, its version and its outputs are those that it spells.
+/// While a good replies file is read, its version and its outputs are those that it encodes.
 pub fn a_good_replies_file_tells_its_parts()
     ensures version { (text : List ℕ) (version : ℕ) (items : List SessionBytes) → AreBytes text
         → Replies.verdict text ≡ Replies.Verdict.Good version items

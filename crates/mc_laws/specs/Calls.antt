@@ -11,17 +11,17 @@ use Rattle.mc_parse.specs.Calls.{due, due_at, due_from}
 abbrev pub asked_by : List ShardCall → List Call
 asked_by calls = map (λ (call : ShardCall). call.call) calls
 
--- a call is on the shard of its key, where it has one
+-- a call is on the shard of its key, if it has one
 abbrev pub IsAtKey : ℕ → ShardCall → Type 0
 IsAtKey shards call = IfSome (key_of call.call) (λ key. call.shard ≡ shard_of key shards)
 
--- the calls of further commands are expected after those of the commands before them
+-- the calls of more commands are expected after those of the commands before them
 abbrev pub FollowAll : ℕ → ℕ → List Command → List Command → Type 0
 FollowAll shards connection front commands =
     due shards connection (front ++ commands)
     ≡ due shards connection front ++ due_from shards connection (length front) commands
 
--- the calls of one further command are expected after those of the commands before it
+-- the calls of one more command are expected after those of the commands before it
 abbrev pub FollowsAll : ℕ → ℕ → List Command → Command → Type 0
 FollowsAll shards connection commands command =
     due shards connection (commands ++ command ∷ [])

@@ -13,7 +13,7 @@ use Rattle.mc_parse.specs.Form.{metas, Form, form_of, line_form, faulty, asks}
 
 -- ---- lines
 
--- a line with one further word, by which it asks for no answer
+-- a line with one more word, by which it asks for no answer
 abbrev pub with_noreply : List ℕ → List ℕ
 with_noreply line = line ++ codes " noreply"
 
@@ -32,7 +32,7 @@ is_loud (asks ask quiet) = may_be_quiet ask && not quiet
 abbrev pub takes_noreply : List ℕ → Bool
 takes_noreply line = is_loud (line_form line)
 
--- what a line says is asked for without an answer
+-- what a line says is requested without an answer
 abbrev pub is_quiet : Form → Bool
 is_quiet (faulty line) = false
 is_quiet (asks ask quiet) = quiet

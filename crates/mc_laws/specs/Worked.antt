@@ -1,4 +1,4 @@
--- Worked lines, grouped by what they say. memcached's own answers to most of them were seen.
+-- Example lines, grouped by what they say. memcached's own answers to most of them were seen.
 use Rattle.std.specs.Prelude.{◌≡◌, ℕ, true, false, List, [], ◌∷◌, ◌++◌, map, codes}
 pub use Rattle.mc_laws.specs.WorkedMeta.{long_key}
 use Rattle.mc_parse.specs.declared.command.Command.{Command}
@@ -195,7 +195,7 @@ bad_lengths =
     ∷ codes "set a 0 0 000000000000000000001"
     ∷ []
 
--- uniques that are not a number below 2^64
+-- CAS values that are not a number below 2^64
 abbrev pub bad_uniques : List (List ℕ)
 bad_uniques =
     codes "cas a 0 0 1 x"
@@ -256,6 +256,6 @@ store_of verb = Store verb (codes "a") 3 (codes "v") false
 abbrev pub get_of_two : Command
 get_of_two = Get (codes "a" ∷ codes "b" ∷ []) false
 
--- the shards of a command's calls, where there are `shards` shards
+-- the shards of a command's calls, if there are `shards` shards
 abbrev pub shards_of : ℕ → Command → List ℕ
 shards_of count command = map (λ (call : ShardCall). call.shard) (calls_of count command)

@@ -1,4 +1,4 @@
--- Worked lines, grouped by what they say. Where memcached's own answer differs, the line is faulty by this project's
+-- Example lines, grouped by what they say. Where memcached's own answer differs, the line is faulty by this project's
 -- own rule.
 use Rattle.std.specs.Prelude.{◌≡◌, ℕ, List, [], ◌∷◌, ◌++◌, map, replicate, codes, None}
 use Rattle.mc_meta.specs.declared.meta_line.Span.{Span}
@@ -125,7 +125,7 @@ lines_with_a_bad_datalen =
     ∷ codes "ms a F5 1"
     ∷ []
 
--- a unique beside a mode other than set
+-- a CAS value beside a mode other than set
 abbrev pub lines_with_a_unique_and_a_mode : List (List ℕ)
 lines_with_a_unique_and_a_mode =
     codes "ms a 1 C5 ME"

@@ -63,7 +63,7 @@ pub fn a_fault_has_no_calls()
         → calls_of n (Command.Fault line quiet) ≡ [] }
 {}
 
-/// The calls of further commands are expected after those of the commands before them.
+/// The calls of more commands are expected after those of the commands before them.
 pub fn commands_are_due_in_order()
     ensures none { (shards connection : ℕ) → due shards connection [] ≡ [] }
     ensures more { (n c : ℕ) (commands : List Command) (last : Command)
@@ -73,7 +73,7 @@ pub fn commands_are_due_in_order()
         → All (IsDueOn n) (due n c commands) }
 {}
 
-/// The calls of further entries come after those of the entries before them.
+/// The calls of more entries come after those of the entries before them.
 pub fn entries_tell_what_was_due()
     ensures none { dues_of [] ≡ [] }
     ensures more { (entries : List Entry) (last : Entry)
@@ -82,7 +82,7 @@ pub fn entries_tell_what_was_due()
         → dues_of (front ++ entries) ≡ dues_of front ++ dues_of entries }
 {}
 
-/// Worked meta commands: what must come with a line, and faults, which are never quiet.
+/// Example meta commands: what must come with a line, and faults, which are never quiet.
 #[tactic(auto, unfolding(mc_meta::specs::Words::words, mc_meta::specs::Words::words_at, mc_parse::specs::Need::need, mc_parse::specs::Meaning::line_command, mc_parse::specs::Meaning::block_command, mc_parse::specs::Meaning::large_command))]
 pub fn worked_meta_commands()
     ensures noop { Means (codes "mn") (Command.Meta Metas.Noop) }
@@ -101,7 +101,7 @@ pub fn worked_meta_commands()
     ensures large { large_command (codes "ms a 1048577 q") ≡ Command.Fault Errors.TooLarge false }
 {}
 
-/// Worked commands of lines without a block.
+/// Example commands of lines without a block.
 #[tactic(auto, unfolding(mc_meta::specs::Words::words, mc_parse::specs::Need::need, mc_parse::specs::Meaning::line_command))]
 pub fn worked_commands()
     ensures get { Means (codes "gets a b") (Command.Get (codes "a" ∷ codes "b" ∷ []) true) }
@@ -115,7 +115,7 @@ pub fn worked_commands()
     ensures fault { Means (codes "incr a x noreply") (Command.Fault Errors.BadDelta false) }
 {}
 
-/// Worked blocks: any bytes may be a value, and only a carriage return and a line feed end a block.
+/// Example blocks: any bytes may be a value, and only a carriage return and a line feed end a block.
 #[tactic(auto, unfolding(mc_meta::specs::Words::words, mc_parse::specs::Meaning::block_command))]
 pub fn worked_blocks()
     ensures value { block_command (codes "append a 7 0 2 noreply") (codes "xy\r\n")
@@ -143,7 +143,7 @@ pub fn worked_large_values()
         ≡ Command.Fault Errors.TooLarge true }
 {}
 
-/// Worked calls: each verb has its own, on the shard of its key, and a flush is one on each shard.
+/// Example calls: each verb has its own, on the shard of its key, and a flush is one on each shard.
 pub fn worked_calls()
     ensures set { calls_of 16 (store_of Verbs.Set)
         ≡ on_shard (Calls.Set (codes "a") 3 (codes "v")) 12 ∷ [] }

@@ -42,7 +42,7 @@ pub fn noreply_is_a_last_word()
 {}
 
 /// A line is checked in this order: its name, the number of words after it, the noreply that is
-/// required where their number is the largest allowed, its keys, its numbers.
+/// required if their number is the largest allowed, its keys, its numbers.
 pub fn lines_are_checked_in_order()
     ensures empty { form_of [] ≡ faulty Errors.Unknown }
     ensures name { (name : List ℕ) (words : List (List ℕ)) → name_of name ≡ None
@@ -72,7 +72,7 @@ pub fn a_name_decides_how_a_line_is_read()
 {}
 
 /// A meta line asks for the same calls as a classic line: `mg` as `get` of one key, `ms` with the flags as
-/// `set`, with the flags and the unique as `cas`, and `md` as `delete`. The same must come with both, and
+/// `set`, with the flags and the CAS value as `cas`, and `md` as `delete`. The same must come with both, and
 /// they are followed by the same block.
 pub fn meta_lines_ask_for_the_same_calls()
     ensures get { (key : List ℕ) → is_word key ≡ true

@@ -22,7 +22,7 @@ pub fn a_key_is_a_word_of_its_line()
     ensures value { (line : List ℕ) → IfSome (key_of (meta_line line)) (IsKeyIn line) }
 {}
 
-/// Worked lines of `mn`, `mg` and `md`.
+/// Example lines of `mn`, `mg` and `md`.
 #[tactic(auto, unfolding(mc_meta::specs::Words::words_at))]
 pub fn worked_gets_and_deletions()
     ensures noop { AllSay Lines.Noop (codes "mn" ∷ codes "  mn " ∷ []) }
@@ -38,7 +38,7 @@ pub fn worked_gets_and_deletions()
     ensures both { meta_line (codes "md key q k") ≡ Lines.Delete (span 3 6) (codes "qk") }
 {}
 
-/// Worked lines of `ms`.
+/// Example lines of `ms`.
 #[tactic(auto, unfolding(mc_meta::specs::Words::words_at))]
 pub fn worked_sets()
     ensures plain { meta_line (codes "ms a 1") ≡ sets_in_mode 83 }
@@ -58,14 +58,14 @@ pub fn worked_sets()
         ≡ map sets_in_mode (codes "EAPRS") }
 {}
 
-/// Worked lines that are no meta command, or have a wrong number of words.
+/// Example lines that are no meta command, or have a wrong number of words.
 #[tactic(auto, unfolding(mc_meta::specs::Words::words_at))]
 pub fn worked_other_lines()
     ensures other { AllSay Lines.Other other_lines }
     ensures count { AllSay Lines.WrongCount miscounted_lines }
 {}
 
-/// Worked lines with a fault.
+/// Example lines with a fault.
 #[tactic(auto, unfolding(mc_meta::specs::Words::words_at))]
 pub fn worked_faults()
     ensures letter { AllSay Lines.Bad lines_with_an_unlisted_letter }

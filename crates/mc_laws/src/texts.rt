@@ -16,7 +16,7 @@ ghost use Rattle.mc_reply.specs.StatsText.{sum_in, stat_line};
 ghost use Rattle.mc_reply.specs.Text.{text};
 ghost use Rattle.mc_reply.specs.Texts.{texts_from, texts_of};
 
-/// Worked answers: what the definition computes.
+/// Example answers: what the definition computes.
 #[tactic(auto, unfolding(mc_reply::specs::Text::text))]
 pub fn worked_answers()
     ensures stored { text (Command.Store Verbs.Set (codes "a") 0 (codes "x") false) (Replies.Stored ∷ [])
@@ -77,7 +77,7 @@ pub fn worked_faults()
     ensures silent { text (Command.Fault Errors.BadChunk true) [] ≡ [] }
 {}
 
-/// Worked answers to meta commands: the marks are in the order of the line, and `q` hides some answers.
+/// Example answers to meta commands: the marks are in the order of the line, and `q` hides some answers.
 #[tactic(auto, unfolding(mc_reply::specs::Text::text))]
 pub fn worked_meta_answers()
     ensures noop { text (Command.Meta Metas.Noop) [] ≡ codes "MN\r\n" }
@@ -106,7 +106,7 @@ pub fn worked_meta_answers()
         ≡ [] ∷ [] ∷ [] }
 {}
 
-/// Worked answers with numbers at their limits, and a value of two lines.
+/// Example answers with numbers at their limits, and a value of two lines.
 #[tactic(auto, unfolding(mc_reply::specs::Text::text))]
 pub fn worked_limits()
     ensures item { text (Command.Get (codes "key" ∷ codes "k" ∷ []) true)
@@ -139,7 +139,7 @@ pub fn each_command_has_one_text()
         ≡ take count (texts_of commands entries) }
 {}
 
-/// The text of a plain command shows no unique of its replies.
+/// The text of a plain command shows no CAS value of its replies.
 pub fn a_plain_command_tells_no_unique()
     ensures value { (command : Command) (replies : List CallReply) → IsPlain command
         → text command (map told replies) ≡ text command replies }

@@ -1,4 +1,4 @@
-//! Worked lines: the functions do nothing, and their contracts are what the definitions compute.
+//! Example lines: the functions do nothing, and their contracts are what the definitions compute.
 ghost use Rattle.std.specs.Prelude.{◌≡◌, true, false, [], ◌∷◌, ◌++◌, map, codes};
 ghost use Rattle.mc_parse.specs.declared.error_line.ErrorLine.TheVariants as Errors;
 ghost use Rattle.mc_parse.specs.declared.need.Need.{Need};
@@ -14,7 +14,7 @@ ghost use Rattle.mc_laws.specs.Worked.{nameless_lines, other_commands, short_lin
 ghost use Rattle.mc_laws.specs.Worked.{lines_without_noreply, bad_deletions, bad_amounts, bad_levels, bad_flags};
 ghost use Rattle.mc_laws.specs.Worked.{bad_exptimes, bad_lengths, bad_uniques, deletions_of_a, sets_of_a};
 
-/// Worked lines of no command: an unknown name, too few or too many words, another word in the
+/// Example lines of no command: an unknown name, too few or too many words, another word in the
 /// place of noreply.
 #[tactic(auto, unfolding(mc_meta::specs::Words::words))]
 pub fn worked_lines_of_no_command()
@@ -25,7 +25,7 @@ pub fn worked_lines_of_no_command()
     ensures noreply { AllSay (faulty Errors.Unknown) lines_without_noreply }
 {}
 
-/// Worked lines with a bad number.
+/// Example lines with a bad number.
 #[tactic(auto, unfolding(mc_meta::specs::Words::words))]
 pub fn worked_lines_with_a_bad_number()
     ensures deletion { AllSay (faulty Errors.BadLine) bad_deletions }
@@ -37,7 +37,7 @@ pub fn worked_lines_with_a_bad_number()
     ensures unique { AllSay (faulty Errors.BadLine) bad_uniques }
 {}
 
-/// Worked keys of 250 and of 251 bytes: a key is checked after the number of words, and before the
+/// Example keys of 250 and of 251 bytes: a key is checked after the number of words, and before the
 /// numbers.
 #[tactic(auto, unfolding(mc_meta::specs::Words::words))]
 pub fn worked_keys()
@@ -78,7 +78,7 @@ pub fn worked_deletions()
         (codes "delete noreply noreply" ∷ codes "delete noreply 0 noreply" ∷ []) }
 {}
 
-/// Worked lines that count.
+/// Example lines that count.
 #[tactic(auto, unfolding(mc_meta::specs::Words::words))]
 pub fn worked_counts()
     ensures up { line_form (codes "incr a 1") ≡ asks (counts (codes "a") true 1) false }
@@ -92,7 +92,7 @@ pub fn worked_counts()
         ≡ asks (counts (codes "a") true 1) false }
 {}
 
-/// Worked lines without a key.
+/// Example lines without a key.
 #[tactic(auto, unfolding(mc_meta::specs::Words::words))]
 pub fn worked_lines_without_a_key()
     ensures version { AllSay (asks tells_version false) (codes "version" ∷ codes " version " ∷ []) }
@@ -136,7 +136,7 @@ pub fn worked_storage_lines()
         ≡ asks (exchanges (codes "noreply") 0 1 0) true }
 {}
 
-/// Worked meta lines.
+/// Example meta lines.
 #[tactic(auto, unfolding(mc_meta::specs::Words::words, mc_meta::specs::Words::words_at))]
 pub fn worked_meta_lines()
     ensures noop { line_form (codes "mn") ≡ asks (metas noops) false }

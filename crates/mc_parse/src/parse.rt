@@ -183,7 +183,7 @@ fn retrieval(keys: Keys, unique: bool) -> Command
 fn delete_command(alloc: Global, key: &[u8], quiet: bool) -> Result<Command, NoMemory>
     ensures value { IfOk result (λ command. command ≡ Command.Delete key.now quiet) }
 {
-    let key = Blob::copy_of(alloc, key)?;
+    let key = shared_copy(alloc, key)?;
     Ok(Command::Delete { key, quiet })
 }
 
@@ -197,7 +197,7 @@ fn count_command(
 ) -> Result<Command, NoMemory>
     ensures value { IfOk result (λ command. command ≡ Command.Count key.now up amount quiet) }
 {
-    let key = Blob::copy_of(alloc, key)?;
+    let key = shared_copy(alloc, key)?;
     Ok(Command::Count {
         key,
         up,
@@ -251,7 +251,7 @@ fn value_command(
             key,
             flags,
             ..
-        } => match Blob::copy_of(alloc, key) {
+        } => match shared_copy(alloc, key) {
             Ok(key) => Ok(Command::Store {
                 verb,
                 key,
@@ -266,7 +266,7 @@ fn value_command(
             flags,
             unique,
             ..
-        } => match Blob::copy_of(alloc, key) {
+        } => match shared_copy(alloc, key) {
             Ok(key) => Ok(Command::Cas {
                 key,
                 flags,
@@ -279,6 +279,21 @@ fn value_command(
         _ => {
             drop(block);
             Ok(fault(ErrorLine::Unknown))
+        }
+    }
+}
+
+// A copy of a key, whose copies share its bytes: the call of a command and the item that it makes have one each.
+#[inline(always)]
+fn shared_copy(alloc: Global, key: &[u8]) -> Result<Blob, NoMemory>
+    ensures value { IfOk result (λ copy. copy ≡ key.now) }
+{
+    let mut copy = Blob::copy_of(alloc, key)?;
+    match copy.share() {
+        Ok(()) => Ok(copy),
+        Err(e) => {
+            drop(copy);
+            Err(e)
         }
     }
 }

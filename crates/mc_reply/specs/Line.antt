@@ -13,6 +13,6 @@ line text = text ++ line_end
 abbrev pub too_large : List ℕ
 too_large = codes "SERVER_ERROR object too large for cache"
 
--- nothing, where no answer is asked for
+-- nothing, if no answer is requested
 abbrev pub unless : Bool → List ℕ → List ℕ
 unless quiet text = if quiet then [] else text

@@ -24,11 +24,11 @@ has_quiet_letter letters = is_among letters quiet_letter
 
 -- ---- marks
 
--- what marks show of an item: its flags, its unique, and the bytes of its value
+-- what marks show of an item: its flags, its CAS value, and the bytes of its value
 abbrev pub found_of : ℕ → ℕ → List ℕ → Found
 found_of flags unique value = record { flags = flags; unique = unique; bytes = length value }
 
--- the mark of an item: `f` its flags, `c` its unique, `s` the bytes of its value
+-- the mark of an item: `f` its flags, `c` its CAS value, `s` the bytes of its value
 abbrev pub item_mark : Found → ℕ → List ℕ
 item_mark found letter =
     if letter == 102 then codes " f" ++ decimal found.flags else
@@ -36,7 +36,7 @@ item_mark found letter =
     if letter == 115 then codes " s" ++ decimal found.bytes else
     []
 
--- the same, where an item was found
+-- the same, if an item was found
 abbrev pub found_mark : Option Found → ℕ → List ℕ
 found_mark None letter = []
 found_mark (Some found) letter = item_mark found letter
@@ -56,20 +56,20 @@ marked code key found letters = line (code ++ marks_text key found letters)
 
 -- ---- answers
 
--- the text of an item that was found, with its value where that is asked for
+-- the text of an item that was found, with its value if that is requested
 abbrev pub hit_text : List ℕ → List ℕ → Found → List ℕ → List ℕ
 hit_text key flags found value = if is_among flags value_letter
     then marked (codes "VA " ++ decimal found.bytes) key (Some found) flags ++ line value
     else marked (codes "HD") key (Some found) flags
 
--- the text of a retrieval; a miss is shown without marks, and not where the line has `q`
+-- the text of a retrieval; a miss is shown without marks, and not if the line has `q`
 abbrev pub get_text : List ℕ → List ℕ → CallReply → List ℕ
 get_text key flags (Hit item_flags unique value) =
     hit_text key flags (found_of item_flags unique value) value
 get_text key flags Miss = unless (has_quiet_letter flags) (line (codes "EN"))
 get_text key flags reply = []
 
--- the text of a storage command; that it stored is not shown where the line has `q`
+-- the text of a storage command; that it stored is not shown if the line has `q`
 abbrev pub set_text : List ℕ → List ℕ → CallReply → List ℕ
 set_text key marks Stored = unless (has_quiet_letter marks) (marked (codes "HD") key None marks)
 set_text key marks NotStored = marked (codes "NS") key None marks
@@ -78,7 +78,7 @@ set_text key marks NotFound = marked (codes "NF") key None marks
 set_text key marks TooLarge = line too_large
 set_text key marks reply = []
 
--- the text of a deletion; nothing where the line has `q`
+-- the text of a deletion; nothing if the line has `q`
 abbrev pub delete_text : List ℕ → List ℕ → CallReply → List ℕ
 delete_text key flags Deleted = unless (has_quiet_letter flags) (marked (codes "HD") key None flags)
 delete_text key flags NotFound = unless (has_quiet_letter flags) (marked (codes "NF") key None flags)

@@ -58,11 +58,11 @@ abbrev pub head_text : List ℕ → ℕ → List ℕ → List ℕ
 head_text key flags value =
     codes "VALUE " ++ key ++ codes " " ++ decimal flags ++ codes " " ++ decimal (length value)
 
--- the unique
+-- the CAS value
 abbrev pub unique_text : ℕ → List ℕ
 unique_text unique = codes " " ++ decimal unique
 
--- the first line of an item, with its unique if uniques were asked for
+-- the first line of an item, with its CAS value if CAS values were asked for
 abbrev pub item_line : Bool → List ℕ → ℕ → ℕ → List ℕ → List ℕ
 item_line true key flags unique value = line (head_text key flags value ++ unique_text unique)
 item_line false key flags unique value = line (head_text key flags value)

@@ -3,7 +3,7 @@
 /// An answer that is one line at most.
 #[derive(Clone, Copy)]
 pub(crate) enum Answer {
-    /// Nothing, where no answer is asked for.
+    /// Nothing, if no answer is requested.
     Nothing,
     /// A line with the bytes that end it.
     Line(&'static [u8]),

@@ -8,7 +8,7 @@ use crate::lines;
 use mc_parse::ErrorLine;
 use zy_base::CallReply;
 
-/// Nothing, where no answer is asked for.
+/// Nothing, if no answer is requested.
 pub(crate) fn unless(quiet: bool, answer: Answer) -> Answer
     ensures value { answer_text result ≡ unless quiet (answer_text answer) }
 {

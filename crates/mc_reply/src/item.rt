@@ -30,7 +30,7 @@ pub(crate) fn put_item(out: &mut Reserved, asked: bool, key: &Blob, reply: &Call
     }
 }
 
-// Appends what is after the key in its line: the flags, the length of the value, the unique if it was
+// Appends what is after the key in its line: the flags, the length of the value, the CAS value if it was
 // asked for, and the end of the line. They are put together first, from the end, and appended once.
 fn put_numbers(out: &mut Reserved, asked: bool, flags: u32, count: usize, unique: u64)
     requires fits { length (numbers_text asked flags count unique) ≤ out.old.room }

@@ -119,7 +119,7 @@ fn append_delete(
     }
 }
 
-// Appends a code and its marks as a line, unless no answer is asked for.
+// Appends a code and its marks as a line, unless no answer is requested.
 fn append_unless_quiet(
     out: &mut Blob,
     code: &[u8],

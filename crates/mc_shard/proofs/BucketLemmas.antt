@@ -1,4 +1,5 @@
--- A key's item among all buckets is the one in its own bucket, and what a change of one bucket changes.
+-- A key's item among all buckets is the one in its own bucket, and what a change of one bucket changes; the same
+-- of the parts of a bucket.
 use Rattle.std.proofs.Common.{◌≡◌, ◌≢◌, ◌⊎◌, inl, inr, ℕ, zero, suc, ◌+◌, ◌<◌, ◌≤◌, Bool, true, false, eqb, cond, List, [], ◌∷◌, ◌++◌, length, get_or, set, slice_get, refl, sym, ap, subst, ◌∙◌, arith}
 use Rattle.std.specs.Prelude.{Option, Some, None}
 use Rattle.std.proofs.lemmas.Bool.Decides.{eqb_tells}
@@ -9,7 +10,7 @@ use Rattle.std.specs.Map.{lookup}
 use Rattle.std.specs.BTreeMap.{is_at}
 use Rattle.zy_base.specs.declared.item.Item.{Item}
 use Rattle.mc_shard.specs.Contents.{hashed_cmp, items_in}
-use Rattle.mc_shard.specs.Buckets.{Keyed, bucket_of, item_in, entries_among, items_among, HasOwnKeys, HaveOwnKeys, AreBuckets}
+use Rattle.mc_shard.specs.Buckets.{Keyed, item_in, entries_among, items_among, HasOwnKeys, HaveOwnKeys, AreBuckets, IsWith}
 use Rattle.mc_shard.proofs.MapLemmas.{get-items_in, items_in-stored, items_in-removed, same_at}
 
 -- ---- numbers and lists
@@ -44,7 +45,7 @@ pub lookup-append : (test : List ℕ → Bool) (xs ys : List (List ℕ × Item))
 lookup-append test [] ys = refl
 lookup-append test (x ∷ xs) ys = push (test x.0) x.1 (lookup test (xs ++ ys)) (lookup test xs) (lookup test ys) (lookup-append test xs ys)
 
--- ---- the item of a key
+-- ---- the entries of one bucket
 
 -- the entries of the bucket with this number
 abbrev pub entries_at : List Keyed → ℕ → List (List ℕ × Item)
@@ -52,53 +53,14 @@ entries_at [] n = []
 entries_at (bucket ∷ buckets) zero = bucket
 entries_at (bucket ∷ buckets) (suc n) = entries_at buckets n
 
--- buckets after a key's own have no item of it
-none_after : (at : ℕ) (buckets : List Keyed) (key : List ℕ) → HaveOwnKeys at buckets → bucket_of key < at → item_in (entries_among buckets) key ≡ None
-none_after at [] key own below = refl
-none_after at (bucket ∷ buckets) key own below =
-    lookup-append (is_at (hashed_cmp key)) bucket (entries_among buckets)
-    ∙ ap (λ o. first_of o (item_in (entries_among buckets) key)) (own.0 key (λ e. absurd (omega (arith, e))))
-    ∙ none_after (suc at) buckets key own.1 (omega arith)
-
-found_from : (at : ℕ) (buckets : List Keyed) (key : List ℕ) (n : ℕ) → HaveOwnKeys at buckets → bucket_of key ≡ at + n → item_in (entries_among buckets) key ≡ item_in (entries_at buckets n) key
-found_from at [] key n own is = refl
-found_from at (bucket ∷ buckets) key zero own is =
-    lookup-append (is_at (hashed_cmp key)) bucket (entries_among buckets)
-    ∙ ap (first_of (item_in bucket key)) (none_after (suc at) buckets key own.1 (omega (arith, is)))
-    ∙ first_of-none (item_in bucket key)
-found_from at (bucket ∷ buckets) key (suc n) own is =
-    lookup-append (is_at (hashed_cmp key)) bucket (entries_among buckets)
-    ∙ ap (λ o. first_of o (item_in (entries_among buckets) key)) (own.0 key (λ e. absurd (omega (arith, e, is))))
-    ∙ found_from (suc at) buckets key n own.1 (omega (arith, is))
-
--- the item of a key among all buckets is the one in its own
-pub found_in : (buckets : List Keyed) (key : List ℕ) → AreBuckets buckets → item_in (entries_among buckets) key ≡ item_in (entries_at buckets (bucket_of key)) key
-found_in buckets key are = found_from 0 buckets key (bucket_of key) are.own (omega arith)
-
 -- the entries of a bucket that is there, or not
 pub entries_some : (buckets : List Keyed) (n : ℕ) (bucket : Keyed) → slice_get buckets n ≡ Some bucket → entries_at buckets n ≡ bucket
 entries_some [] n bucket is = cc
 entries_some (t ∷ buckets) zero bucket is = cc
 entries_some (t ∷ buckets) (suc n) bucket is = entries_some buckets n bucket is
 
--- ---- a change of one bucket
-
--- a bucket of these keys alone takes the place of another
-own_set : (at : ℕ) (buckets : List Keyed) (n : ℕ) (bucket : Keyed) → HaveOwnKeys at buckets → HasOwnKeys (at + n) bucket → HaveOwnKeys at (set buckets n bucket)
-own_set at [] n bucket own mine = tt
-own_set at (t ∷ buckets) zero bucket own mine = (subst (λ m. HasOwnKeys m bucket) (omega arith) mine, own.1)
-own_set at (t ∷ buckets) (suc n) bucket own mine = (own.0, own_set (suc at) buckets n bucket own.1 (subst (λ m. HasOwnKeys m bucket) (omega arith) mine))
-
-own_at : (at : ℕ) (buckets : List Keyed) (n : ℕ) (bucket : Keyed) → HaveOwnKeys at buckets → slice_get buckets n ≡ Some bucket → HasOwnKeys (at + n) bucket
-own_at at [] n bucket own is = cc
-own_at at (t ∷ buckets) zero bucket own is = subst (λ m. HasOwnKeys m bucket) (omega arith) (subst (HasOwnKeys at) (same_Some t bucket is) own.0)
-own_at at (t ∷ buckets) (suc n) bucket own is = subst (λ m. HasOwnKeys m bucket) (omega arith) (own_at (suc at) buckets n bucket own.1 is)
-
 from_zero : (n : ℕ) → n ≡ 0 + n
 from_zero n = omega arith
-
-own_there : (buckets : List Keyed) (n : ℕ) (bucket : Keyed) → HaveOwnKeys 0 buckets → slice_get buckets n ≡ Some bucket → HasOwnKeys n bucket
-own_there buckets n bucket own is = subst (λ m. HasOwnKeys m bucket) (sym (from_zero n)) (own_at 0 buckets n bucket own is)
 
 set_same : (buckets : List Keyed) (n : ℕ) (old bucket : Keyed) → slice_get buckets n ≡ Some old → entries_at (set buckets n bucket) n ≡ bucket
 set_same [] n old bucket is = cc
@@ -111,10 +73,6 @@ set_other (t ∷ buckets) zero zero bucket differ = absurd (differ refl)
 set_other (t ∷ buckets) zero (suc m) bucket differ = refl
 set_other (t ∷ buckets) (suc n) zero bucket differ = refl
 set_other (t ∷ buckets) (suc n) (suc m) bucket differ = set_other buckets n m bucket (λ e. differ (ap suc e))
-
-count_set : (buckets : List Keyed) (n : ℕ) (old bucket : Keyed) → slice_get buckets n ≡ Some old → (buckets ≡ []) ⊎ (length buckets ≡ 256) → (set buckets n bucket ≡ []) ⊎ (length (set buckets n bucket) ≡ 256)
-count_set buckets n old bucket is (inl none) = absurd (none-some old (sym (ap (λ l. slice_get l n) none) ∙ is))
-count_set buckets n old bucket is (inr all) = inr (length-set buckets n bucket ∙ all)
 
 -- a bucket with the same entries takes the place of another
 entries_same : (buckets : List Keyed) (n : ℕ) (bucket bucket' : Keyed) → slice_get buckets n ≡ Some bucket → bucket' ≡ bucket → entries_among (set buckets n bucket') ≡ entries_among buckets
@@ -130,43 +88,18 @@ apart_by number key q false is differ = refl
 pub apart : (number : List ℕ → ℕ) (key q : List ℕ) → number q ≢ number key → is_at (hashed_cmp key) q ≡ false
 apart number key q differ = apart_by number key q (is_at (hashed_cmp key) q) refl differ
 
--- the bucket of a key was changed at that key
-module _ (buckets : List Keyed) (key : List ℕ) (bucket bucket' : Keyed) (item : Option Item) (are : AreBuckets buckets) (there : slice_get buckets (bucket_of key) ≡ Some bucket)
-    (changed : (q : List ℕ) → item_in bucket' q ≡ cond (is_at (hashed_cmp key) q) item (item_in bucket q)) where
-  own_changed : HasOwnKeys (bucket_of key) bucket'
-  own_changed q differ =
-      changed q ∙ ap (λ b. cond b item (item_in bucket q)) (apart bucket_of key q differ) ∙ own_there buckets (bucket_of key) bucket are.own there q differ
+pub got_at : {X : Type 0} (xs : List X) (n : ℕ) (x : X) → n < length xs → x ≡ get_or xs n x → slice_get xs n ≡ Some x
+got_at [] n x within is = absurd (omega arith)
+got_at (y ∷ xs) zero x within is = ap Some (sym is)
+got_at (y ∷ xs) (suc n) x within is = got_at xs n x (omega arith) is
 
-  pub are_changed : AreBuckets (set buckets (bucket_of key) bucket')
-  are_changed = record {
-    count = count_set buckets (bucket_of key) bucket bucket' there are.count;
-    own = own_set 0 buckets (bucket_of key) bucket' are.own (subst (λ n. HasOwnKeys n bucket') (from_zero (bucket_of key)) own_changed);
-  }
+pub none_more : (buckets : List Keyed) (bucket : Keyed) → entries_among buckets ≡ [] → bucket ≡ [] → entries_among (buckets ++ bucket ∷ []) ≡ []
+none_more [] bucket all none = ap (λ es. es ++ []) none
+none_more (t ∷ buckets) bucket all none =
+    let first = append_none t (entries_among buckets) all in
+    ap (λ es. es ++ entries_among (buckets ++ bucket ∷ [])) first.0 ∙ none_more buckets bucket first.1 none
 
-  at_changed : (q : List ℕ) → (bucket_of q ≡ bucket_of key) ⊎ (bucket_of q ≢ bucket_of key)
-      → item_in (entries_at (set buckets (bucket_of key) bucket') (bucket_of q)) q ≡ cond (is_at (hashed_cmp key) q) item (item_in (entries_at buckets (bucket_of q)) q)
-  at_changed q (inl same) =
-      ap (λ n. item_in (entries_at (set buckets (bucket_of key) bucket') n) q) same
-      ∙ ap (λ es. item_in es q) (set_same buckets (bucket_of key) bucket bucket' there)
-      ∙ changed q
-      ∙ ap (λ es. cond (is_at (hashed_cmp key) q) item (item_in es q)) (sym (entries_some buckets (bucket_of key) bucket there) ∙ ap (entries_at buckets) (sym same))
-  at_changed q (inr differ) =
-      ap (λ es. item_in es q) (set_other buckets (bucket_of key) (bucket_of q) bucket' differ)
-      ∙ ap (λ b. cond b item (item_in (entries_at buckets (bucket_of q)) q)) (sym (apart bucket_of key q differ))
-
-  among_changed : (q : List ℕ) → item_in (entries_among (set buckets (bucket_of key) bucket')) q ≡ cond (is_at (hashed_cmp key) q) item (item_in (entries_among buckets) q)
-  among_changed q =
-      found_in (set buckets (bucket_of key) bucket') q are_changed
-      ∙ at_changed q (same_or_not (bucket_of q) (bucket_of key))
-      ∙ ap (λ o. cond (is_at (hashed_cmp key) q) item o) (sym (found_in buckets q are))
-
-  pub removed_among : item ≡ None → items_among (set buckets (bucket_of key) bucket') ≡ remove (items_among buckets) key
-  removed_among none = items_in-removed (entries_among buckets) (entries_among (set buckets (bucket_of key) bucket')) key
-      (λ q. among_changed q ∙ ap (λ o. cond (is_at (hashed_cmp key) q) o (item_in (entries_among buckets) q)) none)
-
-  pub stored_among : (put : Item) → item ≡ Some put → items_among (set buckets (bucket_of key) bucket') ≡ insert (items_among buckets) key put
-  stored_among put some = items_in-stored (entries_among buckets) (entries_among (set buckets (bucket_of key) bucket')) key put
-      (λ q. among_changed q ∙ ap (λ o. cond (is_at (hashed_cmp key) q) o (item_in (entries_among buckets) q)) some)
+-- ---- without buckets
 
 -- where there is no bucket, removing a key changes nothing
 abbrev no_item : Option Item
@@ -176,70 +109,150 @@ cond_none : (found : Bool) → no_item ≡ cond found no_item no_item
 cond_none true = refl
 cond_none false = refl
 
+pub none_without : (buckets : List Keyed) (key : List ℕ) → buckets ≡ [] → IsWith (entries_among buckets) key None (entries_among buckets)
+none_without buckets key none =
+    subst (λ ts. IsWith (entries_among ts) key None (entries_among ts)) (sym none) (λ q. cond_none (is_at (hashed_cmp key) q))
+
 pub removed_none : (buckets : List Keyed) (key : List ℕ) → buckets ≡ [] → items_among buckets ≡ remove (items_among buckets) key
-removed_none buckets key none =
-    subst (λ ts. items_among ts ≡ remove (items_among ts) key) (sym none) (items_in-removed [] [] key (λ q. cond_none (is_at (hashed_cmp key) q)))
+removed_none buckets key none = items_in-removed (entries_among buckets) (entries_among buckets) key (none_without buckets key none)
 
--- ---- buckets without an item
+-- there is no item
+pub lookup_nowhere : (buckets : List Keyed) (key : List ℕ) → buckets ≡ [] → item_in (entries_among buckets) key ≡ None
+lookup_nowhere buckets key none = ap (λ ts. item_in (entries_among ts) key) none
 
-pub own_more : (at : ℕ) (buckets : List Keyed) (bucket : Keyed) → HaveOwnKeys at buckets → bucket ≡ [] → HaveOwnKeys at (buckets ++ bucket ∷ [])
-own_more at [] bucket own none = ((λ key differ. ap (λ es. item_in es key) none), tt)
-own_more at (t ∷ buckets) bucket own none = (own.0, own_more (suc at) buckets bucket own.1 none)
-
-pub none_more : (buckets : List Keyed) (bucket : Keyed) → entries_among buckets ≡ [] → bucket ≡ [] → entries_among (buckets ++ bucket ∷ []) ≡ []
-none_more [] bucket all none = ap (λ es. es ++ []) none
-none_more (t ∷ buckets) bucket all none =
-    let first = append_none t (entries_among buckets) all in
-    ap (λ es. es ++ entries_among (buckets ++ bucket ∷ [])) first.0 ∙ none_more buckets bucket first.1 none
-
--- ---- what the calls on one bucket give
-
-pub got_at : {X : Type 0} (xs : List X) (n : ℕ) (x : X) → n < length xs → x ≡ get_or xs n x → slice_get xs n ≡ Some x
-got_at [] n x within is = absurd (omega arith)
-got_at (y ∷ xs) zero x within is = ap Some (sym is)
-got_at (y ∷ xs) (suc n) x within is = got_at xs n x (omega arith) is
-
--- there are no buckets where there are not 256
-pub none_of : (buckets : List Keyed) (n : ℕ) → (buckets ≡ []) ⊎ (length buckets ≡ 256) → length buckets ≤ n → n < 256 → buckets ≡ []
-none_of buckets n (inl none) long below = none
-none_of buckets n (inr all) long below = absurd (omega (arith, all))
-
-module _ (buckets : List Keyed) (are : AreBuckets buckets) (key : List ℕ) (n : ℕ) (at : n ≡ bucket_of key) (within : n < length buckets) (bucket bucket' : Keyed) (here : bucket ≡ get_or buckets n bucket) where
-  there_at : slice_get buckets (bucket_of key) ≡ Some bucket
-  there_at = subst (λ m. slice_get buckets m ≡ Some bucket) at (got_at buckets n bucket within here)
-
-  module _ (item : Option Item) (changed : (q : List ℕ) → item_in bucket' q ≡ cond (is_at (hashed_cmp key) q) item (item_in bucket q)) where
-    pub are_after : AreBuckets (set buckets n bucket')
-    are_after = subst (λ m. AreBuckets (set buckets m bucket')) (sym at) (are_changed buckets key bucket bucket' item are there_at changed)
-
-  pub after_removal : ((q : List ℕ) → item_in bucket' q ≡ cond (is_at (hashed_cmp key) q) None (item_in bucket q)) → items_among (set buckets n bucket') ≡ remove (items_among buckets) key
-  after_removal changed =
-      subst (λ m. items_among (set buckets m bucket') ≡ remove (items_among buckets) key) (sym at) (removed_among buckets key bucket bucket' None are there_at changed refl)
-
-  pub after_insertion : (item : Item) → ((q : List ℕ) → item_in bucket' q ≡ cond (is_at (hashed_cmp key) q) (Some item) (item_in bucket q))
-      → items_among (set buckets n bucket') ≡ insert (items_among buckets) key item
-  after_insertion item changed =
-      subst (λ m. items_among (set buckets m bucket') ≡ insert (items_among buckets) key item) (sym at) (stored_among buckets key bucket bucket' (Some item) are there_at changed item refl)
-
-  -- a bucket with the same entries takes its place
-  pub are_same : bucket' ≡ bucket → AreBuckets (set buckets n bucket')
-  are_same same =
-      let got = got_at buckets n bucket within here in
-      record {
-        count = count_set buckets n bucket bucket' got are.count;
-        own = own_set 0 buckets n bucket' are.own (subst (λ m. HasOwnKeys m bucket') (from_zero n) (λ q differ. ap (λ es. item_in es q) same ∙ own_there buckets n bucket are.own got q differ));
-      }
-
-  pub among_same : bucket' ≡ bucket → items_among (set buckets n bucket') ≡ items_among buckets
-  among_same same = ap items_in (entries_same buckets n bucket bucket' (got_at buckets n bucket within here) same)
-
--- the item that a bucket has at a key of its own
-pub item_there : (buckets : List Keyed) (key : List ℕ) (n : ℕ) (bucket : Keyed) → AreBuckets buckets → n ≡ bucket_of key → n < length buckets → bucket ≡ get_or buckets n bucket
-    → get (items_among buckets) key ≡ item_in bucket key
-item_there buckets key n bucket are at within here =
-    get-items_in (entries_among buckets) key ∙ found_in buckets key are
-    ∙ ap (λ es. item_in es key) (entries_some buckets (bucket_of key) bucket (subst (λ m. slice_get buckets m ≡ Some bucket) at (got_at buckets n bucket within here)))
-
--- without buckets there is no item
 pub item_nowhere : (buckets : List Keyed) (key : List ℕ) → buckets ≡ [] → get (items_among buckets) key ≡ None
-item_nowhere buckets key none = get-items_in (entries_among buckets) key ∙ ap (λ ts. item_in (entries_among ts) key) none
+item_nowhere buckets key none = get-items_in (entries_among buckets) key ∙ lookup_nowhere buckets key none
+
+-- ---- `count` buckets, each with the keys of its number
+module _ (number : List ℕ → ℕ) (count : ℕ) where
+  -- ---- the item of a key
+
+  -- buckets after a key's own have no item of it
+  none_after : (at : ℕ) (buckets : List Keyed) (key : List ℕ) → HaveOwnKeys number at buckets → number key < at → item_in (entries_among buckets) key ≡ None
+  none_after at [] key own below = refl
+  none_after at (bucket ∷ buckets) key own below =
+      lookup-append (is_at (hashed_cmp key)) bucket (entries_among buckets)
+      ∙ ap (λ o. first_of o (item_in (entries_among buckets) key)) (own.0 key (λ e. absurd (omega (arith, e))))
+      ∙ none_after (suc at) buckets key own.1 (omega arith)
+
+  found_from : (at : ℕ) (buckets : List Keyed) (key : List ℕ) (n : ℕ) → HaveOwnKeys number at buckets → number key ≡ at + n → item_in (entries_among buckets) key ≡ item_in (entries_at buckets n) key
+  found_from at [] key n own is = refl
+  found_from at (bucket ∷ buckets) key zero own is =
+      lookup-append (is_at (hashed_cmp key)) bucket (entries_among buckets)
+      ∙ ap (first_of (item_in bucket key)) (none_after (suc at) buckets key own.1 (omega (arith, is)))
+      ∙ first_of-none (item_in bucket key)
+  found_from at (bucket ∷ buckets) key (suc n) own is =
+      lookup-append (is_at (hashed_cmp key)) bucket (entries_among buckets)
+      ∙ ap (λ o. first_of o (item_in (entries_among buckets) key)) (own.0 key (λ e. absurd (omega (arith, e, is))))
+      ∙ found_from (suc at) buckets key n own.1 (omega (arith, is))
+
+  -- the item of a key among all buckets is the one in its own
+  pub found_in : (buckets : List Keyed) (key : List ℕ) → AreBuckets number count buckets → item_in (entries_among buckets) key ≡ item_in (entries_at buckets (number key)) key
+  found_in buckets key are = found_from 0 buckets key (number key) are.own (omega arith)
+
+  -- ---- a change of one bucket
+
+  -- a bucket of these keys alone takes the place of another
+  own_set : (at : ℕ) (buckets : List Keyed) (n : ℕ) (bucket : Keyed) → HaveOwnKeys number at buckets → HasOwnKeys number (at + n) bucket → HaveOwnKeys number at (set buckets n bucket)
+  own_set at [] n bucket own mine = tt
+  own_set at (t ∷ buckets) zero bucket own mine = (subst (λ m. HasOwnKeys number m bucket) (omega arith) mine, own.1)
+  own_set at (t ∷ buckets) (suc n) bucket own mine = (own.0, own_set (suc at) buckets n bucket own.1 (subst (λ m. HasOwnKeys number m bucket) (omega arith) mine))
+
+  own_at : (at : ℕ) (buckets : List Keyed) (n : ℕ) (bucket : Keyed) → HaveOwnKeys number at buckets → slice_get buckets n ≡ Some bucket → HasOwnKeys number (at + n) bucket
+  own_at at [] n bucket own is = cc
+  own_at at (t ∷ buckets) zero bucket own is = subst (λ m. HasOwnKeys number m bucket) (omega arith) (subst (HasOwnKeys number at) (same_Some t bucket is) own.0)
+  own_at at (t ∷ buckets) (suc n) bucket own is = subst (λ m. HasOwnKeys number m bucket) (omega arith) (own_at (suc at) buckets n bucket own.1 is)
+
+  own_there : (buckets : List Keyed) (n : ℕ) (bucket : Keyed) → HaveOwnKeys number 0 buckets → slice_get buckets n ≡ Some bucket → HasOwnKeys number n bucket
+  own_there buckets n bucket own is = subst (λ m. HasOwnKeys number m bucket) (sym (from_zero n)) (own_at 0 buckets n bucket own is)
+
+  count_set : (buckets : List Keyed) (n : ℕ) (old bucket : Keyed) → slice_get buckets n ≡ Some old → (buckets ≡ []) ⊎ (length buckets ≡ count) → (set buckets n bucket ≡ []) ⊎ (length (set buckets n bucket) ≡ count)
+  count_set buckets n old bucket is (inl none) = absurd (none-some old (sym (ap (λ l. slice_get l n) none) ∙ is))
+  count_set buckets n old bucket is (inr all) = inr (length-set buckets n bucket ∙ all)
+
+  -- the bucket of a key was changed at that key
+  module _ (buckets : List Keyed) (key : List ℕ) (bucket bucket' : Keyed) (item : Option Item) (are : AreBuckets number count buckets) (there : slice_get buckets (number key) ≡ Some bucket)
+      (changed : (q : List ℕ) → item_in bucket' q ≡ cond (is_at (hashed_cmp key) q) item (item_in bucket q)) where
+    own_changed : HasOwnKeys number (number key) bucket'
+    own_changed q differ =
+        changed q ∙ ap (λ b. cond b item (item_in bucket q)) (apart number key q differ) ∙ own_there buckets (number key) bucket are.own there q differ
+
+    pub are_changed : AreBuckets number count (set buckets (number key) bucket')
+    are_changed = record {
+      all = count_set buckets (number key) bucket bucket' there are.all;
+      own = own_set 0 buckets (number key) bucket' are.own (subst (λ n. HasOwnKeys number n bucket') (from_zero (number key)) own_changed);
+    }
+
+    at_changed : (q : List ℕ) → (number q ≡ number key) ⊎ (number q ≢ number key)
+        → item_in (entries_at (set buckets (number key) bucket') (number q)) q ≡ cond (is_at (hashed_cmp key) q) item (item_in (entries_at buckets (number q)) q)
+    at_changed q (inl same) =
+        ap (λ n. item_in (entries_at (set buckets (number key) bucket') n) q) same
+        ∙ ap (λ es. item_in es q) (set_same buckets (number key) bucket bucket' there)
+        ∙ changed q
+        ∙ ap (λ es. cond (is_at (hashed_cmp key) q) item (item_in es q)) (sym (entries_some buckets (number key) bucket there) ∙ ap (entries_at buckets) (sym same))
+    at_changed q (inr differ) =
+        ap (λ es. item_in es q) (set_other buckets (number key) (number q) bucket' differ)
+        ∙ ap (λ b. cond b item (item_in (entries_at buckets (number q)) q)) (sym (apart number key q differ))
+
+    pub among_changed : IsWith (entries_among buckets) key item (entries_among (set buckets (number key) bucket'))
+    among_changed q =
+        found_in (set buckets (number key) bucket') q are_changed
+        ∙ at_changed q (same_or_not (number q) (number key))
+        ∙ ap (λ o. cond (is_at (hashed_cmp key) q) item o) (sym (found_in buckets q are))
+
+  -- ---- buckets without an item
+
+  pub own_more : (at : ℕ) (buckets : List Keyed) (bucket : Keyed) → HaveOwnKeys number at buckets → bucket ≡ [] → HaveOwnKeys number at (buckets ++ bucket ∷ [])
+  own_more at [] bucket own none = ((λ key differ. ap (λ es. item_in es key) none), tt)
+  own_more at (t ∷ buckets) bucket own none = (own.0, own_more (suc at) buckets bucket own.1 none)
+
+  -- ---- what the calls on one bucket give
+
+  -- there are no buckets where there are not `count`
+  pub none_of : (buckets : List Keyed) (n : ℕ) → (buckets ≡ []) ⊎ (length buckets ≡ count) → length buckets ≤ n → n < count → buckets ≡ []
+  none_of buckets n (inl none) long below = none
+  none_of buckets n (inr all) long below = absurd (omega (arith, all))
+
+  module _ (buckets : List Keyed) (are : AreBuckets number count buckets) (key : List ℕ) (n : ℕ) (at : n ≡ number key) (within : n < length buckets) (bucket bucket' : Keyed) (here : bucket ≡ get_or buckets n bucket) where
+    there_at : slice_get buckets (number key) ≡ Some bucket
+    there_at = subst (λ m. slice_get buckets m ≡ Some bucket) at (got_at buckets n bucket within here)
+
+    module _ (item : Option Item) (changed : (q : List ℕ) → item_in bucket' q ≡ cond (is_at (hashed_cmp key) q) item (item_in bucket q)) where
+      pub are_after : AreBuckets number count (set buckets n bucket')
+      are_after = subst (λ m. AreBuckets number count (set buckets m bucket')) (sym at) (are_changed buckets key bucket bucket' item are there_at changed)
+
+      pub among_after : IsWith (entries_among buckets) key item (entries_among (set buckets n bucket'))
+      among_after =
+          subst (λ m. IsWith (entries_among buckets) key item (entries_among (set buckets m bucket'))) (sym at) (among_changed buckets key bucket bucket' item are there_at changed)
+
+    pub after_removal : IsWith bucket key None bucket' → items_among (set buckets n bucket') ≡ remove (items_among buckets) key
+    after_removal changed = items_in-removed (entries_among buckets) (entries_among (set buckets n bucket')) key (among_after None changed)
+
+    pub after_insertion : (item : Item) → IsWith bucket key (Some item) bucket' → items_among (set buckets n bucket') ≡ insert (items_among buckets) key item
+    after_insertion item changed = items_in-stored (entries_among buckets) (entries_among (set buckets n bucket')) key item (among_after (Some item) changed)
+
+    -- a bucket with the same entries takes its place
+    pub are_same : bucket' ≡ bucket → AreBuckets number count (set buckets n bucket')
+    are_same same =
+        let got = got_at buckets n bucket within here in
+        record {
+          all = count_set buckets n bucket bucket' got are.all;
+          own = own_set 0 buckets n bucket' are.own (subst (λ m. HasOwnKeys number m bucket') (from_zero n) (λ q differ. ap (λ es. item_in es q) same ∙ own_there buckets n bucket are.own got q differ));
+        }
+
+    pub entries_kept : bucket' ≡ bucket → entries_among (set buckets n bucket') ≡ entries_among buckets
+    entries_kept same = entries_same buckets n bucket bucket' (got_at buckets n bucket within here) same
+
+    pub among_same : bucket' ≡ bucket → items_among (set buckets n bucket') ≡ items_among buckets
+    among_same same = ap items_in (entries_kept same)
+
+  -- the item that a bucket has at a key of its own
+  pub lookup_there : (buckets : List Keyed) (key : List ℕ) (n : ℕ) (bucket : Keyed) → AreBuckets number count buckets → n ≡ number key → n < length buckets → bucket ≡ get_or buckets n bucket
+      → item_in (entries_among buckets) key ≡ item_in bucket key
+  lookup_there buckets key n bucket are at within here =
+      found_in buckets key are
+      ∙ ap (λ es. item_in es key) (entries_some buckets (number key) bucket (subst (λ m. slice_get buckets m ≡ Some bucket) at (got_at buckets n bucket within here)))
+
+  pub item_there : (buckets : List Keyed) (key : List ℕ) (n : ℕ) (bucket : Keyed) → AreBuckets number count buckets → n ≡ number key → n < length buckets → bucket ≡ get_or buckets n bucket
+      → get (items_among buckets) key ≡ item_in bucket key
+  item_there buckets key n bucket are at within here = get-items_in (entries_among buckets) key ∙ lookup_there buckets key n bucket are at within here

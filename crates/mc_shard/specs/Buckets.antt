@@ -15,11 +15,15 @@ Keyed = List (List ℕ × Item)
 abbrev pub bucket_of : List ℕ → ℕ
 bucket_of key = hash_of key / 2 ^ 24
 
+-- the number of a key's part of its bucket: the next five bits of its hash
+abbrev pub part_of : List ℕ → ℕ
+part_of key = hash_of key / 2 ^ 19 % 2 ^ 5
+
 -- the item that the entries have at a key
 abbrev pub item_in : Keyed → List ℕ → Option Item
 item_in entries key = lookup (is_at (hashed_cmp key)) entries
 
--- the entries of all buckets, one bucket after another
+-- the entries of all buckets, or of all parts of a bucket, one after another
 abbrev pub entries_among : List Keyed → Keyed
 entries_among [] = []
 entries_among (bucket ∷ buckets) = bucket ++ entries_among buckets
@@ -28,25 +32,25 @@ entries_among (bucket ∷ buckets) = bucket ++ entries_among buckets
 abbrev pub items_among : List Keyed → Items
 items_among buckets = items_in (entries_among buckets)
 
--- a bucket has no key of another bucket
-abbrev pub HasOwnKeys : ℕ → Keyed → Type 0
-HasOwnKeys at bucket = (key : List ℕ) → bucket_of key ≢ at → item_in bucket key ≡ None
+-- where keys are numbered, the bucket with the number `at` has no key of another number
+abbrev pub HasOwnKeys : (List ℕ → ℕ) → ℕ → Keyed → Type 0
+HasOwnKeys number at bucket = (key : List ℕ) → number key ≢ at → item_in bucket key ≡ None
 
 -- these buckets, which are numbered from `at` on, have their own keys
-abbrev pub HaveOwnKeys : ℕ → List Keyed → Type 0
-HaveOwnKeys at [] = ⊤
-HaveOwnKeys at (bucket ∷ buckets) = HasOwnKeys at bucket × HaveOwnKeys (suc at) buckets
+abbrev pub HaveOwnKeys : (List ℕ → ℕ) → ℕ → List Keyed → Type 0
+HaveOwnKeys number at [] = ⊤
+HaveOwnKeys number at (bucket ∷ buckets) = HasOwnKeys number at bucket × HaveOwnKeys number (suc at) buckets
 
--- no buckets, or 256, each with its own keys
-pub record AreBuckets (buckets : List Keyed) : Type 0 where
-  pub count : (buckets ≡ []) ⊎ (length buckets ≡ 256)
-  pub own : HaveOwnKeys 0 buckets
+-- no buckets, or `count`, each with the keys of its number
+pub record AreBuckets (number : List ℕ → ℕ) (count : ℕ) (buckets : List Keyed) : Type 0 where
+  pub all : (buckets ≡ []) ⊎ (length buckets ≡ count)
+  pub own : HaveOwnKeys number 0 buckets
 
 -- ---- fingerprints
 
--- the fingerprint of a key: the second eight bits of its hash
+-- the fingerprint of a key: the third eight bits of its hash
 abbrev pub fingerprint_of : List ℕ → ℕ
-fingerprint_of key = hash_of key / 2 ^ 16 % 2 ^ 8
+fingerprint_of key = hash_of key / 2 ^ 8 % 2 ^ 8
 
 -- the entries have the first fingerprints, each that of its key
 abbrev pub AreFingerprints : List ℕ → Keyed → Type 0

@@ -2,25 +2,27 @@
 ghost use Rattle.std.specs.Prelude.{◌≡◌, [], ◌++◌, None, Some, is_some, IfOk, OnOk, OnErr, option_copied};
 ghost use Rattle.mc_shard.specs.Buckets.{item_in, IsWith};
 
+mod part;
+mod parts;
 mod row;
 
 use crate::hashed::Hashed;
+use parts::Parts;
 use row::Row;
 use std::alloc::Global;
-use std::collections::BTreeMap;
 use std::marker::Model;
 use zy_base::{Item, NoMemory};
 
 /// Items by their keys. Contracts see them as a list of keys with their items, where the first entry
 /// of a key counts.
 ///
-/// Up to 16 items are in a row, which takes little memory; further ones are in a tree, into which the
+/// Up to 16 items are in a row, which takes little memory; further ones are in parts, into which the
 /// row is then moved, one item at each insertion. So a key is found in at most 16 steps and those in
-/// the tree, whatever the keys are.
+/// its part, whatever the keys are.
 #[derive(Drop)]
 pub(crate) struct Bucket {
     row: Row,
-    tree: BTreeMap<Hashed, Item>,
+    parts: Parts,
 }
 
 impl Model for Bucket {
@@ -29,7 +31,7 @@ impl Model for Bucket {
 
     ghost Value = { Keyed };
 
-    ghost view = { λ b. b.row ++ b.tree.entries };
+    ghost view = { λ b. b.row ++ b.parts };
 }
 
 impl Bucket {
@@ -39,7 +41,7 @@ impl Bucket {
     {
         Bucket {
             row: Row::new(alloc),
-            tree: BTreeMap::new(alloc),
+            parts: Parts::new(alloc),
         }
     }
 
@@ -50,7 +52,7 @@ impl Bucket {
     {
         match self.row.get(key) {
             Some(item) => Some(item),
-            None => self.tree.get(key),
+            None => self.parts.get(key),
         }
     }
 
@@ -65,7 +67,7 @@ impl Bucket {
                 drop(key);
                 Ok(Some(self.row.replace(at, item)))
             }
-            None => add(&mut self.row, &mut self.tree, key, item),
+            None => add(&mut self.row, &mut self.parts, key, item),
         }
     }
 
@@ -76,30 +78,30 @@ impl Bucket {
     {
         let found = self.get(key).is_some();
         self.row.clear_of(key);
-        drop(self.tree.remove(key));
+        self.parts.remove(key);
         found
     }
 }
 
 // Puts an item at a key that is not in the row.
-fn add(
-    row: &mut Row,
-    tree: &mut BTreeMap<Hashed, Item>,
-    key: Hashed,
-    item: Item,
-) -> Result<Option<Item>, NoMemory>
+fn add(row: &mut Row, parts: &mut Parts, key: Hashed, item: Item) -> Result<Option<Item>, NoMemory>
     requires none { item_in row.old key ≡ None }
-    ensures old { IfOk result (λ old. old ≡ item_in tree.old.entries key) }
-    ensures ok { OnOk result (IsWith (row.old ++ tree.old.entries) key (Some item) (row.new ++ tree.new.entries)) }
-    ensures err { OnErr result ((row.new ≡ row.old) × (tree.new.entries ≡ tree.old.entries)) }
+    ensures old { IfOk result (λ old. old ≡ item_in parts.old key) }
+    ensures ok { OnOk result (IsWith (row.old ++ parts.old) key (Some item) (row.new ++ parts.new)) }
+    ensures err { OnErr result ((row.new ≡ row.old) × (parts.new ≡ parts.old)) }
 {
-    if row.has_room() && tree.is_empty() {
-        row.push(key, item)?;
-        return Ok(None);
+    if row.has_room() && parts.is_empty() {
+        match row.push(key, item) {
+            Ok(()) => return Ok(None),
+            Err(back) => {
+                drop(back);
+                return Err(NoMemory);
+            }
+        }
     }
-    match tree.insert(key, item) {
+    match parts.insert(key, item) {
         Ok(before) => {
-            row.move_one(tree);
+            row.move_to_parts(parts);
             Ok(before)
         }
         Err(back) => {

@@ -1,7 +1,7 @@
 //! The items of a shard by their keys.
 ghost use Rattle.std.specs.Prelude.{◌≡◌, ◌<◌, length, IfOk, OnOk, OnErr, option_copied};
 ghost use Rattle.std.specs.FinMap.{get, contains_key, insert, remove, empty};
-ghost use Rattle.mc_shard.specs.Buckets.{AreBuckets, items_among};
+ghost use Rattle.mc_shard.specs.Buckets.{AreBuckets, bucket_of, items_among};
 
 use crate::bucket::Bucket;
 use crate::hashed::Hashed;
@@ -26,7 +26,7 @@ impl Model for Buckets {
     ghost use Rattle.zy_base.specs.Shard.{Items};
     ghost use Rattle.std.specs.Coded.{codes};
     ghost use Rattle.mc_shard.specs.Contents.{items_code};
-    ghost use Rattle.mc_shard.specs.Buckets.{AreBuckets, items_among};
+    ghost use Rattle.mc_shard.specs.Buckets.{AreBuckets, bucket_of, items_among};
 
     ghost Value = { Items };
 
@@ -34,7 +34,7 @@ impl Model for Buckets {
 
     ghost view = { λ t. items_among t.buckets.items };
 
-    ghost invariant = { λ t. AreBuckets t.buckets.items };
+    ghost invariant = { λ t. AreBuckets bucket_of 256 t.buckets.items };
 }
 
 impl Buckets {
@@ -97,8 +97,8 @@ impl Buckets {
 
 // Makes the buckets where there are none.
 fn make_buckets(buckets: &mut Vec<Bucket>) -> Result<(), NoMemory>
-    requires buckets { AreBuckets buckets.old.items }
-    ensures buckets { AreBuckets buckets.new.items }
+    requires buckets { AreBuckets bucket_of 256 buckets.old.items }
+    ensures buckets { AreBuckets bucket_of 256 buckets.new.items }
     ensures same { items_among buckets.new.items ≡ items_among buckets.old.items }
     ensures all { OnOk result (length buckets.new.items ≡ 256) }
 {
@@ -112,7 +112,7 @@ fn make_buckets(buckets: &mut Vec<Bucket>) -> Result<(), NoMemory>
 
 // Buckets without an item.
 fn new_buckets(alloc: Global) -> Result<Vec<Bucket>, NoMemory>
-    ensures buckets { IfOk result (λ buckets. AreBuckets buckets.items) }
+    ensures buckets { IfOk result (λ buckets. AreBuckets bucket_of 256 buckets.items) }
     ensures none { IfOk result (λ buckets. items_among buckets.items ≡ empty) }
     ensures all { IfOk result (λ buckets. length buckets.items ≡ 256) }
 {
@@ -127,10 +127,10 @@ fn new_buckets(alloc: Global) -> Result<Vec<Bucket>, NoMemory>
 
 // Puts an item at a key, in the key's bucket.
 fn insert_in(buckets: &mut Vec<Bucket>, key: Hashed, item: Item) -> Result<Option<Item>, NoMemory>
-    requires buckets { AreBuckets buckets.old.items }
+    requires buckets { AreBuckets bucket_of 256 buckets.old.items }
     requires all { length buckets.old.items ≡ 256 }
     ensures old { IfOk result (λ old. old ≡ get (items_among buckets.old.items) key) }
-    ensures buckets { AreBuckets buckets.new.items }
+    ensures buckets { AreBuckets bucket_of 256 buckets.new.items }
     ensures ok { OnOk result (items_among buckets.new.items ≡ insert (items_among buckets.old.items) key item) }
     ensures err { OnErr result (items_among buckets.new.items ≡ items_among buckets.old.items) }
 {

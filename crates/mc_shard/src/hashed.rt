@@ -5,7 +5,7 @@ ghost use Rattle.std.specs.Cmp.{partial_equiv_from_equiv, partial_order_from_tot
 ghost use Rattle.zy_base.specs.Call.{key_of};
 ghost use Rattle.zy_base.specs.Key.{hash_of};
 ghost use Rattle.mc_shard.specs.Contents.{hashed_cmp, hashed_total};
-ghost use Rattle.mc_shard.specs.Buckets.{bucket_of, fingerprint_of};
+ghost use Rattle.mc_shard.specs.Buckets.{bucket_of, part_of, fingerprint_of};
 
 use std::cmp::Ordering;
 use std::marker::Model;
@@ -49,11 +49,19 @@ impl Hashed {
         (self.hash / 16_777_216) as usize
     }
 
-    /// Its fingerprint: the second eight bits of the hash.
+    /// The number of its part: the next five bits of the hash.
+    pub fn part(&self) -> usize
+        ensures value { result ≡ part_of self.now }
+        ensures within { result < 32 }
+    {
+        (self.hash / 524_288 % 32) as usize
+    }
+
+    /// Its fingerprint: the third eight bits of the hash.
     pub fn fingerprint(&self) -> u8
         ensures value { result ≡ fingerprint_of self.now }
     {
-        (self.hash / 65_536 % 256) as u8
+        (self.hash / 256 % 256) as u8
     }
 
     /// A copy of a key that has this hash.

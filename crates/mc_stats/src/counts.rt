@@ -14,7 +14,7 @@ pub struct Counts {
     pub hits: u64,
     /// The gets that found none.
     pub misses: u64,
-    /// The items that there are.
+    /// The current items.
     pub items: u64,
 }
 

@@ -1,4 +1,4 @@
-//! What a get whose key was lent answers.
+//! The result of `fetch`.
 
 /// What one try of a get gave, whose reply is appended to those that the caller has.
 #[derive(Drop)]

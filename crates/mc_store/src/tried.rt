@@ -1,4 +1,4 @@
-//! What a call that was given by value answers.
+//! The result of `make_call`.
 use zy_base::{Call, CallReply};
 
 /// What one try of a call that was given by value gave.

@@ -1,4 +1,4 @@
--- A worked capture of two connections that are apart.
+-- An example capture of two connections that are apart.
 use Rattle.std.specs.Prelude.{List, [], ◌∷◌, codes}
 use Rattle.zy_base.specs.declared.call.Call.TheVariants as Calls
 use Rattle.zy_base.specs.declared.call_reply.CallReply.TheVariants as Replies

@@ -1,4 +1,4 @@
--- Worked counts.
+-- Example counts.
 use Rattle.zy_base.specs.declared.tallied.Tallied.{Tallied}
 
 -- nothing is counted

@@ -1,4 +1,4 @@
--- A worked run of two connections, one of which has two sessions.
+-- An example run of two connections, one of which has two sessions.
 use Rattle.std.specs.Prelude.{ℕ, List, [], ◌∷◌, codes}
 use Rattle.zy_base.specs.declared.call.Call.TheVariants as Calls
 use Rattle.zy_base.specs.declared.call_reply.CallReply.TheVariants as Replies

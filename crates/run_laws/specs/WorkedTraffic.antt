@@ -1,4 +1,4 @@
--- A worked capture, docs/FORMATS.md, "Generated traffic": one command of one connection, made from 42.
+-- An example capture, docs/FORMATS.md, "Generated traffic": one command of one connection, made from 42.
 use Rattle.std.specs.Prelude.{ℕ, List, ◌++◌, ◌∷◌, [], codes}
 
 -- `get k0:9`, cut after six bytes

@@ -48,7 +48,7 @@ pub fn yes_means_a_run()
         → Spans g.holds (length g.streams) (commands_held g.streams) }
 {}
 
-/// Where the verdict on a journal and outputs that have a spelling and a capture's streams is yes,
+/// Where the verdict on a journal and outputs that have an encoding and a capture's streams is yes,
 /// they are those of a run of the capture's records, in the order of their stamps.
 pub fn what_checks_is_of_a_run()
     ensures run { (shards count : ℕ) (records : List Record) (journal : Journal)

@@ -52,7 +52,7 @@ pub fn a_quit_line_begins_the_rest()
         → Splits (joined pieces ++ (line ++ line_feed ∷ after)) pieces (line ++ line_feed ∷ after) }
 {}
 
-/// A quit line is met exactly where the rest begins with one.
+/// A quit line is met if and only if the rest begins with one.
 pub fn quit_is_met_where_the_rest_begins_with_it()
     ensures law { (stream : List ℕ) (pieces : List (List ℕ)) (rest : List ℕ) → Splits stream pieces rest
         → (meets_quit stream ≡ true) ↔ BeginsWithQuit rest }
@@ -118,7 +118,7 @@ pub fn each_kind_of_frame_text_has_its_frame()
         → frame_of text ≡ Kinds.Large (chomped t.line) }
 {}
 
-/// Worked streams, and their frames: blocks with line ends and commands in them, faulty lines, and
+/// Example streams, and their frames: blocks with line ends and commands in them, faulty lines, and
 /// streams that end within a frame.
 #[tactic(auto, unfolding(zy_frame::specs::Cut::cut_of, zy_frame::specs::Cut::frames_of, mc_parse::specs::Words::words, mc_parse::specs::Need::need))]
 pub fn worked_frames()
@@ -147,7 +147,7 @@ pub fn worked_quit_lines()
     ensures words { meets_quit (codes "quit now\r\n") ≡ false }
 {}
 
-/// Worked commands: those of a stream, and of frames that are too large and too long.
+/// Example commands: those of a stream, and of frames that are too large and too long.
 #[tactic(auto, unfolding(zy_frame::specs::Cut::cut_of, zy_frame::specs::Cut::frames_of, mc_parse::specs::Words::words, mc_parse::specs::Need::need, mc_parse::specs::Meaning::line_command, mc_parse::specs::Meaning::block_command, mc_parse::specs::Meaning::large_command))]
 pub fn worked_commands()
     ensures stream { commands_of

@@ -1,9 +1,9 @@
-//! Worked reports.
+//! Example reports.
 ghost use Rattle.std.specs.Prelude.{◌≡◌, [], ◌∷◌, ◌++◌, codes};
 ghost use Rattle.zy_report.specs.Report.{report_of, table};
 ghost use Rattle.run_laws.specs.WorkedReport.{all_zero, one_each, large};
 
-/// The report on no entry, and tables of worked counts: shards without counts have no line, and a
+/// The report on no entry, and tables of example counts: shards without counts have no line, and a
 /// number of more than 12 digits takes more places.
 pub fn worked_reports()
     ensures none { report_of [] ≡ codes "all           0           0           0           0           0\n" }

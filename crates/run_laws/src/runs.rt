@@ -18,7 +18,7 @@ ghost use Rattle.run_laws.specs.Alone.{alone};
 ghost use Rattle.zy_run.specs.Summary.{summary, summary_of_run};
 ghost use Rattle.run_laws.specs.WorkedApart.{apart_records, apart_entries, apart_summary};
 
-/// A worked run: the definitions compute what is stated of it.
+/// An example run: the definitions compute what is stated of it.
 pub fn the_worked_run_is_one()
     ensures run { IsRun 16 worked_entries 2 (commands_in worked_records) }
     ensures order { IsOrdered None worked_entries }
@@ -52,7 +52,7 @@ pub fn each_session_has_its_output()
         ≡ session_output conn session streams es }
 {}
 
-/// If the commands of connections are apart, two runs of them have the same outputs, whatever the
+/// If the commands of connections share no keys, two runs of them have the same outputs, whatever the
 /// numbers of their shards.
 pub fn runs_apart_have_the_same_outputs()
     ensures same { (shards others count : ℕ) (streams : ℕ → List (List ℕ)) (es fs : List Entry)
@@ -81,7 +81,7 @@ pub fn serial_is_a_run()
         → IsOrdered None (serial shards count commands) }
 {}
 
-/// If the commands of connections are apart, each run of them has as many entries as the serial
+/// If the commands of connections share no keys, each run of them has as many entries as the serial
 /// run, and as many bytes in its outputs, whatever the numbers of their shards.
 pub fn each_run_has_the_summary()
     ensures value { (shards others count : ℕ) (streams : ℕ → List (List ℕ)) (es : List Entry)
@@ -90,7 +90,7 @@ pub fn each_run_has_the_summary()
         → summary_of_run count streams es ≡ summary others count streams }
 {}
 
-/// A worked capture whose connections are apart: one of its runs, and its summary.
+/// An example capture whose connections share no keys: one of its runs, and its summary.
 pub fn the_worked_capture_is_apart()
     ensures apart { AreApart 2 (commands_in apart_records) }
     ensures run { IsRun 16 apart_entries 2 (commands_in apart_records) }

@@ -9,7 +9,7 @@ ghost use Rattle.zy_run.specs.Summary.{count_of_commands};
 ghost use Rattle.zy_gen.specs.Traffic.{gen_bytes, traffic_records, IsTraffic};
 ghost use Rattle.run_laws.specs.WorkedTraffic.{worked_traffic};
 
-/// The worked capture has its 41 bytes.
+/// The example capture has its 41 bytes.
 pub fn the_worked_capture_has_its_bytes()
     ensures value { gen_bytes 42 1 1 ≡ worked_traffic }
 {}

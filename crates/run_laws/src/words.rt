@@ -1,11 +1,11 @@
-//! Worked words of the command line.
+//! Example words of the command line.
 ghost use Rattle.std.specs.Prelude.{◌≡◌, [], ◌∷◌, codes, Some, None};
 ghost use Rattle.zy_command_line.specs.declared.request.Run.{Run};
 ghost use Rattle.zy_command_line.specs.Request.{request_of};
 ghost use Rattle.zy_command_line.specs.declared.request.Request.TheVariants as Requests;
 ghost use Rattle.zy_command_line.specs.declared.request.Out.TheVariants as Outs;
 
-/// Worked words, and what they ask for.
+/// Example words, and what they ask for.
 #[tactic(auto, unfolding(zy_command_line::specs::Grammar::options_from))]
 pub fn worked_requests()
     ensures empty { request_of [] ≡ None }
@@ -31,7 +31,7 @@ pub fn worked_requests()
     ensures too_much { request_of (codes "gen" ∷ codes "--conns=1001" ∷ codes "--commands=1000" ∷ []) ≡ None }
 {}
 
-/// Worked words with `--rest`, and what they ask for.
+/// Example words with `--rest`, and what they ask for.
 #[tactic(auto, unfolding(zy_command_line::specs::Grammar::options_from))]
 pub fn worked_rests()
     ensures most { request_of (codes "run" ∷ codes "--rest" ∷ codes "1000000" ∷ [])

@@ -23,7 +23,7 @@ const CORES: u32 = 2;
 // The segments of the capture: fewer than a receive ring has slots.
 const SEGMENTS: u64 = 250;
 
-// The largest number of bytes that a read gives where it gives all.
+// The largest number of bytes that a read gives if it gives all.
 const ALL: usize = 65_536;
 
 // What is driven.
@@ -49,7 +49,7 @@ enum Answer {
     AsFed,
 }
 
-// A feeder that notes before each step how many of the commands that it offered were not carried out
+// A feeder that notes before each step how many of the commands that it offered were not executed
 // yet.
 #[derive(Drop)]
 struct Watched<'g, F> {

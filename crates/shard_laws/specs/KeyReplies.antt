@@ -1,4 +1,4 @@
--- The replies to the calls on one key, uniques aside.
+-- The replies to the calls on one key, CAS values aside.
 use Rattle.std.specs.Prelude.{◌≡◌, ℕ, Bool, true, false, if◌then◌else◌, List, [], ◌∷◌, Option, None, Some, filter}
 use Rattle.std.specs.Ordering.{nat_cmp, eq_by_cmp}
 use Rattle.std.specs.Cmp.Lexicographic.{slice_cmp}
@@ -37,12 +37,12 @@ is_about key call = is_key key (key_of call)
 abbrev pub calls_about : List ℕ → List Call → List Call
 calls_about key calls = filter (is_about key) calls
 
--- a reply without the unique that it shows
+-- a reply without the CAS value that it shows
 abbrev pub without_unique : CallReply → CallReply
 without_unique (Hit flags unique value) = Hit flags 0 value
 without_unique reply = reply
 
--- the replies to the calls on the key and to the flushes, uniques aside, when all of these calls
+-- the replies to the calls on the key and to the flushes, CAS values aside, when all of these calls
 -- are made in turn
 abbrev pub replies_about : ℕ → ℕ → State → List ℕ → List Call → List CallReply
 replies_about shards number state key [] = []

@@ -12,11 +12,11 @@ use Rattle.shard_laws.specs.KeyReplies.{AreWithoutCas, calls_about, replies_abou
 
 -- ---- uniques
 
--- in a legal list the uniques that are given on one shard rise strictly, and are above its number
+-- in a legal list the CAS values that are given on one shard rise strictly, and are above its number
 abbrev pub UniquesRise : Type 0
 UniquesRise = (shards number : ℕ) (es : List Entry) → IsLegal shards es → AreRising number (uniques_at shards number es)
 
--- in a legal list no unique is given on two shards
+-- in a legal list no CAS value is given on two shards
 abbrev pub UniquesDiffer : Type 0
 UniquesDiffer =
     (shards a b unique : ℕ) (es : List Entry) → IsLegal shards es
@@ -54,7 +54,7 @@ FlushKeepsCount = (shards number : ℕ) (state : State) → (state_after shards 
 -- ---- lists of calls
 
 -- two lists without a cas that have the same calls on a key, and the same flushes between them, have the same replies
--- to these, uniques aside, whatever the other calls and the shard's numbers are
+-- to these, CAS values aside, whatever the other calls and the shard's numbers are
 abbrev pub KeyStandsAlone : Type 0
 KeyStandsAlone =
     (shards number shards' number' : ℕ) (key : List ℕ) (calls calls' : List Call) → AreWithoutCas calls

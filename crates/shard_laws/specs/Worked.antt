@@ -1,4 +1,4 @@
--- Worked calls on one shard: what it answers to them, one after the other.
+-- Example calls on one shard: what it answers to them, one after the other.
 use Rattle.std.specs.Prelude.{ℕ, List, [], ◌∷◌, codes}
 use Rattle.zy_base.specs.declared.call.Call.{Call}
 use Rattle.zy_base.specs.declared.call.Call.TheVariants as Calls
@@ -18,7 +18,7 @@ answers calls = answers_from 16 12 empty_state calls
 
 -- ---- items and their uniques
 
--- an item is stored, and then exchanged by its unique
+-- an item is stored, and then exchanged by its CAS value
 abbrev pub exchanges : List Call
 exchanges =
     Calls.Get (codes "a")

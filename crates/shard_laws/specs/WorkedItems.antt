@@ -1,4 +1,4 @@
--- Worked calls, one at a time: the item of their key, and what they come to.
+-- Example calls, one at a time: the item of their key, and what they come to.
 use Rattle.std.specs.Prelude.{ℕ, List, Option, Some}
 use Rattle.zy_base.specs.declared.item.Item.{Item}
 use Rattle.zy_base.specs.declared.call_reply.CallReply.{CallReply}
@@ -9,7 +9,7 @@ use Rattle.zy_base.specs.Shard.{Effect, Outcome}
 abbrev pub none : Tallied
 none = record { gets = 0; sets = 0; hits = 0; misses = 0; items = 0 }
 
--- an item with this value, the flags 7 and the unique 19
+-- an item with this value, the flags 7 and the CAS value 19
 abbrev pub item_of : List ℕ → Option Item
 item_of value = Some (record { flags = 7; value = value; unique = 19 })
 

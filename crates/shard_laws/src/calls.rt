@@ -1,4 +1,4 @@
-//! Laws of the table of calls: worked calls, and calls that change nothing.
+//! Laws of the table of calls: example calls, and calls that change nothing.
 ghost use Rattle.std.specs.Prelude.{◌≡◌, ℕ, codes, decimal, None};
 ghost use Rattle.zy_base.specs.declared.call.Call.TheVariants as Calls;
 ghost use Rattle.zy_base.specs.Counted.{counted};
@@ -8,7 +8,7 @@ ghost use Rattle.shard_laws.specs.Laws.{FailedCasKeeps, FailedAddKeeps, FailedRe
 ghost use Rattle.zy_base.specs.declared.call_reply.CallReply.TheVariants as Replies;
 ghost use Rattle.shard_laws.specs.WorkedItems.{none, item_of, outcome};
 
-/// Worked calls, one after the other, on shard 12 of 16: what the table of calls answers.
+/// Example calls, one after the other, on shard 12 of 16: what the table of calls answers.
 pub fn worked_calls()
     ensures exchanges { Worked.answers Worked.exchanges ≡ Worked.exchanged }
     ensures joins { Worked.answers Worked.joins ≡ Worked.joined }
@@ -16,7 +16,7 @@ pub fn worked_calls()
     ensures removals { Worked.answers Worked.removals ≡ Worked.removed }
 {}
 
-/// Worked calls on a key without an item: what the table of calls computes.
+/// Example calls on a key without an item: what the table of calls computes.
 pub fn worked_calls_without_an_item()
     ensures get { outcome_of none (Calls.Get (codes "a")) None ≡ outcome Replies.Miss keeps }
     ensures add { outcome_of none (Calls.Add (codes "a") 5 (codes "x")) None
@@ -29,7 +29,7 @@ pub fn worked_calls_without_an_item()
     ensures flush { outcome_of none Calls.Flush None ≡ outcome Replies.Flushed empties }
 {}
 
-/// Worked calls on a key whose item has the flags 7 and the unique 19: what the table of calls
+/// Example calls on a key whose item has the flags 7 and the CAS value 19: what the table of calls
 /// computes.
 pub fn worked_calls_with_an_item()
     ensures get { outcome_of none (Calls.Get (codes "a")) (item_of (codes "one"))
@@ -50,7 +50,7 @@ pub fn worked_calls_with_an_item()
         ≡ outcome Replies.Deleted (removes (codes "a")) }
 {}
 
-/// Worked counts: what the table of calls computes.
+/// Example counts: what the table of calls computes.
 pub fn worked_counts()
     ensures wraps { outcome_of none (Calls.Incr (codes "n") 11) (item_of (codes "18446744073709551615"))
         ≡ outcome (Replies.Number 10) (stores (codes "n") 7 (decimal 10)) }

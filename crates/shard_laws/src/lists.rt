@@ -37,7 +37,7 @@ pub fn a_command_has_its_replies()
         → replies_at index (e ∷ es) ≡ replies_at index es }
 {}
 
-/// A list of entries is legal exactly where each shard's part is a replay on that shard.
+/// A list of entries is legal if and only if each shard's part is a replay on that shard.
 pub fn a_list_is_legal_shard_by_shard()
     ensures parts { (shards : ℕ) (es : List Entry) → IsLegal shards es
         → AreBelow shards es × ((shard : ℕ) → IsReplay shards shard empty_state (at_shard shard es)) }
@@ -45,7 +45,7 @@ pub fn a_list_is_legal_shard_by_shard()
         → ((shard : ℕ) → IsReplay shards shard empty_state (at_shard shard es)) → IsLegal shards es }
 {}
 
-/// A list with one further entry is legal exactly where the list is, and the entry's shard exists
+/// A list with one more entry is legal if and only if the list is, and the entry's shard exists
 /// and gives this reply to the call.
 pub fn a_legal_list_grows_by_a_reply()
     ensures more { (shards : ℕ) (es : List Entry) (e : Entry) → IsLegal shards es → e.shard < shards
@@ -58,7 +58,7 @@ pub fn a_legal_list_grows_by_a_reply()
         → e.reply ≡ reply_to (replayed shards e.shard empty_state (at_shard e.shard es)) e.call }
 {}
 
-/// What a shard counts is counted from the entries of its calls alone, and the items that are
+/// What a shard counts is counted from the entries of its calls only, and the items that are
 /// counted are the keys that it has.
 pub fn a_shard_counts_its_entries()
     ensures replay { (shards number : ℕ) (es : List Entry) → IsReplay shards number empty_state es
@@ -68,7 +68,7 @@ pub fn a_shard_counts_its_entries()
         ≡ len (replayed shards number empty_state (at_shard number es)).items }
 {}
 
-/// A list is legal exactly where each tally answers what is counted of the entries of its shard
+/// A list is legal if and only if each tally answers what is counted of the entries of its shard
 /// before it, and every other call what the replay of these entries answers.
 pub fn a_legal_list_has_counted_tallies()
     ensures answered { (shards : ℕ) (es : List Entry) → IsLegal shards es → AreAnswered shards [] es }

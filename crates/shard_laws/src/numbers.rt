@@ -3,7 +3,7 @@ ghost use Rattle.std.specs.Prelude.{◌≡◌, ◌<◌, ◌^◌, ℕ, [], codes,
 ghost use Rattle.zy_base.specs.Number.{number_of};
 ghost use Rattle.zy_base.specs.Key.{hash_of, shard_of};
 
-/// Worked keys: the published hashes of FNV-1a, and the shards that they give.
+/// Example keys: the published hashes of FNV-1a, and the shards that they give.
 pub fn worked_shards()
     ensures nothing { hash_of [] ≡ 2166136261 }
     ensures letter { hash_of (codes "a") ≡ 3826002220 }
@@ -15,7 +15,7 @@ pub fn worked_shards()
     ensures most { shard_of (codes "a") 256 ≡ 44 }
 {}
 
-/// Worked numbers: 1 to 20 digits, and a number below 2^64.
+/// Example numbers: 1 to 20 digits, and a number below 2^64.
 pub fn worked_numbers()
     ensures none { number_of [] ≡ None }
     ensures zero { number_of (codes "0") ≡ Some 0 }

@@ -19,23 +19,23 @@ pub fn replies_are_of_the_table()
     ensures legal { (shards : ℕ) (es : List Entry) → IsLegal shards es → AreAnswers es }
 {}
 
-/// The replies of a legal list are within their bounds, where its calls are.
+/// The replies of a legal list are within their bounds, if its calls are.
 pub fn replies_are_within_their_bounds()
     ensures each { (commands shards : ℕ) (es : List Entry) → IsLegal shards es
         → AllByRecursion (IsCallWithin commands) es
         → AllByRecursion (λ (e : Entry). IsReply e.reply) es }
 {}
 
-/// If shards have the same at a call's key, apart from uniques, they give a steady call the same
-/// reply, apart from the unique that it shows.
+/// If shards have the same at a call's key, apart from CAS values, they give a steady call the same
+/// reply, apart from the CAS value that it shows.
 pub fn steady_calls_tell_no_other_unique()
     ensures reply { (state other : State) (call : Call) (key : List ℕ) → IsSteady call
         → key_of call ≡ Some key → seen_at key state ≡ seen_at key other
         → told (reply_to state call) ≡ told (reply_to other call) }
 {}
 
-/// In a list without a cas, the replies to the calls on a key and to the flushes, uniques aside,
-/// depend on these calls alone.
+/// In a list without a cas, the replies to the calls on a key and to the flushes, CAS values aside,
+/// depend on these calls only.
 pub fn a_key_depends_on_its_own_calls()
     ensures alone { KeyStandsAlone }
 {}

@@ -70,10 +70,15 @@ impl Blob {
     pub(crate) fn from_short(alloc: Global, short: Short) -> Blob
         ensures value { result ≡ short }
     {
-        Blob {
-            alloc,
-            storage: Storage::Short(short),
-        }
+        Blob::from_storage(alloc, Storage::Short(short))
+    }
+
+    // The bytes that are kept so. Takes no memory.
+    pub(crate) fn from_storage(alloc: Global, storage: Storage) -> Blob
+        requires within { IsWithin storage }
+        ensures value { result ≡ bytes_of storage }
+    {
+        Blob { alloc, storage }
     }
 
     /// The same bytes. Takes no memory where they are in place or shared.

@@ -1,5 +1,6 @@
 //! Where the bytes of a byte string are.
-ghost use Rattle.std.specs.Prelude.{◌≡◌, ◌+◌, ◌≤◌, ◌<◌, ◌++◌, length, take, vec_len, vec_capacity, IfOk, IfErr};
+ghost use Rattle.std.specs.Prelude.{◌≡◌, ◌+◌, ◌-◌, ◌≤◌, ◌<◌, ◌++◌, length, take, drop, vec_len, vec_capacity};
+ghost use Rattle.std.specs.Prelude.{IfOk, IfErr, IsOk};
 ghost use Rattle.zy_base.specs.Blob.{bytes_of, IsWithin};
 
 use crate::outside::NoMemory;
@@ -14,8 +15,12 @@ pub(crate) enum Storage {
     Short(Short),
     // In a vector of its own.
     Own(Vec<u8>),
-    // The first `len` bytes of a vector that may have several owners.
-    Shared { block: Arc<Vec<u8>>, len: usize },
+    // A part of a vector that may have several owners: `len` bytes, from `from` on.
+    Shared {
+        block: Arc<Vec<u8>>,
+        from: usize,
+        len: usize,
+    },
 }
 
 impl Storage {
@@ -27,7 +32,7 @@ impl Storage {
         match self {
             Storage::Short(short) => short.bytes(),
             Storage::Own(bytes) => bytes.as_slice(),
-            Storage::Shared { block, len } => &block.as_slice()[..*len],
+            Storage::Shared { block, from, len } => &block.as_slice()[*from..*from + *len],
         }
     }
 
@@ -40,10 +45,7 @@ impl Storage {
         match self {
             Storage::Short(short) => Ok(Storage::Short(short.copy())),
             Storage::Own(bytes) => copied(alloc, bytes.as_slice()),
-            Storage::Shared { block, len } => match Arc::try_clone(block) {
-                Ok(block) => Ok(Storage::Shared { block, len: *len }),
-                Err(_) => Err(NoMemory),
-            },
+            Storage::Shared { block, from, len } => shared_part(block, *from, *len),
         }
     }
 
@@ -117,8 +119,39 @@ pub(crate) fn shared(alloc: Global, bytes: Vec<u8>) -> Result<Storage, Storage>
         return Ok(in_place(bytes.as_slice()));
     }
     match Arc::new(alloc, bytes) {
-        Ok(block) => Ok(Storage::Shared { block, len }),
+        Ok(block) => Ok(Storage::Shared {
+            block,
+            from: 0,
+            len,
+        }),
         Err(refused) => Err(Storage::Own(refused.value)),
+    }
+}
+
+// The bytes of a vector from `from` up to `end`: in place where they fit, and else shared.
+pub(crate) fn part(block: &Arc<Vec<u8>>, from: usize, end: usize) -> Result<Storage, NoMemory>
+    requires order { from ≤ end }
+    requires within { end ≤ length block.now.value.items }
+    ensures value { IfOk result (λ part. bytes_of part ≡ take (end - from) (drop from block.now.value.items)) }
+    ensures within { IfOk result (λ part. IsWithin part) }
+    ensures few { end - from ≤ 16 → IsOk result }
+{
+    let len = end - from;
+    if len <= ROOM {
+        return Ok(in_place(&block.as_slice()[from..end]));
+    }
+    shared_part(block, from, len)
+}
+
+// The `len` bytes of a vector from `from` on, shared.
+fn shared_part(block: &Arc<Vec<u8>>, from: usize, len: usize) -> Result<Storage, NoMemory>
+    requires within { from + len ≤ length block.now.value.items }
+    ensures value { IfOk result (λ part. bytes_of part ≡ take len (drop from block.now.value.items)) }
+    ensures within { IfOk result (λ part. IsWithin part) }
+{
+    match Arc::try_clone(block) {
+        Ok(block) => Ok(Storage::Shared { block, from, len }),
+        Err(_) => Err(NoMemory),
     }
 }
 

@@ -1,4 +1,4 @@
-//! Batches: the system calls of one hold.
+//! Batches: the reply texts of one hold.
 ghost use Rattle.std.specs.Prelude.{◌≡◌, length, OnOk, OnErr, IfErr};
 ghost use Rattle.zy_calls.specs.Batch.{no_text, with_text, with_finished};
 

@@ -1,6 +1,6 @@
 -- A segment that bytes hold whole, fed at once, and the records with which bytes begin.
 use Rattle.std.proofs.Common.{◌≡◌, ℕ, ◌+◌, ◌<◌, ◌≤◌, ◌^◌, List, [], ◌∷◌, ◌++◌, length, take, drop, get_or, refl, sym, ◌∙◌, ap, subst, inl, inr, arith, take-add, length-append}
-use Rattle.std.specs.Prelude.{◌⊎◌, None}
+use Rattle.std.specs.Prelude.{◌⊎◌, Option, None}
 use Rattle.std.specs.List.{concat}
 use Rattle.std.proofs.lemmas.List.{append-nil, length-take-le, length-drop, take-append-drop}
 use Rattle.std.proofs.lemmas.Nat.{be_bytes_4, from_be_bytes-to_be_bytes_4}
@@ -15,11 +15,13 @@ use Rattle.zy_read.proofs.FieldLemmas.{runs_read}
 use Rattle.zy_read.proofs.OverLemmas.{over_join}
 use Rattle.zy_capture.specs.declared.record.Record.{Record}
 use Rattle.zy_capture.specs.declared.record.Record.TheVariants as Kinds
+use Rattle.zy_capture.specs.declared.capture_fault.CaptureFault.{CaptureFault}
+use Rattle.zy_capture.specs.declared.due.Due.{Due}
 use Rattle.zy_capture.specs.declared.due.Due.TheVariants.{Tag, Length}
 use Rattle.zy_capture.specs.declared.capture_state.CaptureState.{CaptureState}
 use Rattle.zy_capture.specs.Capture.{spelled, capture_limit, segment_limit}
 use Rattle.zy_capture.specs.Steps.{CaptureProgress, to, number, segment, fields, headed}
-use Rattle.zy_capture.specs.Standing.{IsLengthEnd}
+use Rattle.zy_capture.specs.Standing.{IsLengthEnd, IsWithinBy, seen_of}
 use Rattle.zy_capture.specs.Whole.{BeginsWithRecord, HasLength, front_conn, front_size, HoldsSegment, TakesSegment}
 use Rattle.zy_capture.specs.Verdict.{captures}
 use Rattle.zy_capture.proofs.PartLemmas.{Over, rest_over}
@@ -75,6 +77,12 @@ segment_read s at size conn sizes payload is four four_more known size_is few lo
     let whole : length (concat over.parts) ≡ 9 + size = omega (arith, ap (λ (l : List ℕ). length l) over.text_is, length-append (83 ∷ conn) (sizes ++ payload), length-append sizes payload, four, four_more, long) in
     ap (λ (l : List ℕ). read_on (step fields) (at_state s at) l) (sym over.text_is ∙ sym (append-nil (concat over.parts)))
     ∙ runs_read fields lawful over.parts s (to s Tag) at (at + (9 + size)) (segment (number conn) payload ∷ []) [] (omega (arith, whole)) room over.runs
+
+-- a reader that expects a tag, and has met no fault, keeps no byte
+pub at_tag : (due : Due) (fault : Option CaptureFault) (at : ℕ) (field payload : List ℕ) (room : ℕ) → due ≡ Tag → fault ≡ None → IsWithinBy fault due at field payload room → seen_of due field payload ≡ []
+at_tag due fault at field payload room is none within =
+    subst (λ (d : Due). seen_of d field payload ≡ []) (sym is)
+    (subst (λ (f : Option CaptureFault). IsWithinBy f Tag at field payload room) none (subst (λ (d : Due). IsWithinBy fault d at field payload room) is within))
 
 -- the place after it
 place_after : (p : CaptureProgress) (at : ℕ) → p.state.due ≡ Tag → p.fault ≡ None → p.seen ≡ [] → record p { at = at } ≡ at_state (to p.state Tag) at

@@ -12,11 +12,12 @@ mod whole;
 use crate::capture_fault::{CaptureFault, FeedFault};
 use crate::capture_state::CaptureState;
 use crate::due::Due;
+use crate::reader::whole::{copy_of, part_of};
 use crate::record::Record;
 use std::alloc::Global;
 use std::marker::Model;
 use zy_base::Filling;
-use zy_read::{Fed, Field, MagicPart, feed, feed_piece};
+use zy_read::{Fed, Field, MagicPart, Pieces, feed, feed_piece};
 
 /// Reads a capture, byte by byte or in pieces.
 #[derive(Drop)]
@@ -102,8 +103,36 @@ impl Reader {
             → IsLengthEnd self.new (get_or bytes.now result.taken 0) }
     {
         match self.lawful_segment(bytes) {
-            Some(head) => self.take_segment(bytes, head),
+            Some(head) => {
+                let copy = copy_of(self.alloc, bytes, head.size);
+                self.take_segment(bytes, head, copy)
+            }
             None => feed_piece(self, bytes),
+        }
+    }
+
+    /// Takes bytes of those that are left of a piece, as `feed_piece` does, and leaves them there. A
+    /// segment that the piece holds whole shares its bytes with the piece, if it has more than 16.
+    #[inline(always)]
+    pub fn feed_left(&mut self, pieces: &mut Pieces) -> Fed<Record, CaptureFault>
+        requires some { 0 < length pieces.old }
+        ensures within { result.taken ≤ length pieces.old }
+        ensures none { result.answer ≡ Ok None → result.taken ≡ length pieces.old }
+        ensures taken { (gave : _) → result.answer ≡ Ok gave → 0 < result.taken }
+        ensures fed { Feeds captures self.old self.new (take result.taken pieces.old)
+            (given_in result.answer) }
+        ensures exact { TellsFault captures self.old (take result.taken pieces.old) result.answer }
+        ensures lasts { TellsLasting captures self.old (take result.taken pieces.old) result.answer }
+        ensures memory { result.answer ≡ Err NoMemory
+            → IsLengthEnd self.new (get_or pieces.old result.taken 0) }
+        ensures kept { pieces.new ≡ pieces.old }
+    {
+        match self.lawful_segment(pieces.left()) {
+            Some(head) => {
+                let part = part_of(self.alloc, pieces, head.size);
+                self.take_segment(pieces.left(), head, part)
+            }
+            None => feed_piece(self, pieces.left()),
         }
     }
 

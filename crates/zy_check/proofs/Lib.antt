@@ -14,3 +14,4 @@ pub mod OutputLemmas
 pub mod TrackLemmas
 pub mod StepLemmas
 pub mod HoldLemmas
+pub mod AnsweredLemmas

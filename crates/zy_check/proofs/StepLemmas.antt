@@ -45,10 +45,10 @@ made_size g at conn = length-map (of_connection conn (take at g.entries)) due_of
 pub due_next : (g : Given) (at : ℕ) (e : Entry) (t : Track) (b : Begun) → e.tag.conn < length g.streams → HasMadeCalls g e.tag.conn t (made_before g at e.tag.conn) → t.begun ≡ Some b → length b.replies < length (asked_in b)
     → slice_get (due_at b.shards e.tag.conn t.commands b.command) (length b.replies) ≡ Some (due_of e) → IsNextCall g (take at g.entries) e
 due_next g at e t b within has begun few due =
-    let h : StandsAtSession g e.tag.conn t.session t.cursor (Some b) t.commands t.compared (made_before g at e.tag.conn) =
-    subst (λ (o : Option Begun). StandsAtSession g e.tag.conn t.session t.cursor o t.commands t.compared (made_before g at e.tag.conn)) begun has in record {
+    let h : StandsAtSession g e.tag.conn t.session t.cursor (Some b) t.commands t.compared t.answered.items (made_before g at e.tag.conn) =
+    subst (λ (o : Option Begun). StandsAtSession g e.tag.conn t.session t.cursor o t.commands t.compared t.answered.items (made_before g at e.tag.conn)) begun has in record {
       connection = within;
-      call = ap (slice_get (due_in g e.tag.conn)) (sym (made_size g at e.tag.conn)) ∙ next_due g e.tag.conn t.session t.cursor b t.commands t.compared (made_before g at e.tag.conn) h few
+      call = ap (slice_get (due_in g e.tag.conn)) (sym (made_size g at e.tag.conn)) ∙ next_due g e.tag.conn t.session t.cursor b t.commands t.compared t.answered.items (made_before g at e.tag.conn) h few
           ∙ ap (λ (n : ℕ). slice_get (due_at n e.tag.conn t.commands b.command) (length b.replies)) (sym h.shards) ∙ due;
     }
 
@@ -56,10 +56,10 @@ due_next g at e t b within has begun few due =
 pub next_due_in : (g : Given) (at : ℕ) (e : Entry) (t : Track) (b : Begun) → HasMadeCalls g e.tag.conn t (made_before g at e.tag.conn) → t.begun ≡ Some b → length b.replies < length (asked_in b)
     → IsNextCall g (take at g.entries) e → slice_get (due_at b.shards e.tag.conn t.commands b.command) (length b.replies) ≡ Some (due_of e)
 next_due_in g at e t b has begun few next =
-    let h : StandsAtSession g e.tag.conn t.session t.cursor (Some b) t.commands t.compared (made_before g at e.tag.conn) =
-    subst (λ (o : Option Begun). StandsAtSession g e.tag.conn t.session t.cursor o t.commands t.compared (made_before g at e.tag.conn)) begun has in
+    let h : StandsAtSession g e.tag.conn t.session t.cursor (Some b) t.commands t.compared t.answered.items (made_before g at e.tag.conn) =
+    subst (λ (o : Option Begun). StandsAtSession g e.tag.conn t.session t.cursor o t.commands t.compared t.answered.items (made_before g at e.tag.conn)) begun has in
     ap (λ (n : ℕ). slice_get (due_at n e.tag.conn t.commands b.command) (length b.replies)) h.shards
-    ∙ sym (next_due g e.tag.conn t.session t.cursor b t.commands t.compared (made_before g at e.tag.conn) h few)
+    ∙ sym (next_due g e.tag.conn t.session t.cursor b t.commands t.compared t.answered.items (made_before g at e.tag.conn) h few)
     ∙ ap (slice_get (due_in g e.tag.conn)) (made_size g at e.tag.conn) ∙ next.call
 
 -- so an entry is the call that is next exactly where it is next
@@ -93,8 +93,8 @@ next_in e tracks t so within call exact y =
 -- at its end no entry is next
 ended_as : (g : Given) (conn : ℕ) (t : Track) (made : List Due) → HasMadeCalls g conn t made → IsAtEnd g conn t → (made ≡ due_in g conn) × (t.commands ≡ length (commands_held g.streams conn))
 ended_as g conn t made has end =
-    let h : StandsAtSession g conn t.session t.cursor None t.commands t.compared made = subst (λ (o : Option Begun). StandsAtSession g conn t.session t.cursor o t.commands t.compared made) end.0 has in
-    (made_all g conn t.session t.cursor t.commands t.compared made h end.1, count_all g conn t.session t.cursor t.commands t.compared made h end.1)
+    let h : StandsAtSession g conn t.session t.cursor None t.commands t.compared t.answered.items made = subst (λ (o : Option Begun). StandsAtSession g conn t.session t.cursor o t.commands t.compared t.answered.items made) end.0 has in
+    (made_all g conn t.session t.cursor t.commands t.compared t.answered.items made h end.1, count_all g conn t.session t.cursor t.commands t.compared t.answered.items made h end.1)
 
 pub end_not_next : (g : Given) (at : ℕ) (e : Entry) (t : Track) → HasMadeCalls g e.tag.conn t (made_before g at e.tag.conn) → IsAtEnd g e.tag.conn t → IsNextCall g (take at g.entries) e → ⊥
 end_not_next g at e t has end next =
@@ -152,11 +152,11 @@ pub taken : (g : Given) (at : ℕ) (e : Entry) (t : Track) (reply : CallReply) �
     → HasMadeCalls g e.tag.conn (record t { begun = with_reply t.begun reply }) (made_before g at e.tag.conn ++ due_of e ∷ [])
 taken g at e t reply has due is same = go t.begun has due
   where
-    go : (o : Option Begun) → StandsAtSession g e.tag.conn t.session t.cursor o t.commands t.compared (made_before g at e.tag.conn) → IsDueIn o t.commands e
-        → StandsAtSession g e.tag.conn t.session t.cursor (with_reply o reply) t.commands t.compared (made_before g at e.tag.conn ++ due_of e ∷ [])
+    go : (o : Option Begun) → StandsAtSession g e.tag.conn t.session t.cursor o t.commands t.compared t.answered.items (made_before g at e.tag.conn) → IsDueIn o t.commands e
+        → StandsAtSession g e.tag.conn t.session t.cursor (with_reply o reply) t.commands t.compared t.answered.items (made_before g at e.tag.conn ++ due_of e ∷ [])
     go None h d = absurd d
     go (Some b) h d =
-        answered g e.tag.conn t.session t.cursor b t.commands t.compared (made_before g at e.tag.conn) h e reply d.0
+        answered g e.tag.conn t.session t.cursor b t.commands t.compared t.answered.items (made_before g at e.tag.conn) h e reply d.0
         (ap (λ (n : ℕ). slice_get (due_at n e.tag.conn t.commands b.command) (length b.replies)) (sym h.shards) ∙ d.1)
         (ap (slice_get (of_connection e.tag.conn g.entries)) (made_size g at e.tag.conn) ∙ own_here e.tag.conn g.entries at e is refl) same
 
@@ -194,7 +194,7 @@ end_whole g conn t has end =
 pub call_missing : (g : Given) (conn : ℕ) (t : Track) → AreRight g → ((c : ℕ) → c < conn → HasEveryEntry g c) → HasMadeCalls g conn t (dues_of (of_connection conn g.entries)) → IsAtCall t.begun → IsMissing g conn t.commands
 call_missing g conn t right first has at = go t.begun has at
   where
-    go : (o : Option Begun) → StandsAtSession g conn t.session t.cursor o t.commands t.compared (dues_of (of_connection conn g.entries)) → IsAtCall o → IsMissing g conn t.commands
+    go : (o : Option Begun) → StandsAtSession g conn t.session t.cursor o t.commands t.compared t.answered.items (dues_of (of_connection conn g.entries)) → IsAtCall o → IsMissing g conn t.commands
     go None h few = absurd few
     go (Some b) h few =
         let call = there (asked_in b) (length b.replies) few in
@@ -202,7 +202,7 @@ call_missing g conn t right first has at = go t.begun has at
           right = right;
           first = first;
           call = record { tag = tag_of conn t.commands (0 + length b.replies); call = call.0 };
-          is_due = ap (slice_get (due_in g conn)) (sym size) ∙ next_due g conn t.session t.cursor b t.commands t.compared (dues_of (of_connection conn g.entries)) h few
+          is_due = ap (slice_get (due_in g conn)) (sym size) ∙ next_due g conn t.session t.cursor b t.commands t.compared t.answered.items (dues_of (of_connection conn g.entries)) h few
               ∙ ap (λ (n : ℕ). slice_get (due_at n conn t.commands b.command) (length b.replies)) (sym h.shards) ∙ tagged_at conn t.commands 0 (length b.replies) (asked_in b) call.0 call.1;
           is_of = refl;
         }
@@ -244,8 +244,8 @@ ended_count g tracks conn t are is = let has = are.each conn t is in (ended_as g
 -- if no output was found to differ, each is the expected one
 pub end_outputs : (g : Given) (conn : ℕ) (t : Track) (made : List Due) → HasMadeCalls g conn t made → IsAtEnd g conn t → IsComplete g → t.compared.differing ≡ None → (s : ℕ) → s < length (sessions_of g.streams conn) → IsOutput g conn s
 end_outputs g conn t made has end complete none s below =
-    let h : StandsAtSession g conn t.session t.cursor None t.commands t.compared made = subst (λ (o : Option Begun). StandsAtSession g conn t.session t.cursor o t.commands t.compared made) end.0 has in
+    let h : StandsAtSession g conn t.session t.cursor None t.commands t.compared t.answered.items made = subst (λ (o : Option Begun). StandsAtSession g conn t.session t.cursor o t.commands t.compared t.answered.items made) end.0 has in
     let all : AreCompared g conn t.session [] t.compared.at None =
-    subst (λ (o : Option Differing). AreCompared g conn t.session [] t.compared.at o) none (compared_all g conn t.session t.cursor t.commands t.compared made h end.1 complete) in
+    subst (λ (o : Option Differing). AreCompared g conn t.session [] t.compared.at o) none (compared_all g conn t.session t.cursor t.commands t.compared t.answered.items made h end.1 complete) in
     let past = end.1 in
     all.0 s (omega arith)

@@ -1,7 +1,7 @@
 -- A connection's place in its streams, step by step.
 use Rattle.std.specs.List.{slice_get, concat}
-use Rattle.std.proofs.Common.{◌≡◌, ℕ, ◌+◌, ◌<◌, ◌≤◌, List, [], ◌∷◌, ◌++◌, length, take, drop, map, get_or, Option, None, Some, refl, sym, ap, ◌∙◌, subst, arith}
-use Rattle.std.proofs.lemmas.List.{append-nil, append_assoc, length-append, length-take-le, take_all, take_more, get_or_past}
+use Rattle.std.proofs.Common.{◌≡◌, ℕ, Bool, ◌+◌, ◌<◌, ◌≤◌, List, [], ◌∷◌, ◌++◌, length, take, drop, map, get_or, Option, None, Some, refl, sym, ap, ap₂, ◌∙◌, subst, arith}
+use Rattle.std.proofs.lemmas.List.{append-nil, append_assoc, map-append, length-append, length-take-le, take_all, take_more, get_or_past}
 use Rattle.std.proofs.lemmas.List.Concat.{flat_map-append}
 use Rattle.std.proofs.lemmas.List.Folds.{concat-append}
 use mathlib.Core.Logic.{dite}
@@ -15,8 +15,8 @@ use Rattle.mc_parse.specs.declared.command.Command.{Command}
 use Rattle.mc_parse.specs.Calls.{Due, due, due_at, due_from, due_of, dues_of, calls_of}
 use Rattle.mc_parse.proofs.CallLemmas.{due-append, due-more, length-tagged}
 use Rattle.mc_reply.specs.Text.{text}
-use Rattle.mc_reply.specs.Texts.{texts_from}
-use Rattle.mc_reply.proofs.TextLemmas.{texts_from-append}
+use Rattle.mc_reply.specs.Texts.{texts_from, texts_of}
+use Rattle.mc_reply.proofs.TextLemmas.{texts_from-append, texts_of-more}
 use Rattle.zy_frame.specs.Frame.{command_of}
 use Rattle.zy_frame.specs.Cut.{commands_of}
 use Rattle.zy_frame.proofs.CutLaws.{frames_of_nil}
@@ -25,6 +25,7 @@ use Rattle.zy_check.specs.declared.compared.Compared.{Compared}
 use Rattle.zy_check.specs.declared.compared.Differing.{Differing}
 use Rattle.zy_check.specs.Given.{Given, due_in, found_output, due_output, IsOutput}
 use Rattle.zy_check.specs.Cause.{agreeing_in, IsComplete}
+use Rattle.zy_check.specs.Answered.{has_bytes, answered_by}
 use Rattle.zy_check.specs.Begun.{Begun, asked_in}
 use Rattle.zy_check.specs.Comparing.{HasFirst, DiffersAt, AddedTo, EndedWith, AddsText, Finishes}
 use Rattle.zy_check.specs.Cursor.{Cursor, HasGivenCommands}
@@ -64,6 +65,11 @@ made_more : (index : ℕ) (done : List Command) (command : Command) (own : List 
 made_more index done command own =
     made_append index done (command ∷ []) own ∙ ap (λ (l : List ℕ). made_of index done own ++ l) (append-nil (text command (replies_at (index + length done) own)))
 
+-- which of these commands are answered, and the one after them
+answered-more : (commands : List Command) (last : Command) (own : List Entry) → answered_by (commands ++ last ∷ []) own ≡ answered_by commands own ++ has_bytes (text last (replies_at (length commands) own)) ∷ []
+answered-more commands last own =
+    ap (map has_bytes) (texts_of-more commands last own) ∙ map-append has_bytes (texts_of commands own) (text last (replies_at (length commands) own) ∷ [])
+
 -- if all these commands of a session were given, and those after it are any, those of the
 -- connection are
 whole_from : (g : Given) (conn session : ℕ) (given later : List Command) → session < length (sessions_of g.streams conn) → commands_of (stream_of g conn session) ≡ given ++ later
@@ -74,9 +80,23 @@ whole_from g conn session given later there is =
     commands_split session (sessions_of g.streams conn) there ∙ ap (λ (l : List Command). (past ++ l) ++ rest) is
     ∙ append_assoc past (given ++ later) rest ∙ ap (λ (l : List Command). past ++ l) (append_assoc given later rest)
 
+-- ---- the start
+
+-- before the first command
+pub at_start : (g : Given) (conn : ℕ) (cursor : Cursor) (flags : List Bool) → ((stream : List ℕ) → HasGivenCommands cursor stream []) → flags ≡ [] → StandsAtSession g conn 0 cursor None 0 (record { at = 0; differing = None }) flags []
+at_start g conn cursor flags none empty = record {
+  done = [];
+  within = omega arith;
+  given = none (stream_of g conn 0);
+  count = refl;
+  shards = tt;
+  calls = refl;
+  written = λ complete. record { replies = tt; outputs = ((λ s below. absurd (omega arith)), first_none (found_output g conn 0)); answered = empty };
+}
+
 -- ---- the command that is begun
 
-module _ (g : Given) (conn session : ℕ) (cursor : Cursor) (b : Begun) (commands : ℕ) (compared : Compared) (made : List Due) (h : StandsAtSession g conn session cursor (Some b) commands compared made) where
+module _ (g : Given) (conn session : ℕ) (cursor : Cursor) (b : Begun) (commands : ℕ) (compared : Compared) (flags : List Bool) (made : List Due) (h : StandsAtSession g conn session cursor (Some b) commands compared flags made) where
   abbrev past : List Command
   past = commands_past g conn session
 
@@ -134,7 +154,7 @@ module _ (g : Given) (conn session : ℕ) (cursor : Cursor) (b : Begun) (command
   -- ---- it is answered
 
   pub answered : (e : Entry) (reply : CallReply) → length b.replies < length (asked_in b) → slice_get here (length b.replies) ≡ Some (due_of e) → slice_get own (length made) ≡ Some e → reply ≡ e.reply
-      → StandsAtSession g conn session cursor (Some (record b { replies = b.replies ++ reply ∷ [] })) commands compared (made ++ due_of e ∷ [])
+      → StandsAtSession g conn session cursor (Some (record b { replies = b.replies ++ reply ∷ [] })) commands compared flags (made ++ due_of e ∷ [])
   answered e reply few is mine same =
       let long : length (b.replies ++ reply ∷ []) ≡ length b.replies + 1 = length-append b.replies (reply ∷ []) in record {
         done = h.done;
@@ -148,6 +168,7 @@ module _ (g : Given) (conn session : ℕ) (cursor : Cursor) (b : Begun) (command
           replies = replies_more own (length (due g.shards conn (past ++ h.done))) e b.replies reply (ap (slice_get own) (sym (made_size (omega arith))) ∙ mine) same w.replies
               ∙ ap (λ (n : ℕ). map (λ (x : Entry). x.reply) (take n (drop (length (due g.shards conn (past ++ h.done))) own))) (sym long);
           outputs = w.outputs;
+          answered = w.answered;
         };
       }
 
@@ -174,14 +195,21 @@ module _ (g : Given) (conn session : ℕ) (cursor : Cursor) (b : Begun) (command
       abbrev first : List ℕ
       first = made_of (length past) h.done own
 
-      text_is : made_of (length past) done own ≡ first ++ text b.command b.replies
-      text_is =
+      replies_are : b.replies ≡ replies_at (length (past ++ h.done)) own
+      replies_are =
           let w = h.written complete in
           let asked : dues_of own ≡ due g.shards conn ((past ++ h.done) ++ b.command ∷ behind) = asked_all g conn complete ∙ ap (due g.shards conn) all_commands in
-          let replies : b.replies ≡ replies_at (length (past ++ h.done)) own =
-          command_replies own g.shards conn (past ++ h.done) b.command behind asked b.replies (sym all ∙ ap (λ (n : ℕ). length (calls_of n b.command)) h.shards) w.replies in
+          command_replies own g.shards conn (past ++ h.done) b.command behind asked b.replies (sym all ∙ ap (λ (n : ℕ). length (calls_of n b.command)) h.shards) w.replies
+
+      text_is : made_of (length past) done own ≡ first ++ text b.command b.replies
+      text_is =
           made_more (length past) h.done b.command own
-          ∙ ap (λ (l : List CallReply). first ++ text b.command l) (ap (λ (n : ℕ). replies_at n own) (sym (length-append past h.done)) ∙ sym replies)
+          ∙ ap (λ (l : List CallReply). first ++ text b.command l) (ap (λ (n : ℕ). replies_at n own) (sym (length-append past h.done)) ∙ sym replies_are)
+
+      finished_answered : flags ++ has_bytes (text b.command b.replies) ∷ [] ≡ answered_by (past ++ done) own
+      finished_answered =
+          ap₂ (λ (l : List Bool) (rs : List CallReply). l ++ has_bytes (text b.command rs) ∷ []) (h.written complete).answered replies_are
+          ∙ sym (answered-more (past ++ h.done) b.command own) ∙ ap (λ (l : List Command). answered_by l own) (sym done_is)
 
       -- the output is another, whatever its later texts are
       finished_differs : (at : ℕ) → ((s : ℕ) → s < session → IsOutput g conn s)
@@ -208,7 +236,7 @@ module _ (g : Given) (conn session : ℕ) (cursor : Cursor) (b : Begun) (command
           go None is was = new after.differing was.0 (adds.added is first was.1)
           go (Some d) is was = subst (AreCompared g conn session done after.at) (sym (ap (λ (c : Compared). c.differing) (adds.kept d is) ∙ is)) was
 
-    pub finished : (after : Compared) → AddsText (found_output g conn session) session (text b.command b.replies) compared after → StandsAtSession g conn session cursor None (commands + 1) after made
+    pub finished : (after : Compared) → AddsText (found_output g conn session) session (text b.command b.replies) compared after → StandsAtSession g conn session cursor None (commands + 1) after (flags ++ has_bytes (text b.command b.replies) ∷ []) made
     finished after adds = record {
       done = done;
       within = h.within;
@@ -216,12 +244,12 @@ module _ (g : Given) (conn session : ℕ) (cursor : Cursor) (b : Begun) (command
       count = finished_count;
       shards = tt;
       calls = finished_calls;
-      written = λ complete. record { replies = tt; outputs = finished_outputs complete after adds };
+      written = λ complete. record { replies = tt; outputs = finished_outputs complete after adds; answered = finished_answered complete };
     }
 
 -- ---- the session ends
 
-module _ (g : Given) (conn session : ℕ) (cursor : Cursor) (commands : ℕ) (compared : Compared) (made : List Due) (h : StandsAtSession g conn session cursor None commands compared made)
+module _ (g : Given) (conn session : ℕ) (cursor : Cursor) (commands : ℕ) (compared : Compared) (flags : List Bool) (made : List Due) (h : StandsAtSession g conn session cursor None commands compared flags made)
     (there : session < length (sessions_of g.streams conn)) (all : (given : List Command) → HasGivenCommands cursor (stream_of g conn session) given → commands_of (stream_of g conn session) ≡ given) where
   all_done : commands_of (stream_of g conn session) ≡ h.done
   all_done = all (h.done ++ []) h.given ∙ append-nil h.done
@@ -258,7 +286,7 @@ module _ (g : Given) (conn session : ℕ) (cursor : Cursor) (commands : ℕ) (co
         go None is was = new after.differing was.0 (ends.ended is whole was.1)
         go (Some d) is was = subst (AreCompared g conn (session + 1) [] after.at) (sym (ap (λ (c : Compared). c.differing) (ends.kept d is) ∙ is)) was
 
-  pub session_ended : (next : Cursor) (after : Compared) → ((stream : List ℕ) → HasGivenCommands next stream []) → Finishes (found_output g conn session) session compared after → StandsAtSession g conn (session + 1) next None commands after made
+  pub session_ended : (next : Cursor) (after : Compared) → ((stream : List ℕ) → HasGivenCommands next stream []) → Finishes (found_output g conn session) session compared after → StandsAtSession g conn (session + 1) next None commands after flags made
   session_ended next after none ends = record {
     done = [];
     within = omega arith;
@@ -266,12 +294,16 @@ module _ (g : Given) (conn session : ℕ) (cursor : Cursor) (commands : ℕ) (co
     count = h.count ∙ ap (λ (l : List Command). length l) (sym past_more);
     shards = tt;
     calls = h.calls ∙ ap (λ (l : List Command). due g.shards conn l ++ []) (sym past_more);
-    written = λ complete. record { replies = tt; outputs = ended_outputs complete after ends };
+    written = λ complete. record {
+      replies = tt;
+      outputs = ended_outputs complete after ends;
+      answered = (h.written complete).answered ∙ ap (λ (l : List Command). answered_by l (of_connection conn g.entries)) (sym past_more);
+    };
   }
 
 -- ---- the end
 
-module _ (g : Given) (conn session : ℕ) (cursor : Cursor) (commands : ℕ) (compared : Compared) (made : List Due) (h : StandsAtSession g conn session cursor None commands compared made)
+module _ (g : Given) (conn session : ℕ) (cursor : Cursor) (commands : ℕ) (compared : Compared) (flags : List Bool) (made : List Due) (h : StandsAtSession g conn session cursor None commands compared flags made)
     (end : length (sessions_of g.streams conn) ≤ session) where
   none_done : h.done ≡ []
   none_done =
@@ -296,6 +328,10 @@ module _ (g : Given) (conn session : ℕ) (cursor : Cursor) (commands : ℕ) (co
   -- and every command is done
   pub count_all : commands ≡ length (commands_held g.streams conn)
   count_all = h.count ∙ ap (λ (l : List Command). length l) all_past
+
+  -- and it is known which are answered
+  pub answered_all : IsComplete g → flags ≡ answered_by (commands_held g.streams conn) (of_connection conn g.entries)
+  answered_all complete = (h.written complete).answered ∙ ap (λ (l : List Command). answered_by l (of_connection conn g.entries)) all_past
 
   -- and all outputs were compared
   pub compared_all : IsComplete g → AreCompared g conn session [] compared.at compared.differing

@@ -47,7 +47,7 @@ agreeing [] ys = 0
 agreeing (x ∷ xs) [] = 0
 agreeing (x ∷ xs) (y ∷ ys) = if x == y then suc (agreeing xs ys) else 0
 
--- how many first bytes of two outputs agree, where both are there
+-- how many first bytes of two outputs agree, if both are there
 abbrev pub agreeing_in : Option (List ℕ) → Option (List ℕ) → ℕ
 agreeing_in None due = 0
 agreeing_in (Some found) None = 0

@@ -19,7 +19,7 @@ AddedTo found session made at None = HasFirst found made at
 AddedTo found session made at (Some d) =
     (d.session ≡ session) × ((behind : List ℕ) → DiffersAt found (made ++ behind) d.at)
 
--- a further text of an output is compared
+-- another text of an output is compared
 pub record AddsText (found : Option (List ℕ)) (session : ℕ) (text : List ℕ) (before after : Compared) : Type 0 where
   pub kept : (d : Differing) → before.differing ≡ Some d → after ≡ before
   pub added : before.differing ≡ None → (made : List ℕ) → HasFirst found made before.at

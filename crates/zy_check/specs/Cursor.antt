@@ -18,7 +18,7 @@ pub record HasGivenCommands (cursor : Cursor) (stream : List ℕ) (given : List 
   pub stands : StandsFor cursor.framer (take cursor.at stream)
   pub all : commands_of (take cursor.at stream) ≡ given ++ map command_of cursor.frames
 
--- one further command was given, or all are
+-- one more command was given, or all are
 abbrev pub GaveNext : Cursor → Cursor → List ℕ → Option Command → Type 0
 GaveNext before after stream None =
     (given : List Command) → HasGivenCommands before stream given → commands_of stream ≡ given

@@ -1,5 +1,6 @@
 pub mod Given
 pub mod Cause
+pub mod Answered
 pub mod OfRun
 pub mod Cursor
 pub mod Begun
@@ -9,3 +10,4 @@ pub mod Track
 pub mod Walk
 pub mod Missing
 pub mod Held
+pub mod Checked

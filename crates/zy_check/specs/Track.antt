@@ -1,6 +1,6 @@
 -- The state of a connection: which of its calls were made, and how far its outputs were compared.
 -- No public clause cites this module.
-use Rattle.std.specs.Prelude.{◌≡◌, ℕ, ◌<◌, ◌≤◌, List, [], ◌∷◌, ◌++◌, length, take, drop, map, Option, None, Some, ⊤}
+use Rattle.std.specs.Prelude.{◌≡◌, ℕ, ◌<◌, ◌≤◌, List, [], ◌∷◌, ◌++◌, Bool, length, take, drop, map, Option, None, Some, ⊤}
 use Rattle.std.specs.List.{concat, slice_index_or}
 use Rattle.zy_base.specs.declared.call_reply.CallReply.{CallReply}
 use Rattle.zy_base.specs.declared.entry.Entry.{Entry}
@@ -15,6 +15,7 @@ use Rattle.zy_check.specs.declared.compared.Differing.{Differing}
 use Rattle.zy_check.specs.declared.track.Track.{Track}
 use Rattle.zy_check.specs.Given.{Given, found_output, IsOutput}
 use Rattle.zy_check.specs.Cause.{IsComplete}
+use Rattle.zy_check.specs.Answered.{answered_by}
 use Rattle.zy_check.specs.Begun.{Begun, asked_in}
 use Rattle.zy_check.specs.Comparing.{HasFirst}
 use Rattle.zy_check.specs.Cursor.{Cursor, HasGivenCommands}
@@ -22,7 +23,7 @@ use Rattle.zy_check.specs.Output.{IsDiffering}
 
 -- ---- the command that is begun
 
--- it, where there is one
+-- it, if there is one
 abbrev pub begun_in : Option Begun → List Command
 begun_in None = []
 begun_in (Some b) = b.command ∷ []
@@ -52,7 +53,7 @@ abbrev pub HasNoCallLeft : Option Begun → Type 0
 HasNoCallLeft None = ⊤
 HasNoCallLeft (Some b) = length (asked_in b) ≡ length b.replies
 
--- with one further reply
+-- with one more reply
 abbrev pub with_reply : Option Begun → CallReply → Option Begun
 with_reply None reply = None
 with_reply (Some b) reply = Some (record b { replies = b.replies ++ reply ∷ [] })
@@ -67,7 +68,7 @@ stream_of g conn session = slice_index_or (sessions_of g.streams conn) session [
 abbrev pub commands_past : Given → ℕ → ℕ → List Command
 commands_past g conn session = commands_over (take session (sessions_of g.streams conn))
 
--- the texts of commands, joined, where the first has this index
+-- the texts of commands, joined, if the first has this index
 abbrev pub made_of : ℕ → List Command → List Entry → List ℕ
 made_of index commands own = concat (texts_from index commands own)
 
@@ -85,17 +86,19 @@ AreCompared g conn session done at None =
     × HasFirst (found_output g conn session) (made_in g conn session done) at
 AreCompared g conn session done at (Some d) = IsDiffering g conn d.session d.at
 
--- where the entries are complete: the replies are those of the entries, and the outputs were compared so far
+-- where the entries are complete: the replies are those of the entries, the outputs were compared so far, and of each
+-- command that is done it is known whether it is answered
 pub record AreWritten (g : Given) (conn session : ℕ) (done : List Command) (begun : Option Begun)
-    (compared : Compared) : Type 0 where
+    (compared : Compared) (flags : List Bool) : Type 0 where
   pub replies : HasReplies (of_connection conn g.entries)
       (length (due g.shards conn (commands_past g conn session ++ done))) begun
   pub outputs : AreCompared g conn session done compared.at compared.differing
+  pub answered : flags ≡ answered_by (commands_past g conn session ++ done) (of_connection conn g.entries)
 
 -- a connection at a place of a session, with this command in progress, `commands` commands done,
--- and its outputs compared so far, after these calls were made
+-- its outputs compared so far and these of its commands answered, after these calls were made
 pub record StandsAtSession (g : Given) (conn session : ℕ) (cursor : Cursor) (begun : Option Begun) (commands : ℕ)
-    (compared : Compared) (made : List Due) : Type 0 where
+    (compared : Compared) (flags : List Bool) (made : List Due) : Type 0 where
   -- the commands of the session that are done
   pub done : List Command
   pub within : session ≤ length (sessions_of g.streams conn)
@@ -104,11 +107,15 @@ pub record StandsAtSession (g : Given) (conn session : ℕ) (cursor : Cursor) (b
   pub shards : IsOn g.shards begun
   pub calls : made
       ≡ due g.shards conn (commands_past g conn session ++ done) ++ answered_in g.shards conn commands begun
-  pub written : IsComplete g → AreWritten g conn session done begun compared
+  pub written : IsComplete g → AreWritten g conn session done begun compared flags
 
 -- the state of a connection of what is given, after these calls were made
 abbrev pub HasMadeCalls : Given → ℕ → Track → List Due → Type 0
-HasMadeCalls g conn t made = StandsAtSession g conn t.session t.cursor t.begun t.commands t.compared made
+HasMadeCalls g conn t made = StandsAtSession g conn t.session t.cursor t.begun t.commands t.compared t.answered.items made
+
+-- which of their commands are answered, connection by connection
+abbrev pub flags_of : List Track → List (List Bool)
+flags_of tracks = map (λ (t : Track). t.answered.items) tracks
 
 -- it has no further session to read
 abbrev pub IsAtEnd : Given → ℕ → Track → Type 0

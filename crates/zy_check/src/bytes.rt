@@ -7,7 +7,7 @@ pub fn agreeing(one: &[u8], other: &[u8]) -> usize
     ensures value { result ≡ agreeing one.now other.now }
     ensures few { result ≤ length one.now }
 {
-    // All of the other mostly agrees, and slices are compared faster than bytes.
+    // Usually all of `other` matches, and slices are compared faster than bytes.
     if one.starts_with(other) {
         return other.len();
     }

@@ -2,9 +2,11 @@
 ghost use Rattle.std.specs.Prelude.{◌≡◌, ◌≤◌, length, IfOk};
 ghost use Rattle.zy_check.specs.Given.{Given, all_given};
 ghost use Rattle.zy_check.specs.Cause.{HasVerdict};
+ghost use Rattle.zy_check.specs.Checked.{IsCheckedAs};
 ghost use Rattle.zy_check.specs.Missing.{FoundMissing};
 ghost use Rattle.zy_check.specs.Walk.{AreTracked};
 
+use crate::answered::{Answered, Checked};
 use crate::files::Files;
 use crate::holds::first_unheld;
 use crate::missing::first_missing;
@@ -32,17 +34,39 @@ pub fn check(
     ensures verdict { IfOk result
         (HasVerdict (all_given shards streams.now journal.now outputs.now)) }
 {
+    match check_answered(alloc, streams, journal, outputs, shards)? {
+        Checked::Yes(answered) => {
+            drop(answered);
+            Ok(Verdict::Yes)
+        }
+        Checked::No(cause) => Ok(Verdict::No(cause)),
+    }
+}
+
+/// The same, and of a run which of its commands are answered.
+pub fn check_answered(
+    alloc: Global,
+    streams: &Streams,
+    journal: &Journal,
+    outputs: &Outputs,
+    shards: u32,
+) -> Result<Checked, NoMemory>
+    requires some { 1 ≤ shards }
+    requires limit { shards ≤ 256 }
+    ensures checked { IfOk result
+        (IsCheckedAs (all_given shards streams.now journal.now outputs.now)) }
+{
     let files = Files::new(streams, journal, outputs, shards);
     let mut tracks = at_start(alloc, files.count())?;
     if let Some(cause) = first_of_calls(alloc, &files, tracks.as_mut_slice())? {
-        return Ok(Verdict::No(cause));
+        return Ok(Checked::No(cause));
     }
     if let Some(cause) = first_output(&files, &tracks) {
-        return Ok(Verdict::No(cause));
+        return Ok(Checked::No(cause));
     }
     match first_unheld(alloc, &files, &tracks)? {
-        None => Ok(Verdict::Yes),
-        Some(conn) => Ok(Verdict::No(Cause::WrongHolds { conn })),
+        None => Ok(Checked::Yes(Answered::of_tracks(&files, tracks))),
+        Some(conn) => Ok(Checked::No(Cause::WrongHolds { conn })),
     }
 }
 

@@ -110,7 +110,7 @@ impl<'a> Files<'a> {
         }
     }
 
-    /// The output of a session of a connection, where there is one.
+    /// The output of a session of a connection, if there is one.
     pub fn output(&self, conn: u32, session: u32) -> Option<&'a [u8]>
         ensures value { option_map (λ bytes. bytes.now) result ≡ found_output self.now conn session }
     {

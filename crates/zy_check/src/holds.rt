@@ -38,7 +38,7 @@ fn sums(alloc: Global, holds: &[Hold], count: u32) -> Result<Vec<u64>, NoMemory>
     Ok(sums)
 }
 
-// Adds a hold to the sum of its connection, where there is one.
+// Adds a hold to the sum of its connection, if there is one.
 fn add(sums: &mut Vec<u64>, hold: Hold) -> Result<(), NoMemory>
     ensures sums { OnOk result ((count : ℕ) (before : List Hold) → AreSums count before sums.old.items
         → AreSums count (before ++ hold ∷ []) sums.new.items) }
@@ -64,7 +64,7 @@ fn first_stray(holds: &[Hold], count: u32) -> Option<u32>
     found
 }
 
-// The same with one further hold.
+// The same with one more hold.
 fn lower_stray(found: Option<u32>, hold: Hold, count: u32) -> Option<u32>
     ensures found { (before : List Hold) → FoundStray count before found
         → FoundStray count (before ++ hold ∷ []) result }

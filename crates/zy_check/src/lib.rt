@@ -1,7 +1,8 @@
-//! Checks whether a journal and outputs are those of a run of some streams, and gives the first cause where they are
+//! Checks whether a journal and outputs are those of a run of some streams, and gives the first cause if they are
 //! not.
 #![tactic(auto)]
 
+mod answered;
 mod begun;
 mod bytes;
 mod checking;
@@ -16,6 +17,7 @@ mod track;
 mod verdict;
 mod walk;
 
-pub use checking::check;
+pub use answered::{Answered, Checked};
+pub use checking::{check, check_answered};
 pub use laws::served_runs_check;
 pub use verdict::{Cause, Verdict};

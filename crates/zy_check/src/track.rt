@@ -1,11 +1,12 @@
 //! The state of a connection.
-ghost use Rattle.std.specs.Prelude.{◌≡◌, ◌↔◌, ◌+◌, ◌^◌, ◌<◌, ◌≤◌, ℕ, true, false};
+ghost use Rattle.std.specs.Prelude.{◌≡◌, ◌↔◌, ◌+◌, ◌^◌, ◌<◌, ◌≤◌, ◌++◌, ◌∷◌, ℕ, true, false};
 ghost use Rattle.std.specs.Prelude.{List, [], length, None, Some, IfOk, OnOk, OnErr};
 ghost use Rattle.std.specs.List.{slice_get};
 ghost use Rattle.zy_base.specs.Kind.{MayAnswer};
 ghost use Rattle.zy_capture.specs.Streams.{sessions_of};
 ghost use Rattle.mc_parse.specs.declared.shard_call.ShardCall.{ShardCall};
 ghost use Rattle.mc_parse.specs.Calls.{Due, due_at, due_of};
+ghost use Rattle.zy_check.specs.Answered.{has_bytes};
 ghost use Rattle.zy_check.specs.Given.{Given, found_output};
 ghost use Rattle.zy_check.specs.Cursor.{HasGivenCommands};
 ghost use Rattle.zy_check.specs.Comparing.{Finishes};
@@ -21,7 +22,8 @@ use std::mem;
 use zy_base::{CallReply, Entry, NoMemory};
 
 /// A connection's place in its streams: the session that is read and the place in it, the command
-/// in progress, the number of commands before it, and how far its outputs were compared.
+/// in progress, the number of commands before it, how far its outputs were compared, and which of its
+/// commands are answered.
 #[derive(Drop)]
 pub struct Track {
     alloc: Global,
@@ -30,6 +32,7 @@ pub struct Track {
     begun: Option<Begun>,
     commands: u64,
     compared: Compared,
+    answered: Vec<bool>,
 }
 
 impl Track {
@@ -47,6 +50,7 @@ impl Track {
                 at: 0,
                 differing: None,
             },
+            answered: Vec::new(alloc),
         }
     }
 
@@ -62,6 +66,13 @@ impl Track {
         ensures value { result ≡ self.now.compared.differing }
     {
         self.compared.differing
+    }
+
+    /// Which of the commands that have all their calls are answered.
+    pub fn answered(&self) -> &[bool]
+        ensures value { result.now ≡ self.now.answered.items }
+    {
+        self.answered.as_slice()
     }
 
     /// Goes on to the next call that has no entry, and returns whether there is one. The texts of
@@ -124,7 +135,7 @@ impl Track {
         }
     }
 
-    // Compares the text of the command that is begun, where there is one. Its calls are answered.
+    // Compares the text of the command that is begun, if there is one. Its calls are answered.
     fn finish(&mut self, files: &Files, conn: u32) -> Result<(), NoMemory>
         requires done { HasNoCallLeft self.old.begun }
         ensures kept { OnOk result ((made : List Due) → HasMadeCalls files.now conn self.old made
@@ -139,7 +150,9 @@ impl Track {
         };
         let text = begun.text(self.alloc)?;
         self.compared.add(files.output(conn, self.session), self.session, text.bytes());
+        let noted = note(&mut self.answered, text.bytes());
         drop(text);
+        noted?;
         self.commands = commands;
         drop(mem::replace(&mut self.begun, None));
         Ok(())
@@ -174,6 +187,7 @@ impl Track {
         ensures session { self.new.session ≡ self.old.session + 1 }
         ensures cursor { (stream : List ℕ) → HasGivenCommands self.new.cursor stream [] }
         ensures same { (self.new.begun ≡ self.old.begun) × (self.new.commands ≡ self.old.commands) }
+        ensures answered { self.new.answered ≡ self.old.answered }
         ensures compared { Finishes (found_output files.now conn self.old.session) self.old.session
             self.old.compared self.new.compared }
     {
@@ -182,4 +196,12 @@ impl Track {
         self.session += 1;
         drop(mem::replace(&mut self.cursor, Cursor::new(self.alloc)));
     }
+}
+
+// Notes of a command with this text whether it is answered.
+fn note(answered: &mut Vec<bool>, text: &[u8]) -> Result<(), NoMemory>
+    ensures more { OnOk result (answered.new.items ≡ answered.old.items ++ has_bytes text.now ∷ []) }
+{
+    answered.push(!text.is_empty())?;
+    Ok(())
 }

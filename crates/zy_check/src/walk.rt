@@ -37,7 +37,7 @@ pub fn first_wrong(
     Err(NoMemory)
 }
 
-// The cause at an entry, where there is one.
+// The cause at an entry, if there is one.
 fn wrong_at(
     files: &Files,
     at: u64,

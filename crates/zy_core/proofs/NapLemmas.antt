@@ -2,6 +2,7 @@
 use Rattle.std.proofs.Common.{◌≡◌, ℕ, ◌+◌, ◌<◌, true, false, Bool, sym, ap, ◌∙◌, arith}
 use Rattle.std.specs.Prelude.{Result, Ok, Err, IfOk}
 use Rattle.zy_base.specs.declared.outside.NoMemory.{NoMemory}
+use Rattle.zy_control.specs.declared.view.Role.TheVariants.{Core}
 use Rattle.zy_control.specs.View.{has_counted}
 use Rattle.zy_control.specs.Pass.{seeing_done, seeing_stop, resting}
 use Rattle.zy_core.specs.declared.turn.Turn.{Turn}
@@ -32,9 +33,21 @@ rests cores a b c d turn counted done stop nap took steps control one two has is
 
 -- before it the core announced itself, and after it it withdrew
 pub naps : (cores : ℕ) (a b c d : Cored) (p q : Passed) (set cleared : ℕ) (r : Result Nap NoMemory) → b ≡ stepped (resting true set a.control) a
+    → b.control.role ≡ Core a.home.core (has_counted a.control.role) true
     → d ≡ stepped (resting false cleared c.control) c → IfOk r (RestTo cores b c) → IfOk r (λ nap. q ≡ bell_after c.control nap p) → IfOk r (NapTo cores a d p q)
-naps cores a b c d p q set cleared (Ok nap) one two rests bell =
-    record { set = set; cleared = cleared; announced = b; loaded = c; announces = one; rests = rests; rested = bell; withdraws = two; last = later }
+naps cores a b c d p q set cleared (Ok nap) one is two rests bell =
+    record {
+      set = set;
+      cleared = cleared;
+      announced = b;
+      loaded = c;
+      announces = one;
+      rests = rests;
+      rested = bell;
+      asleep = ap (λ (x : Cored). x.control.role) rests.loaded ∙ is;
+      withdraws = two;
+      last = later;
+    }
   where
     -- withdrawing is one step later than the load of stop
     later : d.control.trace.stop.step < d.control.trace.sleepers.step
@@ -43,4 +56,4 @@ naps cores a b c d p q set cleared (Ok nap) one two rests bell =
         let stop : d.control.trace.stop.step ≡ c.control.trace.stop.step = ap (λ (x : Cored). x.control.trace.stop.step) two in
         let sleepers : d.control.trace.sleepers.step ≡ c.control.trace.steps + 1 = ap (λ (x : Cored). x.control.trace.sleepers.step) two in
         omega arith
-naps cores a b c d p q set cleared (Err e) one two rests bell = tt
+naps cores a b c d p q set cleared (Err e) one is two rests bell = tt

@@ -2,6 +2,7 @@
 use Rattle.std.specs.Prelude.{◌≡◌, ◌<◌, ℕ, Bool, true, false, Some, not, ◌||◌, ◌==◌, if◌then◌else◌}
 use Rattle.zy_park.specs.Pass as bells
 use Rattle.zy_control.specs.View.{has_counted}
+use Rattle.zy_control.specs.declared.view.Role.TheVariants.{Core}
 use Rattle.zy_control.specs.Pass.{Held, seeing_done, seeing_stop}
 use Rattle.zy_core.specs.declared.turn.Turn.{Turn}
 use Rattle.zy_core.specs.declared.turn.Turn.TheVariants.{Worked, Idle, Settled}
@@ -40,12 +41,12 @@ pub record RestTo (cores : ℕ) (before after : Cored) (nap : Nap) : Type 0 wher
   pub loaded : after ≡ stepped (seeing_stop stop (seeing_done done before.control)) turned
   pub is : nap ≡ nap_of cores (has_counted before.control.role) turn done stop
 
--- the core's pass at the bells after a nap: if it rested its token was taken, after the steps on the control words
--- that this pass has; and else it made no step
+-- the core's pass at the bells after a nap: if it rested its token was taken, in a rest that was given this pass on the
+-- control words; and else it made no step
 abbrev pub bell_after : Held → Nap → bells.Passed → bells.Passed
 bell_after control (Awake turn) p = p
 bell_after control (Ending done stop) p = p
-bell_after control Rested p = bells.resting (Some control.trace.steps) p
+bell_after control Rested p = bells.resting (Some control) p
 
 -- what a nap came to, among `cores` cores, with the core's pass at the bells before and after it: the core announced
 -- itself, took its turn, loaded done and stop, rested or not, and then withdrew
@@ -56,8 +57,10 @@ pub record NapTo (cores : ℕ) (before after : Cored) (bell bell' : bells.Passed
   pub loaded : Cored
   pub announces : announced ≡ with_announcement true set before
   pub rests : RestTo cores announced loaded nap
-  -- it rested, if it did, after the load of stop and before any further step on the control words
+  -- it rested, if it did, with its own pass on the control words as it was after the load of stop, by which it had
+  -- announced itself
   pub rested : bell' ≡ bell_after loaded.control nap bell
+  pub asleep : loaded.control.role ≡ Core before.home.core (has_counted before.control.role) true
   -- it withdrew after that, by its next step on them
   pub withdraws : after ≡ with_announcement false cleared loaded
   pub last : after.control.trace.stop.step < after.control.trace.sleepers.step

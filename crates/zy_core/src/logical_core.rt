@@ -101,8 +101,8 @@ impl Core {
         Ok(came.with(looks))
     }
 
-    /// A turn over a table of looks that the caller owns: its looks at the other cores are noted over
-    /// those that are there. So no table is cleared or moved.
+    /// A turn over a table of looks that the caller owns: its looks at the other cores overwrite those
+    /// in the table. So no table is cleared or moved.
     pub fn turn_over<G: Gate>(
         &mut self,
         shared: &Shared,
@@ -220,7 +220,7 @@ impl Core {
         nap
     }
 
-    // The turn of a nap, and the rest, once the core has announced itself.
+    // The turn of a nap, and the rest.
     fn rest_if_idle<R: Wait, G: Gate>(
         &mut self,
         rt: &R,
@@ -229,7 +229,6 @@ impl Core {
         pass: &mut BellPass,
         gate: &G,
     ) -> Result<Nap, NoMemory>
-        requires announced { has_announced self.old.control.role ≡ true }
         requires fits { Fits shared.now (identity_of self.old) }
         requires few { self.old.turns < 2 ^ 48 }
         requires live { self.old.home.refused ≡ false }
@@ -266,7 +265,7 @@ impl Core {
     fn announce(&mut self, shared: &Shared)
         requires fits { Fits shared.now (identity_of self.old) }
         ensures value { self.new ≡ with_announcement true self.new.control.trace.sleepers.value self.old }
-        ensures announced { has_announced self.new.control.role ≡ true }
+        ensures announced { self.new.control.role ≡ roles.Core self.old.home.core (has_counted self.old.control.role) true }
     {
         shared.control.announce(&mut self.control);
     }

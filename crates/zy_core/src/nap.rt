@@ -8,7 +8,7 @@ use crate::turn::Turn;
 #[derive(Drop)]
 pub enum Nap {
     /// The core did not rest: this turn found something to do, or found the core settled, which has
-    /// not counted itself. The second case never comes where a core counts itself as soon as a turn
+    /// not counted itself. The second case cannot occur if a core counts itself as soon as a turn
     /// leaves it settled, as cores that are driven do: only a turn that works makes a core settled.
     Awake(Turn),
     /// The core did not rest, since the run ends: all cores are done, or are to stop. These are the

@@ -40,8 +40,8 @@ impl Round {
     }
 
     // This round, after which a core counted itself or none did. A core becomes settled in a turn that
-    // works, and counts itself after it, so a round that counts has worked already. It is said here all
-    // the same, so that the last count calls up whatever the turns came to.
+    // works, and counts itself after it, so a round that counts has worked already. It is handled
+    // anyway, so that the last count calls up whatever the turns came to.
     pub(crate) fn then(self, counted: bool) -> Round
         ensures awake { self ≢ Round.Rested → result ≢ Round.Rested }
     {

@@ -12,7 +12,7 @@ use zy_steal::Looks;
 // The most turns of a core.
 pub(crate) const TURN_LIMIT: u64 = 1 << 48;
 
-// A turn of one core, where it may take one. Its looks are noted over others, and nobody reads them.
+// A turn of one core, if it may take one. Its looks overwrite others in scratch space.
 pub(crate) fn turn_one<G: Gate>(
     core: &mut Core,
     shared: &Shared,

@@ -1,5 +1,5 @@
 -- What was read of a capture, in pieces: the records that were cut, the bytes, and why it is read no further.
-use Rattle.std.specs.Prelude.{◌≡◌, ◌⊎◌, ℕ, ◌<◌, ◌≤◌, List, [], ◌∷◌, ◌++◌, length, Option, None, Some, IfSome, Result}
+use Rattle.std.specs.Prelude.{◌≡◌, ◌⊎◌, ◌↔◌, ℕ, ◌<◌, ◌≤◌, List, [], ◌∷◌, ◌++◌, length, Option, None, Some, IfSome, Result}
 use Rattle.std.specs.Prelude.{Ok, Err, Bool, true, false, ⊤}
 use Rattle.std.specs.Io.KnownBytes.{IsAtEnd}
 use Rattle.zy_base.specs.Outside.{Rose}
@@ -12,7 +12,8 @@ use Rattle.zy_capture.specs.declared.record.Record.{Record}
 use Rattle.zy_capture.specs.declared.capture_fault.CaptureFault.{CaptureFault}
 use Rattle.zy_capture.specs.Steps.{CaptureProgress}
 use Rattle.zy_capture.specs.Standing.{StandsForRecords, EndsAs}
-use Rattle.zy_capture.specs.Verdict.{captures, verdict, fault_of, version_of, count_of}
+use Rattle.zy_capture.specs.Verdict.{captures, verdict, fault_of, version_of, count_of, is_within_record}
+use Rattle.zy_capture.specs.Whole.{BeginsWithRecord}
 use Rattle.zy_capture.specs.Verdict.Verdict.{Bad}
 use Rattle.zy_feed.specs.declared.intake.Header.{Header}
 
@@ -101,3 +102,8 @@ RefillsIntake rest faults first now intake records bytes (Ok true) = HasRead res
 RefillsIntake rest faults first now intake records bytes (Ok false) =
     HasReadAll rest faults first now intake records bytes
 RefillsIntake rest faults first now intake records bytes (Err stop) = StopsIntakeBy rest faults first now stop
+
+-- the bytes that were read end between two records, or before or after all of them, and those left of the piece begin
+-- with a whole record; or that is not so
+abbrev pub HoldsRecord : List ℕ → List ℕ → Bool → Type 0
+HoldsRecord bytes left holds = (holds ≡ true) ↔ ((is_within_record bytes ≡ false) × BeginsWithRecord left)

@@ -1,5 +1,5 @@
 //! The feeder of a run.
-ghost use Rattle.std.specs.Prelude.{◌≡◌, ◌≢◌, ◌↔◌, Some, slice_get, refl};
+ghost use Rattle.std.specs.Prelude.{◌≡◌, ◌≢◌, ◌↔◌, ℕ, List, true, false, Some, slice_get, refl};
 ghost use Rattle.std.proofs.Common.{◌∙◌};
 ghost use Rattle.zy_rx.specs.Routing as Routing;
 ghost use Rattle.zy_rx.specs.Feed.{rings_of, sent_by, HasOffered, HasNoRoom, HasMet};
@@ -7,6 +7,9 @@ ghost use Rattle.zy_feed.specs.declared.stage.Stage.TheVariants as Stages;
 ghost use Rattle.zy_feed.specs.Feeding.{feeder_state, in_stage, stop_in, IsBroken, IsWaiting, LeadsTo};
 ghost use Rattle.zy_feed.specs.Feeding.{StepsTo};
 ghost use Rattle.zy_feed.specs.Leads.{leads_same, leads_on};
+ghost use Rattle.zy_capture.specs.declared.record.Record.{Record};
+ghost use Rattle.zy_capture.specs.Standing.{StandsForRecords};
+ghost use Rattle.zy_feed.specs.Reads.{HoldsRecord};
 
 use crate::inlets::Inlets;
 use crate::intake::Intake;
@@ -156,7 +159,16 @@ impl<'s, S: Source> Feeder for CaptureFeeder<'s, S> {
         }
     }
 
-    fn may_wait(&self) -> bool {
+    // It may wait only to cut a record, and only if the piece does not hold it whole.
+    fn may_wait(&self) -> bool
+        ensures cutting { result ≡ true → self.now.stage ≡ Stages.Cutting }
+        ensures held { result ≡ false → self.now.stage ≡ Stages.Cutting
+            → (records : List Record) (bytes : List ℕ) → StandsForRecords self.now.intake.reader records bytes
+            → HoldsRecord bytes self.now.intake.left true }
+        ensures missing { result ≡ true
+            → (records : List Record) (bytes : List ℕ) → StandsForRecords self.now.intake.reader records bytes
+            → HoldsRecord bytes self.now.intake.left false }
+    {
         match self.stage {
             Stage::Cutting => !self.intake.holds_record(),
             _ => false,

@@ -57,8 +57,8 @@ impl Inlets {
         self.items.len() as u32
     }
 
-    // Offers an item to the core that it is for. It is handed back where that core's inlet then
-    // knew no free slot.
+    // Offers an item to the core that it is for. It is handed back if that core's ring
+    // looks full.
     #[inline(always)]
     pub(crate) fn deliver(&mut self, item: Rx) -> Option<Rx>
         ensures ok { IfNone result

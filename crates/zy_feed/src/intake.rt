@@ -4,7 +4,7 @@ ghost use Rattle.std.specs.Prelude.{IfOk, IfErr, IfSome, IfNone};
 ghost use Rattle.zy_capture.specs.declared.record.Record.{Record};
 ghost use Rattle.zy_capture.specs.Standing.{StandsForRecords};
 ghost use Rattle.zy_feed.specs.Reads.{IsUnread, HasRead, HasBegun, StopsIntakeBy, TellsHeader};
-ghost use Rattle.zy_feed.specs.Reads.{TellsNoHeader, Cuts, RefillsIntake, TakesFirst};
+ghost use Rattle.zy_feed.specs.Reads.{TellsNoHeader, Cuts, RefillsIntake, TakesFirst, HoldsRecord};
 
 use crate::stop::Stop;
 use std::alloc::Global;
@@ -80,7 +80,7 @@ impl Intake {
             if !self.refill(source)? {
                 unreachable!();
             }
-            match self.feed(1)? {
+            match self.feed_one()? {
                 None => {}
                 Some(_) => unreachable!(),
             }
@@ -113,7 +113,7 @@ impl Intake {
             if !self.refill(source)? {
                 return Ok(None);
             }
-            if let Some(record) = self.feed(usize::MAX)? {
+            if let Some(record) = self.feed_left()? {
                 return Ok(Some(record));
             }
         }
@@ -122,7 +122,10 @@ impl Intake {
     }
 
     // Whether the piece holds the whole next record, so that no read is needed to cut it.
-    pub(crate) fn holds_record(&self) -> bool {
+    pub(crate) fn holds_record(&self) -> bool
+        ensures value { (records : List Record) (bytes : List ℕ) → StandsForRecords self.now.reader records bytes
+            → HoldsRecord bytes self.now.left result }
+    {
         !self.reader.is_within_record() && begins_with_record(self.pieces.left())
     }
 
@@ -144,13 +147,24 @@ impl Intake {
         }
     }
 
-    // Feeds the reader the first bytes of the rest of the piece, at most `most`.
-    fn feed(&mut self, most: usize) -> Result<Option<Record>, FeedFault>
-        requires some { (0 < most) × (0 < length self.old.left) }
-        ensures value { TakesFirst most self.old self.new result }
+    // Feeds the reader the first byte of the rest of the piece.
+    fn feed_one(&mut self) -> Result<Option<Record>, FeedFault>
+        requires some { 0 < length self.old.left }
+        ensures value { TakesFirst 1 self.old self.new result }
     {
         let left = self.pieces.left();
-        let Fed { taken, answer } = self.reader.feed_piece(&left[..most.min(left.len())]);
+        let Fed { taken, answer } = self.reader.feed_piece(&left[..1]);
+        self.pieces.pass(taken);
+        answer
+    }
+
+    // Feeds the reader the rest of the piece, up to the end of the first record.
+    #[inline(always)]
+    fn feed_left(&mut self) -> Result<Option<Record>, FeedFault>
+        requires some { 0 < length self.old.left }
+        ensures value { TakesFirst (length self.old.left) self.old self.new result }
+    {
+        let Fed { taken, answer } = self.reader.feed_left(&mut self.pieces);
         self.pieces.pass(taken);
         answer
     }

@@ -41,5 +41,5 @@ pub record IsResultOfRun (shards version count : ℕ) (records : List Record) (f
   -- the outputs are of this version, and are those of the run, session by session
   pub version_is : finished.outputs.version ≡ version
   pub outputs : finished.outputs.sessions ≡ all_outputs count (streams_in records) finished.journal.entries
-  -- they are lawful
+  -- they are valid
   pub lawful : AreOutputs finished.outputs

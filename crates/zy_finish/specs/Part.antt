@@ -5,7 +5,7 @@ use Rattle.std.specs.Prelude.{◌≡◌, ℕ, ◌==◌, if◌then◌else◌, Lis
 abbrev pub session_ends : ℕ → List ℕ → List ℕ
 session_ends version ends = if version == 1 then [] else ends
 
--- the sessions with some outputs of one further connection
+-- the sessions with some outputs of one more connection
 abbrev pub added : List (List (List ℕ)) → List (List ℕ) → List (List (List ℕ))
 added sessions [] = sessions
 added sessions (part ∷ parts) = sessions ++ (part ∷ parts) ∷ []

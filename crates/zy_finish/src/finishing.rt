@@ -76,7 +76,7 @@ pub fn finish(
         holds,
         outputs,
     } = gathered;
-    // Does nothing. The call shows the prover that the outputs are lawful.
+    // Does nothing. The call shows the prover that the outputs are valid.
     let _version = outputs.version();
     match journal_of(store, root, Holds::from_vec(holds)) {
         Ok(journal) => Ok(Finished { journal, outputs }),

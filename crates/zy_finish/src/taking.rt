@@ -52,7 +52,7 @@ pub fn take(alloc: Global, cores: Cores, shared: Shared, inlets: Inlets) -> Resu
     Ok(Taken { homes, store })
 }
 
-/// Lets the parts of a run go that came to no end.
+/// Drops the parts of an unfinished run.
 pub fn abandon(cores: Cores, shared: Shared, inlets: Inlets, root: Root) {
     drop(cores);
     drop(shared);

@@ -28,19 +28,19 @@ pub record Piece : Type 0 where
   pub text : List ℕ
   pub rest : List ℕ
 
--- the line, its line feed and the bytes that belong to its frame, where all of them have come
+-- the line, its line feed and the bytes that belong to its frame, if all of them have come
 abbrev pub piece_with : List ℕ → Option ℕ → List ℕ → Option Piece
 piece_with line None after = None
 piece_with line (Some tail) after = if nat_le tail (length after)
     then Some (record { text = line ++ line_feed ∷ take tail after; rest = drop tail after })
     else None
 
--- the line with its tail, where it has ended and all of its tail has come
+-- the line with its tail, if it has ended and all of its tail has come
 abbrev pub piece_in : Option Ended → Option Piece
 piece_in None = None
 piece_in (Some ended) = piece_with ended.line (tail_length ended.line) ended.after
 
--- the frame text with which the stream begins, where it begins with one
+-- the frame text with which the stream begins, if it begins with one
 abbrev pub first_piece : List ℕ → Option Piece
 first_piece stream = piece_in (first_line stream)
 

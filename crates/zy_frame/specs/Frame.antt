@@ -17,7 +17,7 @@ use Rattle.zy_frame.specs.Line.{Ended, first_line, chomped}
 
 -- ---- frame texts
 
--- how many bytes after its line feed belong to the frame of a line with this need; nothing where it
+-- how many bytes after its line feed belong to the frame of a line with this need; nothing if it
 -- has no frame
 abbrev pub tail_by : Need → Option ℕ
 tail_by Needs.Nothing = Some 0
@@ -50,7 +50,7 @@ frame_at line after = if nat_lt line_limit (length line)
     then Long
     else frame_by (need (chomped line)) (chomped line) after
 
--- the frame of a line, where it has ended
+-- the frame of a line, if it has ended
 abbrev pub frame_in : Option Ended → FrameKind
 frame_in None = Long
 frame_in (Some ended) = frame_at ended.line ended.after

@@ -15,12 +15,12 @@ pub record Ended : Type 0 where
   pub line : List ℕ
   pub after : List ℕ
 
--- one further byte is put in front of the line
+-- one more byte is put in front of the line
 abbrev pub begun_by : ℕ → Option Ended → Option Ended
 begun_by byte None = None
 begun_by byte (Some ended) = Some (record { line = byte ∷ ended.line; after = ended.after })
 
--- the bytes before the first line feed, and those after it; nothing where no line feed has come
+-- the bytes before the first line feed, and those after it; nothing if no line feed has come
 abbrev pub first_line : List ℕ → Option Ended
 first_line [] = None
 first_line (byte ∷ bytes) = if byte == line_feed

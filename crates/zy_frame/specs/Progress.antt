@@ -9,7 +9,7 @@ use Rattle.zy_frame.specs.declared.frame_kind.FrameKind.TheVariants as Kinds
 use Rattle.zy_frame.specs.Line.{Ended, IsShort, first_line, chomped}
 use Rattle.zy_frame.specs.Cut.{frames_of, meets_quit}
 
--- ---- what a framer is in the middle of
+-- ---- the unfinished frame of a framer
 
 -- a storage line whose block is to come: the line with the carriage return at its end, if it has
 -- one, the size of the value that it announces, and the number of bytes of its block that are still
@@ -19,7 +19,7 @@ pub record Awaited : Type 0 where
   pub size : ℕ
   pub left : ℕ
 
--- what a framer is in the middle of
+-- the unfinished frame of a framer
 pub data Progress : Type 0 where
   -- a line: its bytes so far
   in_line : List ℕ → Progress

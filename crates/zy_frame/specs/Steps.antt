@@ -22,7 +22,7 @@ use Rattle.zy_frame.specs.Progress.{without_memory, Keeps, outcome_of, with_fram
 abbrev pub awaited : Wanted → Awaited
 awaited wanted = record { line = wanted.line; size = wanted.size; left = wanted.left }
 
--- what a framer in this state is in the middle of
+-- the unfinished frame of a framer in this state
 abbrev pub progress_of : State → Progress
 progress_of (Line kept) = in_line kept
 progress_of Long = in_long_line

@@ -8,7 +8,7 @@ use mc_parse::{Command, ErrorLine, parse_large, parse_read, parse_read_block};
 use std::alloc::Global;
 use zy_base::NoMemory;
 
-/// The command of a frame. A block is moved and not copied. After a refusal the frame is handed back.
+/// The command of a frame. A block is moved and not copied. If allocation fails, the frame is handed back.
 pub fn meaning(alloc: Global, frame: Frame) -> Result<Command, (Frame, NoMemory)>
     ensures value { IfOk result (λ command. command ≡ command_of frame) }
     ensures returned { IfErr result (λ e. e.0 ≡ frame) }

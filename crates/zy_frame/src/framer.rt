@@ -13,7 +13,7 @@ use std::alloc::Global;
 use std::marker::Model;
 use zy_base::{Blob, NoMemory};
 
-/// Cuts a stream into frames as its pieces come. Contracts see what it is in the middle of, and
+/// Cuts a stream into frames as its pieces come. Contracts see its unfinished frame, and
 /// which streams may have brought it there (`StandsFor`).
 #[derive(Drop)]
 pub struct Framer {
@@ -87,7 +87,7 @@ impl Framer {
         Ok(())
     }
 
-    // Takes some first bytes, at least one. After a refusal every later call is refused.
+    // Takes some first bytes, at least one. If allocation fails, every later call is refused.
     fn advance(&mut self, bytes: &[u8], frames: &mut Frames) -> Result<usize, NoMemory>
         requires some { 0 < length bytes.now }
         ensures value { Advances self.old self.new frames.old frames.new bytes.now result }

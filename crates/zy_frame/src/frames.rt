@@ -10,7 +10,7 @@ use zy_base::{NoMemory, Queue};
 /// A queue of frames. Contracts see it as the list of its frames, the first one to come first.
 pub type Frames = Queue<Frame>;
 
-// Puts a frame at the end of whose line this was read; after a refusal nothing has changed.
+// Puts a frame at the end of whose line this was read; if allocation fails, nothing has changed.
 #[inline(always)]
 pub(crate) fn append(frames: &mut Frames, kind: FrameKind, parsed: &Parsed) -> Result<(), NoMemory>
     requires frame { IsFrame kind }

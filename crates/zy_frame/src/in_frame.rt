@@ -50,7 +50,7 @@ pub(crate) fn take_block(
 }
 
 // Bytes of a block have come, of which `left` were still to come. The first take room for the others, or
-// for some of them where a client announces many.
+// for some of them if a client announces many.
 pub(crate) fn grow_block(block: &mut Blob, left: usize, bytes: &[u8]) -> Result<(), NoMemory>
     ensures ok { OnOk result (block.new ≡ block.old ++ bytes.now) }
     ensures err { OnErr result (block.new ≡ block.old) }

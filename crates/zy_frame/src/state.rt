@@ -1,4 +1,4 @@
-//! What a framer is in the middle of.
+//! The unfinished frame of a framer.
 ghost use Rattle.std.specs.Prelude.{◌≡◌, []};
 ghost use Rattle.zy_frame.specs.declared.state.State.TheVariants.{Line};
 ghost use Rattle.zy_frame.specs.Steps.{after_line, after_block, waiting};
@@ -9,7 +9,7 @@ use std::alloc::Global;
 use std::mem;
 use zy_base::{Blob, VALUE_LIMIT};
 
-// What a framer is in the middle of. Lines are kept with the carriage return at their end, if they
+// The unfinished frame of a framer. Lines are kept with the carriage return at their end, if they
 // have one.
 #[derive(Drop)]
 pub(crate) enum State {

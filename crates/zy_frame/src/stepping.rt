@@ -13,7 +13,7 @@ use mc_parse::Parsed;
 use std::alloc::Global;
 use zy_base::NoMemory;
 
-// Takes some first bytes, at least one, and appends the frame that they end. After a refusal the state
+// Takes some first bytes, at least one, and appends the frame that they end. If allocation fails, the state
 // may be any.
 pub(crate) fn step(
     alloc: Global,

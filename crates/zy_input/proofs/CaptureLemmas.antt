@@ -1,5 +1,5 @@
 -- What is kept of a capture while it is read.
-use Rattle.std.proofs.Common.{◌≡◌, ◌⊎◌, inl, inr, ℕ, ◌-◌, ◌==◌, true, false, List, [], ◌∷◌, ◌++◌, length, refl, sym, ◌∙◌, ap}
+use Rattle.std.proofs.Common.{◌≡◌, ◌⊎◌, inl, inr, ℕ, ◌<◌, ◌-◌, ◌==◌, true, false, List, [], ◌∷◌, ◌++◌, length, refl, sym, ◌∙◌, ap, arith}
 use Rattle.std.specs.Prelude.{nat_lt, Option, None, Some, Result, Ok, Err, OnOk, ⊤}
 use Rattle.zy_read.specs.declared.not_taken.NotTaken.{NotTaken}
 use Rattle.zy_read.specs.declared.not_taken.NotTaken.TheVariants.{Fault}
@@ -11,6 +11,7 @@ use Rattle.zy_read.proofs.Feeding.{verdict_here}
 use Rattle.zy_read.proofs.StepLemmas.{step_does, end_closes}
 use Rattle.zy_base.specs.declared.outside.NoMemory as Outside
 use Rattle.zy_capture.specs.declared.record.Record.{Record}
+use Rattle.zy_capture.specs.declared.record.Record.TheVariants as Kinds
 use Rattle.zy_capture.specs.declared.capture_fault.CaptureFault.{CaptureFault}
 use Rattle.zy_capture.specs.declared.capture_fault.CaptureFault.TheVariants.{TooLong}
 use Rattle.zy_capture.specs.declared.due.Due.{Due}
@@ -25,13 +26,14 @@ use Rattle.zy_capture.specs.Verdict.Verdict.{Good, Bad}
 use Rattle.zy_capture.proofs.ByteLemmas.{chosen}
 use Rattle.zy_capture.proofs.Feeding.{count_here, within_here, good_ended, good_count}
 use Rattle.zy_capture.proofs.WholeLemmas.{end_wrong, lawful}
-use Rattle.zy_capture.proofs.AddLemmas.{records_on}
+use Rattle.zy_capture.proofs.AddLemmas.{records_on, streams_size}
 use Rattle.zy_input.specs.declared.capture_part.CapturePart.{CapturePart}
 use Rattle.zy_input.specs.declared.stop.Refusal.TheVariants.{Capture}
-use Rattle.zy_input.specs.Parts.{HasStreams}
+use Rattle.zy_input.specs.declared.notes.Noted.{Noted}
+use Rattle.zy_input.specs.Parts.{HasNotes, conn_of}
 use Rattle.zy_input.specs.Reading.{IsUnfinished, IsFaultyText}
 use Rattle.zy_input.specs.Keeping.{KeepsRecords}
-use Rattle.zy_input.specs.Kinds.{StandsForCapture, capture_keeping}
+use Rattle.zy_input.specs.Kinds.{MayKeep, StandsForCapture, capture_keeping}
 use Rattle.zy_input.proofs.FormatLemmas.{EndsOnce, StaysOpen, answer_fault}
 use Rattle.zy_input.proofs.KeepingLemmas.{not_none, kept_here}
 
@@ -99,27 +101,35 @@ stays = record {
 }
 
 -- a fault within a record, whatever follows
-pub fault_within : (part : CapturePart) (q : CaptureProgress) (bytes piece more : List ℕ) (answer : Result (Option Record) (NotTaken CaptureFault)) (fault : CaptureFault) → answer ≡ Err (Fault fault) → StandsForCapture part bytes → IsUnfinished captures is_good bytes → is_within_record bytes ≡ true
+pub fault_within : {N : Type 0} (Holds : N → ℕ → List Record → Type 0) (part : CapturePart N) (q : CaptureProgress) (bytes piece more : List ℕ) (answer : Result (Option Record) (NotTaken CaptureFault)) (fault : CaptureFault) → answer ≡ Err (Fault fault) → StandsForCapture Holds part bytes → IsUnfinished captures is_good bytes → is_within_record bytes ≡ true
     → Feeds captures part.reader q piece (given_in answer) → TellsFault captures part.reader piece answer → IsFaultyText captures is_good (λ (f : CaptureFault). Capture f) ((bytes ++ piece) ++ more) (Capture fault)
-fault_within part q bytes piece more answer fault is stands goes_on within feeds tells =
+fault_within Holds part q bytes piece more answer fault is stands goes_on within feeds tells =
     let here : IsWithin part.reader = sym (within_here part.reader stands.given bytes stands.reader) ∙ within in
     answer_fault captures is_good once (λ (f : CaptureFault). Capture f) IsWithin stays part.reader q stands.given bytes piece more answer fault is stands.reader here goes_on feeds tells
 
 -- ---- what is kept
 
+-- a record that is kept is of one of the connections
+pub conn_below : (streams : List (List (List ℕ))) (item : Record) (count : ℕ) → MayKeep streams item → length streams ≡ count → conn_of item < count
+conn_below streams (Kinds.Segment s) count may size = omega (arith, may, size)
+conn_below streams (Kinds.Close conn) count may size = let low = may.0 in omega (arith, low, size)
+
 -- one further record
-pub record_kept : (old new : List (List (List ℕ))) (count : Option ℕ) (item : Record) (given : List Record) (answer : Result ⊤ Outside.NoMemory) → OnOk answer (new ≡ with_record old item) → KeepsRecords capture_keeping (Some old) count given → OnOk answer (KeepsRecords capture_keeping (Some new) count (given ++ item ∷ []))
-record_kept old new (Some count) item given (Ok done) added kept =
-    added ∙ ap (λ (l : List (List (List ℕ))). with_record l item) kept ∙ sym (records_on (no_bytes count) given item)
-record_kept old new None item given (Ok done) added kept = absurd kept
-record_kept old new count item given (Err e) added kept = tt
+pub record_kept : {N : Type 0} (Holds : N → ℕ → List Record → Type 0) (old new : Noted N) (count : Option ℕ) (item : Record) (given : List Record) (answer : Result ⊤ Outside.NoMemory) → MayKeep old.streams item → OnOk answer (new.streams ≡ with_record old.streams item)
+    → OnOk answer ((c : ℕ) (g : List Record) → Holds old.notes c g → conn_of item < c → Holds new.notes c (g ++ item ∷ [])) → KeepsRecords (capture_keeping Holds) (Some old) count given → OnOk answer (KeepsRecords (capture_keeping Holds) (Some new) count (given ++ item ∷ []))
+record_kept Holds old new (Some count) item given (Ok done) may added noted kept = (
+  added ∙ ap (λ (l : List (List (List ℕ))). with_record l item) kept.0 ∙ sym (records_on (no_bytes count) given item),
+  noted count given kept.1 (conn_below old.streams item count may (ap (λ (l : List (List (List ℕ))). length l) kept.0 ∙ streams_size count given)),
+)
+record_kept Holds old new None item given (Ok done) may added noted kept = absurd kept
+record_kept Holds old new count item given (Err e) may added noted kept = tt
 
 -- ---- the end
 
 -- the count of a whole capture was read
-whole_count : (part : CapturePart) (bytes : List ℕ) (stands : StandsForCapture part bytes) → ((given : List Record) (b : List ℕ) → StandsForRecords part.reader given b → EndsAs given (Ok tt) (verdict b))
+whole_count : {N : Type 0} (Holds : N → ℕ → List Record → Type 0) (part : CapturePart N) (bytes : List ℕ) (stands : StandsForCapture Holds part bytes) → ((given : List Record) (b : List ℕ) → StandsForRecords part.reader given b → EndsAs given (Ok tt) (verdict b))
     → (version : ℕ) × (count : ℕ) × (verdict bytes ≡ Good version count stands.given) × (count_of bytes ≡ Some count)
-whole_count part bytes stands ends =
+whole_count Holds part bytes stands ends =
     let good = ends stands.given bytes stands.reader in (
       good.0,
       good.1,
@@ -127,20 +137,18 @@ whole_count part bytes stands ends =
       count_here part.reader stands.given bytes stands.reader ∙ good_count part.reader stands.given stands.given good.0 good.1 (sym (verdict_here captures part.reader stands.given bytes stands.reader) ∙ good.2),
     )
 
--- the streams are those of the capture
-pub streams_of : (part : CapturePart) (streams : List (List (List ℕ))) (bytes : List ℕ) → StandsForCapture part bytes → part.streams ≡ Some streams → ((given : List Record) (b : List ℕ) → StandsForRecords part.reader given b → EndsAs given (Ok tt) (verdict b)) → HasStreams bytes streams
-streams_of part streams bytes stands is ends =
-    let whole = whole_count part bytes stands ends in
+-- the streams are those of the capture, and the notes are on its records
+pub streams_of : {N : Type 0} (Holds : N → ℕ → List Record → Type 0) (part : CapturePart N) (made : Noted N) (bytes : List ℕ) → StandsForCapture Holds part bytes → part.kept ≡ Some made → ((given : List Record) (b : List ℕ) → StandsForRecords part.reader given b → EndsAs given (Ok tt) (verdict b)) → HasNotes Holds bytes made.streams made.notes
+streams_of Holds part made bytes stands is ends =
+    let whole = whole_count Holds part bytes stands ends in
+    let kept = kept_here (capture_keeping Holds) part.kept made bytes stands.given whole.1 is whole.3 stands.kept in
     record {
-      version = whole.0;
-      count = whole.1;
-      records = stands.given;
-      good = whole.2;
-      joined = kept_here capture_keeping part.streams streams bytes stands.given whole.1 is whole.3 stands.kept;
+      capture = record { version = whole.0; count = whole.1; records = stands.given; good = whole.2; joined = kept.0 };
+      noted = kept.1;
     }
 
 -- a whole capture has streams
-pub streams_there : (part : CapturePart) (bytes : List ℕ) → StandsForCapture part bytes → part.streams ≡ None → ((given : List Record) (b : List ℕ) → StandsForRecords part.reader given b → EndsAs given (Ok tt) (verdict b)) → ⊥
-streams_there part bytes stands is ends =
-    let whole = whole_count part bytes stands ends in
-    not_none capture_keeping part.streams bytes stands.given whole.1 is whole.3 stands.kept
+pub streams_there : {N : Type 0} (Holds : N → ℕ → List Record → Type 0) (part : CapturePart N) (bytes : List ℕ) → StandsForCapture Holds part bytes → part.kept ≡ None → ((given : List Record) (b : List ℕ) → StandsForRecords part.reader given b → EndsAs given (Ok tt) (verdict b)) → ⊥
+streams_there Holds part bytes stands is ends =
+    let whole = whole_count Holds part bytes stands ends in
+    not_none (capture_keeping Holds) part.kept bytes stands.given whole.1 is whole.3 stands.kept

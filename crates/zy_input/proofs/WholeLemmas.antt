@@ -1,10 +1,12 @@
 -- The three parts of an input, one after the other.
 use Rattle.std.proofs.Common.{◌≡◌, ℕ, List, [], ◌++◌, refl, sym, ◌∙◌, ap, subst, true≢false, append_assoc}
-use Rattle.std.specs.Prelude.{Option, None, Result, Ok, Err}
+use Rattle.std.specs.Prelude.{Option, None, Result, Ok, Err, ⊤}
 use Rattle.std.proofs.lemmas.List.{append-nil}
 use Rattle.zy_base.specs.declared.file_fault.FileFault.{FileFault}
 use Rattle.zy_read.specs.Format.{reading_of, read_on, fault_met, verdict_on}
 use Rattle.zy_capture.specs.declared.capture_fault.CaptureFault.{CaptureFault}
+use Rattle.zy_capture.specs.declared.record.Record.{Record}
+use Rattle.zy_capture.specs.Outputs.{AllOutputs}
 use Rattle.zy_capture.specs.Standing.{StandsForRecords}
 use Rattle.zy_capture.specs.RepliesStanding.{StandsForReplies}
 use Rattle.zy_capture.specs.Verdict as Captures
@@ -17,12 +19,15 @@ use Rattle.zy_input.specs.declared.journal_part.JournalPart.{JournalPart}
 use Rattle.zy_input.specs.declared.journal_part.Until.{Until}
 use Rattle.zy_input.specs.declared.journal_part.Until.TheVariants.{OwnEnd, SourceEnd}
 use Rattle.zy_input.specs.declared.replies_part.RepliesPart.{RepliesPart}
+use Rattle.zy_input.specs.declared.notes.Noted.{Noted}
+use Rattle.zy_input.specs.declared.notes.NoNotes.{NoNotes}
 use Rattle.zy_input.specs.declared.parts.Parts.{Parts}
+use Rattle.zy_input.specs.declared.parts.NotedParts.{NotedParts}
 use Rattle.zy_input.specs.declared.stop.Refusal.{Refusal}
 use Rattle.zy_input.specs.declared.stop.Refusal.TheVariants.{Capture, Journal as OfJournal, Replies as OfReplies}
 use Rattle.zy_read.specs.declared.stop.Stop.{Stop}
 use Rattle.zy_read.specs.declared.stop.Stop.TheVariants.{Refused, ReadFault, NoMemory}
-use Rattle.zy_input.specs.Parts.{IsCaptureText, IsJournalText, HasStreams, HasPartFault, HasCaptureFault, HasReadParts, HasReadStreams}
+use Rattle.zy_input.specs.Parts.{IsCaptureText, IsJournalText, HasStreams, HasPartFault, HasCaptureFault, HasNotes, HasReadParts, HasReadNotedParts, HasReadStreams}
 use Rattle.zy_read.specs.Piece.{HasGiven}
 use Rattle.zy_read.proofs.SourceLemmas.{told_first}
 use Rattle.zy_input.specs.Reading.{Kind, IsUnfinished, never, IsReading, HasFaultBehind, HasReadPart, StopsPartBy, Reads}
@@ -40,16 +45,16 @@ unfolding Captures.count_of reading_of read_on
 no_count = refl
 
 -- no byte of the capture was fed
-pub capture_stands : (part : CapturePart) → StandsForRecords part.reader [] [] → part.streams ≡ None → StandsForCapture part []
-capture_stands part reader none = kept_none capture_keeping part.reader part.streams reader none no_count
+pub capture_stands : {N : Type 0} (Holds : N → ℕ → List Record → Type 0) (part : CapturePart N) → StandsForRecords part.reader [] [] → part.kept ≡ None → StandsForCapture Holds part []
+capture_stands Holds part reader none = kept_none (capture_keeping Holds) part.reader part.kept reader none no_count
 
 pub no_capture : IsUnfinished Captures.captures Captures.is_good []
 unfolding fault_met verdict_on reading_of read_on
 no_capture = (refl, refl)
 
 -- before the first byte of the capture
-pub capture_begun : {S : Type 0} (rest : S → Option (List ℕ)) (faults : S → ℕ) (first : S) (left : List ℕ) (part : CapturePart) → left ≡ [] → StandsForRecords part.reader [] [] → part.streams ≡ None → IsReading capture_kind rest faults first first left [] [] part
-capture_begun rest faults first left part empty reader none = begun capture_kind rest faults first first left [] part (given_none rest faults first left empty) (capture_stands part reader none) no_capture
+pub capture_begun : {N S : Type 0} (Holds : N → ℕ → List Record → Type 0) (rest : S → Option (List ℕ)) (faults : S → ℕ) (first : S) (left : List ℕ) (part : CapturePart N) → left ≡ [] → StandsForRecords part.reader [] [] → part.kept ≡ None → IsReading (capture_kind Holds) rest faults first first left [] [] part
+capture_begun Holds rest faults first left part empty reader none = begun (capture_kind Holds) rest faults first first left [] part (given_none rest faults first left empty) (capture_stands Holds part reader none) no_capture
 
 -- no byte of the journal was fed
 pub journal_stands : (part : JournalPart) (until : Until) → StandsForJournal part.reader [] [] → part.until ≡ until → StandsForJournalPart until part []
@@ -88,15 +93,15 @@ pub is_journal : (text : List ℕ) (journal : Journal) → Journals.journal_verd
 is_journal text journal good = ap Journals.is_good_journal good
 
 -- the fault of a text that begins with no capture
-pub begins_faulty : (text : List ℕ) (refusal : Refusal) → HasFaultBehind capture_kind [] text refusal → (fault : CaptureFault) × (refusal ≡ Capture fault) × HasCaptureFault text fault
-begins_faulty text refusal behind =
-    let met = ends_faulty Captures.captures Captures.is_good (λ (f : CaptureFault). Capture f) StandsForCapture (λ (streams : List (List (List ℕ))) (t : List ℕ). HasStreams t streams) [] text refusal behind in
+pub begins_faulty : {N : Type 0} (Holds : N → ℕ → List Record → Type 0) (text : List ℕ) (refusal : Refusal) → HasFaultBehind (capture_kind Holds) [] text refusal → (fault : CaptureFault) × (refusal ≡ Capture fault) × HasCaptureFault text fault
+begins_faulty {N} Holds text refusal behind =
+    let met = ends_faulty Captures.captures Captures.is_good (λ (f : CaptureFault). Capture f) (StandsForCapture Holds) (λ (kept : Noted N) (t : List ℕ). HasNotes Holds t kept.streams kept.notes) [] text refusal behind in
     (met.0, met.1, subst (λ (l : List ℕ). HasCaptureFault l met.0) (sym met.2.whole) (record { none = met.2.none; bad = met.2.bad }))
 
 -- a fault of the capture
-pub capture_fault : (text : List ℕ) (refusal : Refusal) → HasFaultBehind capture_kind [] text refusal → HasPartFault text refusal
-capture_fault text refusal behind =
-    let met = begins_faulty text refusal behind in
+pub capture_fault : {N : Type 0} (Holds : N → ℕ → List Record → Type 0) (text : List ℕ) (refusal : Refusal) → HasFaultBehind (capture_kind Holds) [] text refusal → HasPartFault text refusal
+capture_fault Holds text refusal behind =
+    let met = begins_faulty Holds text refusal behind in
     subst (λ (r : Refusal). HasPartFault text r) (sym met.1) met.2
 
 -- a fault of the journal
@@ -127,31 +132,55 @@ replies_fault bytes more text refusal good journal behind =
     })
 
 -- reading stops for a fault of the part that is read
-pub stopped : {P T S : Type 0} (kind : Kind P T) (rest : S → Option (List ℕ)) (faults : S → ℕ) (first now : S) (before : List ℕ) (stop : Stop Refusal) → ((text : List ℕ) (refusal : Refusal) → HasFaultBehind kind before text refusal → HasPartFault text refusal) → StopsPartBy kind rest faults first now before stop → HasReadParts rest faults first now (Err stop)
-stopped kind rest faults first now before (Refused refusal) fault stops = (
+pub stopped : {P T N S : Type 0} (Holds : N → ℕ → List Record → Type 0) (kind : Kind P T) (rest : S → Option (List ℕ)) (faults : S → ℕ) (first now : S) (before : List ℕ) (stop : Stop Refusal) → ((text : List ℕ) (refusal : Refusal) → HasFaultBehind kind before text refusal → HasPartFault text refusal) → StopsPartBy kind rest faults first now before stop → HasReadNotedParts Holds rest faults first now (Err stop)
+stopped Holds kind rest faults first now before (Refused refusal) fault stops = (
   (before ++ stops.0.0, fault (before ++ stops.0.0) refusal (record { rest = stops.0.0; whole = refl; faulty = stops.0.1 })),
   if_some (rest first) (λ text. HasFaultBehind kind before text refusal) (λ text. HasPartFault text refusal) (λ text. fault text refusal) stops.1,
 )
-stopped kind rest faults first now before ReadFault fault stops = stops
-stopped kind rest faults first now before NoMemory fault stops = tt
+stopped Holds kind rest faults first now before ReadFault fault stops = stops
+stopped Holds kind rest faults first now before NoMemory fault stops = tt
 
 -- ---- all parts
 
-pub all_parts : {S : Type 0} (rest : S → Option (List ℕ)) (faults : S → ℕ) (first now : S) (left bytes more : List ℕ) (parts : Parts) → HasStreams bytes parts.streams → Journals.journal_verdict more ≡ Journals.JournalVerdict.Good parts.journal → HasReadPart replies_kind rest faults first now left (bytes ++ more) parts.outputs → HasReadParts rest faults first now (Ok parts)
-all_parts rest faults first now left bytes more parts streams journal has = (
+pub all_parts : {N S : Type 0} (Holds : N → ℕ → List Record → Type 0) (rest : S → Option (List ℕ)) (faults : S → ℕ) (first now : S) (left bytes more : List ℕ) (parts : NotedParts N) → HasNotes Holds bytes parts.capture.streams parts.capture.notes → Journals.journal_verdict more ≡ Journals.JournalVerdict.Good parts.journal → HasReadPart replies_kind rest faults first now left (bytes ++ more) parts.outputs → HasReadNotedParts Holds rest faults first now (Ok parts)
+all_parts Holds rest faults first now left bytes more parts noted journal has = (
   (bytes ++ more) ++ has.bytes,
   read_all replies_kind rest faults first now left (bytes ++ more) parts.outputs (λ text whole. true≢false (sym whole)) has,
   record {
-    capture_text = bytes;
-    journal_text = more;
-    replies_text = has.bytes;
-    whole = append_assoc bytes more has.bytes;
-    of_capture = streams;
-    of_journal = journal;
-    of_replies = has.gives.0;
+    parts = record {
+      capture_text = bytes;
+      journal_text = more;
+      replies_text = has.bytes;
+      whole = append_assoc bytes more has.bytes;
+      of_capture = noted.capture;
+      of_journal = journal;
+      of_replies = has.gives.0;
+    };
+    noted = noted.noted;
   },
   has.gives.1,
 )
+
+-- ---- without notes
+
+-- no notes are so of any records
+abbrev pub no_notes : NoNotes → ℕ → List Record → Type 0
+no_notes notes count records = ⊤
+
+-- the parts without the notes
+pub plain_parts : {N S : Type 0} (Holds : N → ℕ → List Record → Type 0) (rest : S → Option (List ℕ)) (faults : S → ℕ) (first now : S) (noted : NotedParts N) (parts : Parts) → parts.streams ≡ noted.capture.streams → parts.journal ≡ noted.journal → parts.outputs ≡ noted.outputs
+    → HasReadNotedParts Holds rest faults first now (Ok noted) → HasReadParts rest faults first now (Ok parts)
+plain_parts Holds rest faults first now noted parts streams journal outputs has =
+    let here : HasReadParts rest faults first now (Ok (record { streams = noted.capture.streams; journal = noted.journal; outputs = noted.outputs })) = (has.0, has.1, has.2.parts, has.3) in
+    subst (λ (l : List (List (List ℕ))). HasReadParts rest faults first now (Ok (record { streams = l; journal = parts.journal; outputs = parts.outputs }))) (sym streams)
+    (subst (λ (j : Journal). HasReadParts rest faults first now (Ok (record { streams = noted.capture.streams; journal = j; outputs = parts.outputs }))) (sym journal)
+    (subst (λ (o : AllOutputs). HasReadParts rest faults first now (Ok (record { streams = noted.capture.streams; journal = noted.journal; outputs = o }))) (sym outputs) here))
+
+-- the same stop
+pub plain_stop : {N S : Type 0} (Holds : N → ℕ → List Record → Type 0) (rest : S → Option (List ℕ)) (faults : S → ℕ) (first now : S) (stop : Stop Refusal) → HasReadNotedParts Holds rest faults first now (Err stop) → HasReadParts rest faults first now (Err stop)
+plain_stop Holds rest faults first now (Refused refusal) stops = stops
+plain_stop Holds rest faults first now ReadFault stops = stops
+plain_stop Holds rest faults first now NoMemory stops = tt
 
 -- ---- the capture alone
 
@@ -165,21 +194,26 @@ same_capture_fault text refusal fault is met =
     let same : met.0 ≡ fault = cc in
     subst (λ (f : CaptureFault). HasCaptureFault text f) same met.2
 
-pub streams_read : {S : Type 0} (rest : S → Option (List ℕ)) (faults : S → ℕ) (first now : S) (left : List ℕ) (answer : Result (List (List (List ℕ))) (Stop Refusal)) → Reads capture_kind rest faults first now left [] answer → HasReadStreams rest faults first now answer
-streams_read rest faults first now left (Ok streams) has =
-    let good : IsCaptureText has.bytes = is_capture has.bytes streams has.gives in
+-- what is read of the streams alone
+abbrev pub streams_answer : {N : Type 0} → Result (Noted N) (Stop Refusal) → Result (List (List (List ℕ))) (Stop Refusal)
+streams_answer (Ok kept) = Ok kept.streams
+streams_answer (Err stop) = Err stop
+
+pub streams_read : {N S : Type 0} (Holds : N → ℕ → List Record → Type 0) (rest : S → Option (List ℕ)) (faults : S → ℕ) (first now : S) (left : List ℕ) (answer : Result (Noted N) (Stop Refusal)) → Reads (capture_kind Holds) rest faults first now left [] answer → HasReadStreams rest faults first now (streams_answer answer)
+streams_read Holds rest faults first now left (Ok kept) has =
+    let good : IsCaptureText has.bytes = is_capture has.bytes kept.streams has.gives.capture in
     record {
       text = has.bytes;
       behind = left;
       given = has.given.source;
-      are = has.gives;
+      are = has.gives.capture;
       all = told_first (rest first) (rest now) (has.bytes ++ left) (λ (told : List ℕ). IsCaptureText told → told ≡ has.bytes) has.given.source
           (λ more whole. only_capture has.bytes (left ++ more) ((has.bytes ++ left) ++ more) good (append_assoc has.bytes left more) whole);
     }
-streams_read rest faults first now left (Err (Refused refusal)) stops =
-    let met = begins_faulty stops.0.0 refusal (record { rest = stops.0.0; whole = refl; faulty = stops.0.1 }) in
+streams_read Holds rest faults first now left (Err (Refused refusal)) stops =
+    let met = begins_faulty Holds stops.0.0 refusal (record { rest = stops.0.0; whole = refl; faulty = stops.0.1 }) in
     subst (λ (r : Refusal). HasReadStreams rest faults first now (Err (Refused r))) (sym met.1)
-    (if_some (rest first) (λ text. HasFaultBehind capture_kind [] text refusal) (λ text. HasCaptureFault text met.0)
-    (λ text behind. same_capture_fault text refusal met.0 met.1 (begins_faulty text refusal behind)) stops.1)
-streams_read rest faults first now left (Err ReadFault) stops = stops
-streams_read rest faults first now left (Err NoMemory) stops = tt
+    (if_some (rest first) (λ text. HasFaultBehind (capture_kind Holds) [] text refusal) (λ text. HasCaptureFault text met.0)
+    (λ text behind. same_capture_fault text refusal met.0 met.1 (begins_faulty Holds text refusal behind)) stops.1)
+streams_read Holds rest faults first now left (Err ReadFault) stops = stops
+streams_read Holds rest faults first now left (Err NoMemory) stops = tt

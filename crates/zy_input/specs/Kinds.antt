@@ -25,34 +25,35 @@ use Rattle.zy_input.specs.declared.journal_part.Until.TheVariants.{OwnEnd, Sourc
 use Rattle.zy_input.specs.declared.packets_part.PacketsPart.{PacketsPart}
 use Rattle.zy_input.specs.declared.replies_part.RepliesPart.{RepliesPart}
 use Rattle.zy_input.specs.declared.stop.Refusal.TheVariants.{Capture, Journal as OfJournal, Replies as OfReplies, Pcap}
-use Rattle.zy_input.specs.Parts.{HasStreams, HasPackets}
+use Rattle.zy_input.specs.declared.notes.Noted.{Noted}
+use Rattle.zy_input.specs.Parts.{HasNotes, HasPackets}
 use Rattle.zy_input.specs.Reading.{Kind, format_kind, never}
 use Rattle.zy_input.specs.Keeping.{Keeper, HasKept}
 
 -- ---- captures
 
--- of a capture its streams are kept, from its count on
-abbrev pub capture_keeping : Keeper CaptureSteps.CaptureProgress Record CaptureFault Captures.Verdict
-    (List (List (List ℕ)))
-capture_keeping = record {
+-- of a capture its streams are kept, with notes on its records, from its count on
+abbrev pub capture_keeping : {N : Type 0} → (N → ℕ → List Record → Type 0)
+    → Keeper CaptureSteps.CaptureProgress Record CaptureFault Captures.Verdict (Noted N)
+capture_keeping Holds = record {
   format = Captures.captures;
   number_of = Captures.count_of;
-  holds = λ streams count given. streams ≡ with_records (no_bytes count) given;
+  holds = λ kept count given. (kept.streams ≡ with_records (no_bytes count) given) × Holds kept.notes count given;
 }
 
 -- these bytes of a capture were fed, and their records are kept
-abbrev pub StandsForCapture : CapturePart → List ℕ → Type 0
-StandsForCapture part bytes = HasKept capture_keeping part.reader part.streams bytes
+abbrev pub StandsForCapture : {N : Type 0} → (N → ℕ → List Record → Type 0) → CapturePart N → List ℕ → Type 0
+StandsForCapture Holds part bytes = HasKept (capture_keeping Holds) part.reader part.kept bytes
 
--- the record is of one of the connections, which has room for a further session if the record begins one
+-- the record is of one of the connections, which has room for another session if the record begins one
 abbrev pub MayKeep : List (List (List ℕ)) → Record → Type 0
 MayKeep streams (Kinds.Segment s) = s.conn < length streams
 MayKeep streams (Kinds.Close conn) = (conn < length streams) × (length (sessions_of streams conn) < 2 ^ 31)
 
-abbrev pub capture_kind : Kind CapturePart (List (List (List ℕ)))
-capture_kind =
-    format_kind Captures.captures Captures.is_good (λ fault. Capture fault) StandsForCapture
-    (λ streams text. HasStreams text streams)
+abbrev pub capture_kind : {N : Type 0} → (N → ℕ → List Record → Type 0) → Kind (CapturePart N) (Noted N)
+capture_kind Holds =
+    format_kind Captures.captures Captures.is_good (λ fault. Capture fault) (StandsForCapture Holds)
+    (λ kept text. HasNotes Holds text kept.streams kept.notes)
 
 -- ---- journals
 

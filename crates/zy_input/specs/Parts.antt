@@ -6,6 +6,7 @@ use Rattle.std.specs.Io.KnownBytes.{Consumes}
 use Rattle.zy_base.specs.declared.file_fault.FileFault.{FileFault}
 use Rattle.zy_base.specs.Outside.{Rose}
 use Rattle.zy_capture.specs.declared.record.Record.{Record}
+use Rattle.zy_capture.specs.declared.record.Record.TheVariants as Kinds
 use Rattle.zy_capture.specs.declared.capture_fault.CaptureFault.{CaptureFault}
 use Rattle.zy_capture.specs.Streams.{no_bytes, with_records}
 use Rattle.zy_capture.specs.Outputs.{AllOutputs, AreOutputs}
@@ -19,6 +20,7 @@ use Rattle.zy_pcap.specs.Packets.FoundPackets.{Packets, Bad}
 use Rattle.zy_journal.specs.declared.journal.Journal.{Journal}
 use Rattle.zy_journal_reader.specs.Verdict as Journals
 use Rattle.zy_input.specs.declared.parts.Parts.{Parts}
+use Rattle.zy_input.specs.declared.parts.NotedParts.{NotedParts}
 use Rattle.zy_input.specs.declared.stop.Refusal.{Refusal}
 use Rattle.zy_input.specs.declared.stop.Refusal.TheVariants.{Capture, Journal as OfJournal}
 use Rattle.zy_input.specs.declared.stop.Refusal.TheVariants.{Replies as OfReplies, Pcap}
@@ -44,6 +46,17 @@ pub record HasStreams (text : List ℕ) (streams : List (List (List ℕ))) : Typ
   pub good : Captures.verdict text ≡ Captures.Verdict.Good version count records
   pub joined : streams ≡ with_records (no_bytes count) records
 
+-- the connection of a record
+abbrev pub conn_of : Record → ℕ
+conn_of (Kinds.Segment s) = s.conn
+conn_of (Kinds.Close conn) = conn
+
+-- the text is a capture with these streams, and these are notes on its records
+pub record HasNotes {N : Type 0} (Holds : N → ℕ → List Record → Type 0) (text : List ℕ)
+    (streams : List (List (List ℕ))) (notes : N) : Type 0 where
+  pub capture : HasStreams text streams
+  pub noted : Holds notes capture.count capture.records
+
 -- the text is recorded packets, and these are the streams of those to the port
 pub record HasPackets (port : ℕ) (text : List ℕ) (streams : List (List (List ℕ))) : Type 0 where
   pub given : List Packet
@@ -60,6 +73,12 @@ pub record IsMadeOfParts (text : List ℕ) (streams : List (List (List ℕ))) (j
   pub of_capture : HasStreams capture_text streams
   pub of_journal : Journals.journal_verdict journal_text ≡ Journals.JournalVerdict.Good journal
   pub of_replies : Replies.verdict replies_text ≡ Replies.Verdict.Good outputs.version (items_of outputs)
+
+-- the same, and these are notes on the records of the capture
+pub record IsMadeOfNotedParts {N : Type 0} (Holds : N → ℕ → List Record → Type 0) (text : List ℕ)
+    (streams : List (List (List ℕ))) (notes : N) (journal : Journal) (outputs : AllOutputs) : Type 0 where
+  pub parts : IsMadeOfParts text streams journal outputs
+  pub noted : Holds notes parts.of_capture.count parts.of_capture.records
 
 -- ---- faults
 
@@ -119,6 +138,18 @@ HasReadParts rest faults first now (Err (Refused refusal)) =
     IsPartFault refusal × IfSome (rest first) (λ text. HasPartFault text refusal)
 HasReadParts rest faults first now (Err ReadFault) = Rose (faults first) (faults now)
 HasReadParts rest faults first now (Err NoMemory) = ⊤
+
+-- the same, with notes on the records of the capture
+abbrev pub HasReadNotedParts : {N S : Type 0} → (N → ℕ → List Record → Type 0) → (S → Option (List ℕ)) → (S → ℕ) → S → S
+    → Result (NotedParts N) (Stop Refusal) → Type 0
+HasReadNotedParts Holds rest faults first now (Ok parts) =
+    (text : List ℕ) × ReadsAll (rest first) (rest now) text
+    × IsMadeOfNotedParts Holds text parts.capture.streams parts.capture.notes parts.journal parts.outputs
+    × AreOutputs parts.outputs
+HasReadNotedParts Holds rest faults first now (Err (Refused refusal)) =
+    IsPartFault refusal × IfSome (rest first) (λ text. HasPartFault text refusal)
+HasReadNotedParts Holds rest faults first now (Err ReadFault) = Rose (faults first) (faults now)
+HasReadNotedParts Holds rest faults first now (Err NoMemory) = ⊤
 
 -- the source gave a capture with these streams, and may have given some bytes after it; if all that
 -- it held is a capture, it is this one

@@ -95,7 +95,7 @@ pub record HasReadToEnd {P T S : Type 0} (kind : Kind P T) (rest : S → Option 
   pub stands : kind.stands reader bytes
   pub end : kind.whole bytes ⊎ (kind.goes_on bytes × IsOver (rest now) left)
 
--- the part goes on after further bytes, or is read no further
+-- the part goes on after more bytes, or is read no further
 abbrev pub AdvancesPart : {P T S : Type 0} → Kind P T → (S → Option (List ℕ)) → (S → ℕ) → S → S → List ℕ → List ℕ
     → List ℕ
     → P → Result Bool (Stop Refusal) → Type 0

@@ -7,8 +7,11 @@ ghost use Rattle.zy_capture.specs.Verdict.{Verdict, is_within_record};
 ghost use Rattle.zy_input.specs.declared.stop.Refusal.TheVariants.{Capture};
 ghost use Rattle.zy_input.specs.Reading.{TakesInPart, IsPartOpen};
 ghost use Rattle.zy_input.specs.Kinds.{MayKeep, capture_keeping, capture_kind};
+ghost use Rattle.zy_input.specs.Parts.{conn_of};
+ghost use Rattle.zy_capture.specs.declared.record.Record.{Record};
 
 use crate::keep::{Keep, keep_taken};
+use crate::notes::{Noted, Notes};
 use crate::part::{Part, Taken};
 use crate::stop::{Refusal, Stop};
 use std::alloc::Global;
@@ -16,64 +19,64 @@ use zy_base::NoMemory;
 use zy_capture::{CaptureFault, Reader, Record, Streams};
 use zy_read::Fed;
 
-/// The reader of the capture, and the streams of the records that it gave.
+/// The reader of the capture, and the streams of the records that it gave, with notes on them.
 #[derive(Drop)]
-pub(crate) struct CapturePart {
+pub(crate) struct CapturePart<N: Notes> {
     alloc: Global,
     reader: Reader,
-    streams: Option<Streams>,
+    kept: Option<Noted<N>>,
 }
 
-impl CapturePart {
+impl<N: Notes> CapturePart<N> {
     // No byte was taken yet.
-    pub(crate) fn new(alloc: Global) -> CapturePart
+    pub(crate) fn new(alloc: Global) -> CapturePart<N>
         ensures reader { StandsForRecords result.reader [] [] }
-        ensures none { result.streams ≡ None }
+        ensures none { result.kept ≡ None }
     {
         CapturePart {
             alloc,
             reader: Reader::new(alloc),
-            streams: None,
+            kept: None,
         }
     }
 
     // Takes one byte.
     fn take_byte(&mut self, byte: u8) -> Taken
-        requires goes { IsPartOpen (λ (u : ⊤). capture_kind) self.old }
+        requires goes { IsPartOpen (λ (u : ⊤). capture_kind N.holds) self.old }
         ensures count { result.count ≡ 1 }
-        ensures value { (bytes : List ℕ) → capture_kind.stands self.old bytes
-            → capture_kind.goes_on bytes
-            → TakesInPart capture_kind self.new (bytes ++ byte ∷ []) result.answer }
+        ensures value { (bytes : List ℕ) → (capture_kind N.holds).stands self.old bytes
+            → (capture_kind N.holds).goes_on bytes
+            → TakesInPart (capture_kind N.holds) self.new (bytes ++ byte ∷ []) result.answer }
     {
         let answer = self.reader.feed(byte);
         let done = self.reader.is_done();
         let fed = Fed { taken: 1, answer };
-        keep_taken(self.alloc, &self.reader, &mut self.streams, done, fed)
+        keep_taken(self.alloc, &self.reader, &mut self.kept, done, fed)
     }
 
     // Takes bytes of a record, up to its end at most.
     fn take_piece(&mut self, next: &[u8]) -> Taken
         requires some { 0 < length next.now }
-        requires goes { IsPartOpen (λ (u : ⊤). capture_kind) self.old }
+        requires goes { IsPartOpen (λ (u : ⊤). capture_kind N.holds) self.old }
         ensures within { result.count ≤ length next.now }
         ensures taken { (whole : _) → result.answer ≡ Ok whole → 0 < result.count }
-        ensures value { (bytes : List ℕ) → capture_kind.stands self.old bytes
-            → capture_kind.goes_on bytes → is_within_record bytes ≡ true
-            → TakesInPart capture_kind self.new (bytes ++ take result.count next.now)
+        ensures value { (bytes : List ℕ) → (capture_kind N.holds).stands self.old bytes
+            → (capture_kind N.holds).goes_on bytes → is_within_record bytes ≡ true
+            → TakesInPart (capture_kind N.holds) self.new (bytes ++ take result.count next.now)
             result.answer }
     {
         let fed = self.reader.feed_piece(next);
         let done = self.reader.is_done();
-        keep_taken(self.alloc, &self.reader, &mut self.streams, done, fed)
+        keep_taken(self.alloc, &self.reader, &mut self.kept, done, fed)
     }
 }
 
-impl Part for CapturePart {
-    type Gives = Streams;
+impl<N: Notes> Part for CapturePart<N> {
+    type Gives = Noted<N>;
 
     ghost Setting = { ⊤ };
 
-    ghost kind = { λ u. capture_kind };
+    ghost kind = { λ u. capture_kind N.holds };
 
     // Within a record the end of the capture doesn't come; elsewhere it may be the next byte.
     fn take(&mut self, next: &[u8]) -> Taken {
@@ -83,9 +86,9 @@ impl Part for CapturePart {
         self.take_byte(next[0])
     }
 
-    fn end(self) -> Result<Streams, Stop> {
-        match (self.reader.end(), self.streams) {
-            (Ok(()), Some(streams)) => Ok(streams),
+    fn end(self) -> Result<Noted<N>, Stop> {
+        match (self.reader.end(), self.kept) {
+            (Ok(()), Some(kept)) => Ok(kept),
             // The count of a capture that is whole was read.
             (Ok(()), None) => unreachable!(),
             (Err(fault), _) => Err(Stop::Refused(Refusal::Capture(fault))),
@@ -93,7 +96,7 @@ impl Part for CapturePart {
     }
 }
 
-impl Keep for Streams {
+impl<N: Notes> Keep for Noted<N> {
     type Reader = Reader;
 
     type Item = Record;
@@ -102,7 +105,7 @@ impl Keep for Streams {
 
     ghost Verdict = { Verdict };
 
-    ghost keeping = { capture_keeping };
+    ghost keeping = { capture_keeping N.holds };
 
     ghost refused = { λ fault. Capture fault };
 
@@ -114,20 +117,40 @@ impl Keep for Streams {
         reader.count()
     }
 
-    fn make(alloc: Global, number: u32) -> Result<Streams, NoMemory> {
-        Streams::new(alloc, number)
+    fn make(alloc: Global, number: u32) -> Result<Noted<N>, NoMemory> {
+        let streams = Streams::new(alloc, number)?;
+        match N::begin(alloc, number) {
+            Ok(notes) => Ok(Noted { streams, notes }),
+            Err(refused) => {
+                drop(streams);
+                Err(refused)
+            }
+        }
     }
 
-    fn add(made: &mut Option<Streams>, item: Record) -> Result<(), NoMemory> {
+    fn add(made: &mut Option<Noted<N>>, item: Record) -> Result<(), NoMemory> {
         match made {
-            Some(streams) => {
-                let added = add_record(streams, &item);
+            Some(kept) => {
+                let added = add_noted(kept, &item);
                 drop(item);
                 added
             }
             None => unreachable!(),
         }
     }
+}
+
+// Adds a record to streams, and takes notes on it.
+fn add_noted<N: Notes>(kept: &mut Noted<N>, item: &Record) -> Result<(), NoMemory>
+    requires may { MayKeep kept.old.streams item.now }
+    requires notes { (count : ℕ) × (given : List Record) × N.holds kept.old.notes count given
+        × (conn_of item.now < count) }
+    ensures streams { OnOk result (kept.new.streams ≡ with_record kept.old.streams item.now) }
+    ensures notes { OnOk result ((count : ℕ) (given : List Record) → N.holds kept.old.notes count given
+        → conn_of item.now < count → N.holds kept.new.notes count (given ++ item.now ∷ [])) }
+{
+    add_record(&mut kept.streams, item)?;
+    kept.notes.add(item)
 }
 
 // Adds a record to streams.

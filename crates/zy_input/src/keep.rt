@@ -107,7 +107,7 @@ fn keep_next<K: Keep>(
     }
 }
 
-// Makes what is kept where the number is known and it was not made.
+// Makes what is kept if the number is known and it was not made.
 fn begin<K: Keep>(alloc: Global, reader: &K::Reader, made: &mut Option<K>) -> Result<(), NoMemory>
     requires keeping { (gave : Option K.Item) × IsKeeping K.keeping reader.now made.old gave }
     ensures value { (given all : List K.Item) (bytes : List ℕ)

@@ -6,6 +6,7 @@ mod capture_part;
 mod journal_part;
 mod keep;
 mod laws;
+mod notes;
 mod packets_part;
 mod part;
 mod parts;
@@ -13,5 +14,8 @@ mod replies_part;
 mod stop;
 
 pub use laws::{parts_have_no_fault, there_is_one_part_fault};
-pub use parts::{Parts, read_journal, read_packets, read_parts, read_streams};
+pub use notes::{NoNotes, Noted, Notes};
+pub use parts::{
+    NotedParts, Parts, read_journal, read_noted_parts, read_packets, read_parts, read_streams,
+};
 pub use stop::{Refusal, Stop};

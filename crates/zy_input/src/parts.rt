@@ -1,9 +1,10 @@
 //! The inputs of the program: the parts of a check's, a capture, a journal, and recorded packets.
 ghost use Rattle.std.specs.Prelude.{◌≤◌};
-ghost use Rattle.zy_input.specs.Parts.{HasReadParts, HasReadStreams, HasReadJournal, HasReadPackets};
+ghost use Rattle.zy_input.specs.Parts.{HasReadParts, HasReadNotedParts, HasReadStreams, HasReadJournal, HasReadPackets};
 
 use crate::capture_part::CapturePart;
 use crate::journal_part::{JournalPart, Until};
+use crate::notes::{NoNotes, Noted, Notes};
 use crate::packets_part::PacketsPart;
 use crate::part::{read_alone, read_part};
 use crate::replies_part::RepliesPart;
@@ -26,17 +27,53 @@ pub struct Parts {
     pub outputs: Outputs,
 }
 
+/// What the input of a check gives, with notes on the records of its capture.
+#[derive(Drop)]
+pub struct NotedParts<N: Notes> {
+    /// The streams of the capture, and the notes.
+    pub capture: Noted<N>,
+    /// The journal.
+    pub journal: Journal,
+    /// The outputs of the replies file.
+    pub outputs: Outputs,
+}
+
 /// Reads a capture, a journal and a replies file, one after the other, to the end of the source.
 pub fn read_parts<S: Source>(alloc: Global, source: &mut S) -> Result<Parts, Stop>
     ensures parts { HasReadParts S.rest S.faults source.old source.new result }
+    ensures count { S.faults source.old ≤ S.faults source.new }
+{
+    match read_noted_parts::<NoNotes, S>(alloc, source) {
+        Ok(parts) => {
+            let NotedParts {
+                capture,
+                journal,
+                outputs,
+            } = parts;
+            Ok(Parts {
+                streams: capture.into_streams(),
+                journal,
+                outputs,
+            })
+        }
+        Err(stop) => Err(stop),
+    }
+}
+
+/// The same, with notes on the records of the capture.
+pub fn read_noted_parts<N: Notes, S: Source>(
+    alloc: Global,
+    source: &mut S,
+) -> Result<NotedParts<N>, Stop>
+    ensures parts { HasReadNotedParts N.holds S.rest S.faults source.old source.new result }
     ensures count { S.faults source.old ≤ S.faults source.new }
 {
     let mut pieces = match Pieces::new(alloc) {
         Ok(pieces) => pieces,
         Err(NoMemory) => return Err(Stop::NoMemory),
     };
-    let streams = match read_part(CapturePart::new(alloc), &mut pieces, source) {
-        Ok(streams) => streams,
+    let capture = match read_part(CapturePart::<N>::new(alloc), &mut pieces, source) {
+        Ok(capture) => capture,
         Err(stop) => return Err(stop),
     };
     let journal = match read_part(JournalPart::new(alloc, Until::OwnEnd), &mut pieces, source) {
@@ -47,8 +84,8 @@ pub fn read_parts<S: Source>(alloc: Global, source: &mut S) -> Result<Parts, Sto
         Ok(outputs) => outputs,
         Err(stop) => return Err(stop),
     };
-    Ok(Parts {
-        streams,
+    Ok(NotedParts {
+        capture,
         journal,
         outputs,
     })
@@ -60,7 +97,10 @@ pub fn read_streams<S: Source>(alloc: Global, source: &mut S) -> Result<Streams,
     ensures streams { HasReadStreams S.rest S.faults source.old source.new result }
     ensures count { S.faults source.old ≤ S.faults source.new }
 {
-    read_alone(alloc, CapturePart::new(alloc), source)
+    match read_alone(alloc, CapturePart::<NoNotes>::new(alloc), source) {
+        Ok(capture) => Ok(capture.into_streams()),
+        Err(stop) => Err(stop),
+    }
 }
 
 /// Reads a journal to the end of the source.

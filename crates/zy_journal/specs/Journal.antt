@@ -1,4 +1,4 @@
--- The journal format, docs/FORMATS.md, "Journal": its values, their one spelling, and which values have one.
+-- The journal format, docs/FORMATS.md, "Journal": its values, their one encoding, and which values have one.
 use Rattle.std.specs.Prelude.{ℕ, ◌<◌, ◌≤◌, List, [], ◌∷◌, ◌++◌, length, flat_map, codes, Option, None, Some}
 use Rattle.std.specs.List.{AllByRecursion}
 use Rattle.std.specs.Int.{to_be_bytes, w32, w64}
@@ -40,7 +40,7 @@ abbrev pub field_text : {X : Type 0} → (X → List ℕ) → Option X → List 
 field_text text None = []
 field_text text (Some x) = text x
 
--- the flags, four bytes, a number, eight bytes, and a value, each where it is there
+-- the flags, four bytes, a number, eight bytes, and a value, each if it is there
 abbrev pub fields_text : Option ℕ → Option ℕ → Option (List ℕ) → List ℕ
 fields_text flags number value =
     field_text (to_be_bytes w32) flags ++ (field_text (to_be_bytes w64) number ++ field_text value_text value)
@@ -100,7 +100,7 @@ abbrev pub AreByConnection : ℕ → List Hold → Type 0
 AreByConnection connection [] = Unit {0}
 AreByConnection connection (h ∷ hs) = (connection ≤ h.conn) × AreByConnection h.conn hs
 
--- a journal that has a spelling
+-- a journal that has an encoding
 pub record IsJournal (journal : Journal) : Type 0 where
   pub ordered : IsOrdered None journal.entries
   pub entries : AllByRecursion IsEntry journal.entries

@@ -12,7 +12,7 @@ rests_of [] places = []
 rests_of (h ∷ hs) [] = h ∷ hs
 rests_of (h ∷ hs) (n ∷ ns) = drop n h ∷ rests_of hs ns
 
--- the stamp of the first entry, where there is one
+-- the stamp of the first entry, if there is one
 abbrev pub first_stamp : List Entry → Option ℕ
 first_stamp [] = None
 first_stamp (e ∷ es) = Some e.stamp
@@ -33,7 +33,7 @@ pub record IsFirstOf (rests : List (List Entry)) (low high : ℕ) (head : Head) 
   pub first : (shard stamp : ℕ) → low ≤ shard → shard < high → shard ≢ head.shard → head_of rests shard ≡ Some stamp
       → is_earlier head.stamp head.shard stamp shard ≡ true
 
--- the first entry that comes first of these lists; none where all of them are empty
+-- the first entry that comes first of these lists; none if all of them are empty
 abbrev pub IsBest : List (List Entry) → ℕ → ℕ → Option Head → Type 0
 IsBest rests low high None = (shard : ℕ) → low ≤ shard → shard < high → head_of rests shard ≡ None
 IsBest rests low high (Some head) = IsFirstOf rests low high head

@@ -17,7 +17,7 @@ pub(crate) fn put<const N: usize>(text: &mut ArrayVec<u8, N>, field: &[u8])
     }
 }
 
-// Appends the flags, where they are there.
+// Appends the flags, if they are there.
 pub(crate) fn put_flags<const N: usize>(text: &mut ArrayVec<u8, N>, flags: Option<u32>)
     requires room { array_vec_len text.old + 4 ≤ N }
     ensures value { text.new.items ≡ text.old.items ++ field_text (to_be_bytes w32) flags }
@@ -28,7 +28,7 @@ pub(crate) fn put_flags<const N: usize>(text: &mut ArrayVec<u8, N>, flags: Optio
     }
 }
 
-// Appends a number, where it is there.
+// Appends a number, if it is there.
 pub(crate) fn put_number<const N: usize>(text: &mut ArrayVec<u8, N>, number: Option<u64>)
     requires room { array_vec_len text.old + 8 ≤ N }
     ensures value { text.new.items ≡ text.old.items ++ field_text (to_be_bytes w64) number }

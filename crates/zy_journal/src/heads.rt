@@ -11,7 +11,7 @@ pub(crate) struct Head {
     pub(crate) stamp: u64,
 }
 
-/// The stamp of the entry at a place, where there is one.
+/// The stamp of the entry at a place, if there is one.
 pub(crate) fn stamp_at(history: &[Entry], at: usize) -> Option<u64>
     ensures value { result ≡ first_stamp (drop at history.now) }
 {
@@ -64,7 +64,7 @@ pub(crate) fn best_of(heads: &[Option<u64>; 256], group: usize) -> Option<Head>
     best
 }
 
-// The head of a history with this stamp, where there is one.
+// The head of a history with this stamp, if there is one.
 fn head_at(shard: usize, stamp: Option<u64>) -> Option<Head>
     ensures value { (rests : _) → head_of rests shard ≡ stamp
         → IsBest rests shard (shard + 1) result }
@@ -75,7 +75,7 @@ fn head_at(shard: usize, stamp: Option<u64>) -> Option<Head>
     }
 }
 
-/// Of the first heads of some histories and of those behind them, the one that comes first.
+/// Of the first heads of some histories and of those after them, the one that comes first.
 pub(crate) fn first_of(before: Option<Head>, behind: Option<Head>) -> Option<Head>
     ensures value { (rests : _) (low middle high : ℕ) → low ≤ middle → middle ≤ high
         → IsBest rests low middle before → IsBest rests middle high behind

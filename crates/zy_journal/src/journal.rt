@@ -78,7 +78,7 @@ impl Journal {
         self.holds.items()
     }
 
-    /// The number of entries; `None` where it does not fit in 64 bits.
+    /// The number of entries; `None` if it does not fit in 64 bits.
     pub fn count(&self) -> Option<u64>
         ensures value { IfSome result (λ n. n ≡ length self.now.entries) }
     {

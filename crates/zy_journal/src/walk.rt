@@ -49,7 +49,7 @@ impl<'j> Walk<'j> {
         }
     }
 
-    /// The next entry; `None` exactly where none is left. Takes no memory.
+    /// The next entry; `None` if and only if none is left. Takes no memory.
     pub fn next(&mut self) -> Option<&'j Entry>
         ensures some { IfSome result (λ e. self.old ≡ e.now ∷ self.new) }
         ensures none { IfNone result (self.old ≡ []) }

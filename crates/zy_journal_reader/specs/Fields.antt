@@ -16,7 +16,7 @@ use Rattle.zy_journal_reader.specs.declared.due.LongField.TheVariants.{CallNumbe
 
 -- ---- calls
 
--- what comes where the value of a call stands: where it has none, its reply
+-- the value of a call, or its reply if it has no value
 abbrev pub at_value : CallFields → Due
 at_value fields = if fields.value then Number ValueLength else Byte ReplyCode
 

@@ -19,7 +19,7 @@ use Rattle.zy_journal_reader.specs.declared.due.ByteField.TheVariants as Bytes
 use Rattle.zy_journal_reader.specs.Fields.{fresh}
 use Rattle.zy_journal_reader.specs.Steps.{ReadState}
 
--- a field with this text, where it is there, and what is known of it
+-- a field with this text, if it is there, and what is known of it
 pub record HasField {X : Type 0} (text_of : X → List ℕ) (Is : X → Type 0) (has : Bool) (text : List ℕ) (x : X)
     (rest : List ℕ) : Type 0 where
   pub spelled : text ≡ field_text text_of (there has x) ++ rest
@@ -87,10 +87,10 @@ pub record IsAtRecord (s : ReadState) : Type 0 where
   pub due : s.due ≡ Byte Bytes.Tag
   pub draft : s.draft ≡ fresh
 
--- the lists with one further entry
+-- the lists with one more entry
 abbrev pub and_entry : ReadState → Entry → ReadState
 and_entry s e = record s { entries = s.entries ++ e ∷ []; past = record s.past { stamp = e.stamp; shard = e.shard } }
 
--- the lists with one further hold
+-- the lists with one more hold
 abbrev pub and_hold : ReadState → Hold → ReadState
 and_hold s h = record s { holds = s.holds ++ h ∷ []; past = record s.past { conn = h.conn } }

@@ -1,7 +1,7 @@
 -- The last one of a list. No public clause cites this module.
 use Rattle.std.specs.Prelude.{List, [], ◌∷◌, Option, None, Some}
 
--- the last one of a list, or the one before all where the list is empty
+-- the last one of a list, or the one before all if the list is empty
 abbrev pub last_after : {X : Type 0} → Option X → List X → Option X
 last_after before [] = before
 last_after before (x ∷ xs) = last_after (Some x) xs

@@ -24,7 +24,7 @@ abbrev pub EndsJournalAs : Result Journal FileFault → JournalVerdict → Type 
 EndsJournalAs (Ok journal) found = found ≡ Good journal
 EndsJournalAs (Err fault) found = found ≡ Bad fault
 
--- the bytes fed are the spelling of this journal, or have this fault as they end
+-- the bytes fed are the encoding of this journal, or have this fault as they end
 abbrev pub EndsJournalBy : JournalProgress → Result Journal FileFault → Type 0
 EndsJournalBy p answer =
     (given : List ⊤) (b : List ℕ) → StandsForJournal p given b → EndsJournalAs answer (journal_verdict b)

@@ -122,7 +122,7 @@ ends_journal s = Gives (record s { due = Nothing }) tt
 
 -- ---- fields of one byte
 
--- which bytes are lawful; no entry comes after a hold
+-- which bytes are valid; no entry comes after a hold
 abbrev pub lawful_byte : ByteField → ReadState → ℕ → ℕ → Bool
 lawful_byte Magic s at byte = byte == slice_index magic at
 lawful_byte Tag s at byte = byte == 69 || byte == 72 || (byte == 74 && length s.holds == 0)
@@ -130,7 +130,7 @@ lawful_byte CallCode s at byte = nat_le 1 byte && nat_le byte last_call_code
 lawful_byte KeyLength s at byte = nat_le 1 byte && nat_le byte key_limit
 lawful_byte ReplyCode s at byte = nat_le 1 byte && nat_le byte last_reply_code
 
--- what a lawful one does
+-- what a valid one does
 abbrev pub after_byte : ByteField → ReadState → ℕ → ℕ → Done
 after_byte Magic s at byte = if at == 7 then goes_to s (Byte Tag) else goes_to s (Byte Magic)
 after_byte Tag s at byte =
@@ -145,7 +145,7 @@ after_byte ReplyCode s at byte =
 
 -- ---- numbers of four bytes
 
--- which numbers are lawful; where the stamp is that of the entry before, the shard is above that one's
+-- which numbers are valid; if the stamp is that of the entry before, the shard is above that one's
 abbrev pub lawful_number : NumberField → ReadState → ℕ → Bool
 lawful_number Shard s n = nat_lt n shard_limit && (nat_lt s.past.stamp s.draft.stamp || nat_lt s.past.shard n)
 lawful_number Connection s n = nat_lt n connection_limit
@@ -158,7 +158,7 @@ lawful_number Part s n = true
 lawful_number Flags s n = true
 lawful_number FoundFlags s n = true
 
--- what a lawful one does
+-- what a valid one does
 abbrev pub after_four : NumberField → ReadState → ℕ → Done
 after_four Shard s n = knows s (record s.draft { shard = n }) (Number Connection)
 after_four Connection s n = knows s (record s.draft { conn = n }) (Long Index)
@@ -175,7 +175,7 @@ after_four HoldCount s n = ends_hold s n
 
 -- ---- numbers of eight bytes
 
--- which numbers are lawful; a stamp is not below that of the entry before
+-- which numbers are valid; a stamp is not below that of the entry before
 abbrev pub lawful_long : LongField → ReadState → ℕ → Bool
 lawful_long Stamp s n = nat_le 1 n && nat_lt n stamp_limit && nat_le s.past.stamp n
 lawful_long Index s n = nat_lt n command_limit
@@ -188,7 +188,7 @@ lawful_long Hits s n = true
 lawful_long Misses s n = true
 lawful_long Items s n = true
 
--- what a lawful one does
+-- what a valid one does
 abbrev pub after_eight : LongField → ReadState → ℕ → Done
 after_eight Stamp s n = knows s (record s.draft { stamp = n }) (Number Shard)
 after_eight Index s n = knows s (record s.draft { index = n }) (Number Part)
@@ -223,7 +223,7 @@ number_byte field s at n = if lawful_number field s n then after_four field s n 
 abbrev pub long_byte : LongField → ReadState → ℕ → ℕ → Done
 long_byte field s at n = if lawful_long field s n then after_eight field s n else Wrong (Form at)
 
--- a whole field, where this is expected
+-- a whole field, if this is expected
 abbrev pub journal_judged : Due → ReadState → ℕ → List ℕ → Done
 journal_judged (Byte field) s at bytes = one field s at (get_or bytes 0 0)
 journal_judged (Number field) s at bytes = number_byte field s at (from_be_bytes w32 bytes)
@@ -233,7 +233,7 @@ journal_judged Nothing s at bytes = Wrong (Form at)
 
 -- ---- the fields
 
--- the shape of the field that is expected, where a key or a value has `size` bytes
+-- the shape of the field that is expected, if a key or a value has `size` bytes
 abbrev pub journal_shape : Due → ℕ → Shape
 journal_shape (Number field) size = Shapes.Four
 journal_shape (Long field) size = Shapes.Eight

@@ -1,5 +1,5 @@
--- The verdict on a whole text as a journal: the journal that it spells, or its first fault. A text
--- is read from its first byte to its last. That it is good exactly where it is a spelling is a law
+-- The verdict on a whole text as a journal: the journal that it encodes, or its first fault. A text
+-- is read from its first byte to its last. That it is good if and only if it is an encoding is a law
 -- in src/laws.rt.
 use Rattle.std.specs.Prelude.{◌≡◌, ℕ, ◌≤◌, Bool, true, false, List, length, ⊤, ◌+◌, ◌++◌, flat_map}
 use Rattle.std.specs.List.{AllByRecursion}
@@ -13,7 +13,7 @@ use Rattle.zy_journal_reader.specs.Steps.{ReadState, JournalProgress, journal_fi
 
 -- ---- a whole text
 
--- what a whole text is: the journal that it spells, or its first fault
+-- what a whole text is: the journal that it encodes, or its first fault
 pub data JournalVerdict : Type 0 where
   Good : Journal → JournalVerdict
   Bad : FileFault → JournalVerdict
@@ -41,17 +41,17 @@ is_good_journal (Bad fault) = false
 
 -- ---- spellings
 
--- a journal that can be read: one with a spelling, whose numbers fit their bytes
+-- a journal that can be read: one with an encoding, whose numbers fit their bytes
 pub record IsReadable (journal : Journal) : Type 0 where
   pub valid : IsJournal journal
   pub fits : AllByRecursion FitsEntry journal.entries
 
--- the text is the spelling of this journal, and not too long
+-- the text is the encoding of this journal, and not too long
 pub record SpellsJournal (text : List ℕ) (journal : Journal) : Type 0 where
   pub readable : IsReadable journal
   pub spelled : text ≡ journal_bytes journal
   pub short : length text ≤ journal_limit
 
--- the bytes of a journal up to its end, or up to a further record
+-- the bytes of a journal up to its end, or up to another record
 abbrev pub journal_front : Journal → List ℕ
 journal_front journal = magic ++ (flat_map entry_text journal.entries ++ flat_map hold_text journal.holds)

@@ -5,7 +5,7 @@ ghost use Rattle.zy_journal_reader.specs.Fields.{fresh, entry_read};
 use std::alloc::Global;
 use zy_base::{Blob, CallKind, CallReply, Entry, Tag, Tallied};
 
-/// What was read of a record so far; 0 and empty where a field was not read.
+/// What was read of a record so far; 0 and empty if a field was not read.
 #[derive(Drop)]
 pub(crate) struct Draft {
     pub(crate) stamp: u64,
@@ -16,10 +16,10 @@ pub(crate) struct Draft {
     pub(crate) kind: CallKind,
     pub(crate) key: Blob,
     pub(crate) flags: u32,
-    /// The unique of a cas, or the amount of an incr or a decr.
+    /// The CAS value of a cas, or the amount of an incr or a decr.
     pub(crate) number: u64,
     pub(crate) value: Blob,
-    /// The flags and the unique that a get found.
+    /// The flags and the CAS value that a get found.
     pub(crate) found_flags: u32,
     pub(crate) found_unique: u64,
     /// The numbers of a tally.

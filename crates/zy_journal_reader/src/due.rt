@@ -47,9 +47,9 @@ pub(crate) enum LongField {
     Stamp,
     /// The number of the command among its connection's.
     Index,
-    /// The unique of a cas, or the amount of an incr or a decr.
+    /// The CAS value of a cas, or the amount of an incr or a decr.
     CallNumber,
-    /// The unique that a get found.
+    /// The CAS value that a get found.
     FoundUnique,
     /// The number in a reply.
     ReplyNumber,

@@ -5,7 +5,7 @@ ghost use Rattle.zy_journal_reader.specs.Verdict.{journal_verdict, SpellsJournal
 ghost use Rattle.zy_read.specs.Bytes.{AreBytes};
 ghost use Rattle.zy_journal_reader.specs.Verdict.JournalVerdict.{Good};
 
-/// A text is a good journal exactly where it is the journal's spelling, the journal is within the
+/// A text is a good journal if and only if it is the journal's encoding, the journal is within the
 /// format's bounds, and the text has at most 2^63 - 1 bytes.
 pub fn a_journal_is_good_exactly_where_it_is_a_spelling()
     ensures exactly { (text : List ℕ) (journal : Journal) → AreBytes text

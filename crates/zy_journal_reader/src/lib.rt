@@ -1,4 +1,4 @@
-//! The reader of journals: fed byte by byte or in pieces, it gives the journal that was spelled.
+//! The reader of journals: fed byte by byte or in pieces, it gives the journal that was encoded.
 #![tactic(auto)]
 
 mod call_fields;

@@ -74,7 +74,7 @@ impl JournalReader {
         feed_piece(&mut self.reader, bytes)
     }
 
-    /// True exactly where the end was read and no fault was met.
+    /// True if and only if the end was read and no fault was met.
     #[tactic(auto, using(zy_read::proofs::Feeding::verdict_here))]
     pub fn is_done(&self) -> bool
         ensures value { AnswersBy journals self.now (λ b. is_good_journal (journal_verdict b))

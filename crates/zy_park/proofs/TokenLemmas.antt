@@ -4,6 +4,7 @@ use Rattle.std.proofs.Common.{◌≡◌, ℕ, zero, suc, ◌+◌, true, false, L
 use mathlib.Core.Option.{some, some-injective, some-ne-none}
 use lib.ListN.{get_elem?}
 use Rattle.crossbeam_utils.specs.Register.{Admits, Turns, TurnsAt}
+use Rattle.zy_control.specs.Pass.{Held}
 use Rattle.zy_park.specs.declared.view.View.{View}
 use Rattle.zy_park.specs.Token.{unrung, rings, takes, puts, takes_from, rung_in, taken_in, TokenRule}
 
@@ -33,5 +34,5 @@ enters x vs h = let a = rung_end vs unrung in let b = taken_end vs unrung in ome
 pub rings_kept : (id : ℕ) (v : View) → Turns TokenRule id v (λ _. true) puts
 rings_kept id v x vs h at = let a = rung_set vs id v (rings v) at in let b = taken_set vs id v (rings v) at in (rings v, omega arith, refl)
 
-pub takes_kept : (steps : Option ℕ) (id : ℕ) (v : View) → TurnsAt TokenRule id v true false (takes_from steps)
-takes_kept steps id v vs h at = let w = takes steps v in let a = rung_set vs id v w at in let b = taken_set vs id v w at in (w, omega arith, refl)
+pub takes_kept : (lent : Option Held) (id : ℕ) (v : View) → TurnsAt TokenRule id v true false (takes_from lent)
+takes_kept lent id v vs h at = let w = takes lent v in let a = rung_set vs id v w at in let b = taken_set vs id v w at in (w, omega arith, refl)

@@ -3,6 +3,7 @@ use Rattle.std.specs.Prelude.{◌≡◌, ℕ, zero, suc, ◌+◌, ◌<◌, ◌==
 use Rattle.std.specs.Prelude.{Option, Some, slice_get, if◌then◌else◌}
 use Rattle.std.specs.Int.{bit_at}
 use Rattle.atomic_table.specs.Seated.{TableId}
+use Rattle.zy_control.specs.Pass.{Held}
 use Rattle.zy_park.specs.declared.view.View.{View}
 use Rattle.zy_park.specs.Token.{unrung, rings, takes}
 
@@ -60,10 +61,9 @@ ringing core p = passed p.bells p.core (change_at rings core p.views)
 abbrev pub ringing_from : ℕ → Rooted → Rooted
 ringing_from core r = rooted r.bells r.given (change_at rings core r.views)
 
--- the token of the pass's core was taken; before that rest the core had made `steps` steps on the control words, if the
--- rest was given its pass on them
-abbrev pub resting : Option ℕ → Passed → Passed
-resting steps p = passed p.bells p.core (change_at (takes steps) p.core p.views)
+-- the token of the pass's core was taken, in a rest that was given this pass on the control words, or none
+abbrev pub resting : Option Held → Passed → Passed
+resting lent p = passed p.bells p.core (change_at (takes lent) p.core p.views)
 
 -- the views from this core on, after the token of each core was put whose bit is 1 in the word
 abbrev pub rung_by : ℕ → ℕ → List View → List View

@@ -31,17 +31,18 @@ impl Outcome<bool, View> for Rings {
     ghost then = { puts };
 }
 
-// How many steps a core that rests has made on the control words, if its rest is given its pass.
-pub(crate) trait Numbered {
-    ghost use Rattle.std.specs.Prelude.{ℕ, Option};
+// The pass on the control words that a rest is given, if it is given one.
+pub(crate) trait Lent {
+    ghost use Rattle.std.specs.Prelude.{Option};
+    ghost use Rattle.zy_control.specs.Pass.{Held};
 
-    ghost number: { Option ℕ };
+    ghost lent: { Option Held };
 }
 
-impl Numbered for Brand {
+impl Lent for Brand {
     ghost use Rattle.std.specs.Prelude.{None};
 
-    ghost number = { None };
+    ghost lent = { None };
 }
 
 // The token was taken.
@@ -49,10 +50,10 @@ struct Takes<J> {
     marker: PhantomData<J>,
 }
 
-impl<J: Numbered> Outcome<bool, View> for Takes<J> {
+impl<J: Lent> Outcome<bool, View> for Takes<J> {
     ghost use Rattle.zy_park.specs.Token.{takes_from};
 
-    ghost then = { takes_from J.number };
+    ghost then = { takes_from J.lent };
 }
 
 // The end that puts the token. Contracts see which table the token is in.
@@ -137,9 +138,9 @@ impl Bell {
 
 impl Sleeper {
     // Waits until the token is there, and takes it.
-    pub(crate) fn rest<J: Numbered, R: Wait>(&self, rt: &R, seat: &mut BellSeat)
+    pub(crate) fn rest<J: Lent, R: Wait>(&self, rt: &R, seat: &mut BellSeat)
         requires table { seat.old.table ≡ self.now }
-        ensures value { seat.new ≡ seated seat.old.table (takes J.number seat.old.view) }
+        ensures value { seat.new ≡ seated seat.old.table (takes J.lent seat.old.view) }
     {
         self.parker.park_as::<Takes<J>, R>(rt, &mut seat.pass);
     }

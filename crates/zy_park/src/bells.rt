@@ -5,7 +5,7 @@ ghost use Rattle.zy_park.specs.Pass.{new_root, rooted, IsFree, GaveNone, new_pas
 mod making;
 mod ringing;
 
-use crate::bell::{Bell, Numbered};
+use crate::bell::{Bell, Lent};
 use crate::bells::making::{add_all, enter_each, take_sleeper};
 use crate::bells::ringing::{rest_at, ring_at, ring_each_at};
 use crate::pass::{BellPass, BellRoot};
@@ -117,26 +117,20 @@ impl Bells {
         self.rest_as::<Brand, R>(rt, pass, None);
     }
 
-    /// As `rest`, by a core that has this pass on the control words. For contracts the bell pass keeps
-    /// how many steps that pass has made, which is left as it is: so they can say which of its steps
-    /// on the control words the core made before it rested, and which after that.
+    /// As `rest`, by a core that has this pass on the control words, which is left as it is. For
+    /// contracts the bell pass keeps it: so they can say whose pass it was, what the core had announced
+    /// by it when it rested, and which of its steps on the control words came before that.
     pub fn rest_by<R: Wait>(&self, rt: &R, pass: &mut BellPass, control: &ControlPass)
         requires bells { pass.old.bells ≡ self.now }
-        ensures value { pass.new ≡ resting (Some control.now.trace.steps) pass.old }
+        ensures value { pass.new ≡ resting (Some control.now) pass.old }
     {
         self.rest_as::<Brand, R>(rt, pass, Some(control));
     }
 
-    // The same, where the type has the number of steps of the pass on the control words. That pass is
-    // lent for contracts alone.
-    fn rest_as<J: Numbered, R: Wait>(
-        &self,
-        rt: &R,
-        pass: &mut BellPass,
-        _control: Option<&ControlPass>,
-    )
+    // The same, where the type names the pass on the control words, which is lent for contracts alone.
+    fn rest_as<J: Lent, R: Wait>(&self, rt: &R, pass: &mut BellPass, _control: Option<&ControlPass>)
         requires bells { pass.old.bells ≡ self.now }
-        ensures value { pass.new ≡ resting J.number pass.old }
+        ensures value { pass.new ≡ resting J.lent pass.old }
     {
         rest_at::<J, R>(rt, &pass.sleeper, &mut pass.seats, pass.core);
     }

@@ -1,11 +1,12 @@
 //! What a seat at a core's token knows. No value of this type is made.
+use zy_control::ControlPass;
 
 /// How many times the seat put the token, how many times it took the token, whether the token was
-/// there after the last of these steps, and how many steps the core had made on the control words by
-/// its last rest, if that rest was given the core's pass on them.
+/// there after the last of these steps, and the pass on the control words that the last rest was
+/// given, if it was given one.
 pub struct View {
     pub rung: u64,
     pub taken: u64,
     pub token: bool,
-    pub rested_at: Option<u64>,
+    pub lent: Option<ControlPass>,
 }

@@ -19,7 +19,7 @@ pub record Flow : Type 0 where
   pub key : List ℕ
   pub sessions : List Session
 
--- the flow of each connection number, where it was given to one
+-- the flow of each connection number, if it was given to one
 abbrev pub Flows : Type 0
 Flows = List (Option Flow)
 
@@ -89,13 +89,13 @@ put_at xs place x =
 abbrev pub grown_flow : List Session → Packet → Flow
 grown_flow sessions packet = record { key = packet.flow; sessions = with_packet sessions packet }
 
--- the flows with a further packet, whose flow has this number
+-- the flows with another packet, whose flow has this number
 abbrev pub joined_at : Slot → Flows → Packet → Flows
 joined_at (Known number) flows packet = put_at flows number (grown_flow (sessions_in (flow_at flows number)) packet)
 joined_at (New number) flows packet = put_at flows number (grown_flow [] packet)
 joined_at Full flows packet = flows
 
--- the flows with a further packet
+-- the flows with another packet
 abbrev pub flows_with : Flows → Packet → Flows
 flows_with flows packet = joined_at (slot_of (flow_keys flows) packet.flow) flows packet
 

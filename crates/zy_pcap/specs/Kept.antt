@@ -83,7 +83,7 @@ MeetsAs {K} {S} keeps fault next old new (Err NoMemory) = (s : S) → keeps old 
 abbrev pub session_fault : Packet → ℕ → Session → Option PcapFault
 session_fault packet at session = if reaches session.first packet then Some (FlowLength at) else None
 
--- a session with one further packet
+-- a session with one more packet
 abbrev pub session_next : Packet → Session → Session
 session_next packet session = record session { packets = session.packets ++ packet ∷ [] }
 

@@ -44,7 +44,7 @@ capture_of streams = spelling 2 (length streams) (records_from 0 streams)
 abbrev pub pcap_capture : List Packet → List ℕ
 pcap_capture packets = capture_of (streams_of_flows (flows_of packets))
 
--- the verdict on it, where it is good: its version, the number of connections, and the records of their streams
+-- the verdict on it, if it is good: its version, the number of connections, and the records of their streams
 abbrev pub pcap_verdict : List Packet → Verdict
 pcap_verdict packets =
     Good 2 (length (streams_of_flows (flows_of packets))) (records_from 0 (streams_of_flows (flows_of packets)))

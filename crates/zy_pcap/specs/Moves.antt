@@ -46,7 +46,7 @@ abbrev pub KeepsField : Due → List ℕ → List ℕ → ℕ → Type 0
 KeepsField (Dues.Frame others) field frame room = (field ≡ []) × (length frame ≤ others + 1) × (others + 1 ≤ room)
 KeepsField due field frame room = (length field < due_width due) × (frame ≡ [])
 
--- the same, where this fault was met or none; after one no byte is kept
+-- the same, if this fault was met or none; after one no byte is kept
 abbrev pub KeepsFieldBy : Option PcapFault → Due → List ℕ → List ℕ → ℕ → Type 0
 KeepsFieldBy None due field frame room = KeepsField due field frame room
 KeepsFieldBy (Some fault) due field frame room = (field ≡ []) × (frame ≡ [])

@@ -14,7 +14,7 @@ pub record Session : Type 0 where
 abbrev pub session_begun_by : Packet → Session
 session_begun_by packet = record { first = packet; packets = packet ∷ [] }
 
--- a SYN packet begins a new session where the current one began without SYN, or with another sequence number
+-- a SYN packet begins a new session if the current one began without SYN, or with another sequence number
 abbrev pub begins : Packet → Packet → Bool
 begins first packet = packet.is_syn && not (first.is_syn && (first.sequence == packet.sequence))
 
@@ -22,19 +22,19 @@ begins first packet = packet.is_syn && not (first.is_syn && (first.sequence == p
 abbrev pub current : List Session → Option Session
 current sessions = slice_get sessions (length sessions - 1)
 
--- the first packet of the session to which a packet goes, where this is the current one
+-- the first packet of the session to which a packet goes, if this is the current one
 abbrev pub first_by : Option Session → Packet → Packet
 first_by None packet = packet
 first_by (Some session) packet = if begins session.first packet then packet else session.first
 
--- the sessions with one further packet, where this is the current one
+-- the sessions with one more packet, if this is the current one
 abbrev pub sessions_by : Option Session → List Session → Packet → List Session
 sessions_by None sessions packet = sessions ++ session_begun_by packet ∷ []
 sessions_by (Some session) sessions packet =
     if begins session.first packet then sessions ++ session_begun_by packet ∷ []
     else slice_set sessions (length sessions - 1) (record session { packets = session.packets ++ packet ∷ [] })
 
--- the sessions of a flow with one further packet
+-- the sessions of a flow with one more packet
 abbrev pub with_packet : List Session → Packet → List Session
 with_packet sessions packet = sessions_by (current sessions) sessions packet
 

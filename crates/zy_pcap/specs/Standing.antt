@@ -30,15 +30,15 @@ IsAtPlace r p = (r.place ≡ without_packets p) × KeepsFlows r.kept (flows_of p
 unfoldable pub StandsForFile : PcapReading → List ℕ → Type 0
 StandsForFile r fed = IsAtPlace r (reading_of (recorded r.port) fed).last
 
--- whatever bytes led to the old reader, these further bytes lead to the new one
+-- whatever bytes led to the old reader, these more bytes lead to the new one
 abbrev pub FeedsFile : PcapReading → PcapReading → List ℕ → Type 0
 FeedsFile old new bytes = (b : List ℕ) → StandsForFile old b → StandsForFile new (b ++ bytes)
 
--- after these further bytes, this is the fault that was met
+-- after these more bytes, this is the fault that was met
 abbrev pub Meets : PcapReading → List ℕ → Option PcapFault → Type 0
 Meets old bytes fault = (b : List ℕ) → StandsForFile old b → file_fault_met old.port (b ++ bytes) ≡ fault
 
--- after these further bytes, this is the fault of every longer file
+-- after these more bytes, this is the fault of every longer file
 abbrev pub Lasts : PcapReading → List ℕ → PcapFault → Type 0
 Lasts old bytes fault =
     (b more : List ℕ) → StandsForFile old b → packets old.port (b ++ (bytes ++ more)) ≡ Bad fault

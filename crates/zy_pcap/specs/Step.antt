@@ -20,7 +20,7 @@ abbrev pub with_packets : FilePlace → List Packet → Place FileState PcapFaul
 with_packets p packets =
     record { state = record { records = p.state; packets = packets }; seen = p.seen; at = p.at; fault = p.fault }
 
--- whatever packets were before, these further bytes lead to the new place
+-- whatever packets were before, these more bytes lead to the new place
 abbrev pub FeedsRecords : FilePlace → FilePlace → List ℕ → Type 0
 FeedsRecords old new bytes =
     (port : ℕ) (packets : List Packet)

@@ -29,7 +29,7 @@ segment_text conn bytes = spelled (Kinds.Segment (record { conn = conn; bytes = 
 unfoldable pub stream_text : ℕ → List ℕ → List ℕ
 stream_text conn bytes = flat_map spelled (session_records conn bytes)
 
--- a session of this number, after a close record where it is not the first one
+-- a session of this number, after a close record if it is not the first one
 abbrev pub text_of_session : ℕ → ℕ → List ℕ → List ℕ
 text_of_session conn zero bytes = stream_text conn bytes
 text_of_session conn (suc number) bytes = close_text conn ++ stream_text conn bytes

@@ -32,7 +32,7 @@ impl Chunk {
         }
     }
 
-    // Bytes are there from a place on, where there was none before.
+    // Bytes are there from a place on, if there was none before.
     pub(crate) fn fill(&mut self, from: usize, bytes: &[u8])
         requires within { from + length bytes.now ≤ 64 }
         ensures value { HoldsBoth (byte_in self.old) (byte_in self.new) (covered bytes.now from) }

@@ -27,7 +27,7 @@ impl KeptBytes {
         }
     }
 
-    // Bytes are there from an offset on, where there was none before. After a refusal all bytes are
+    // Bytes are there from an offset on, if there was none before. If allocation fails, all bytes are
     // as before.
     pub(crate) fn add(&mut self, from: u32, bytes: &[u8]) -> Result<(), NoMemory>
         requires within { from + length bytes.now ≤ 2 ^ 31 }
@@ -72,7 +72,7 @@ impl KeptBytes {
         }
     }
 
-    // Bytes are there from an offset on, where there was none before.
+    // Bytes are there from an offset on, if there was none before.
     fn fill(&mut self, from: u32, bytes: &[u8])
         requires within { from + length bytes.now ≤ 2 ^ 31 }
         requires room { HasChunks self.old.chunks (from / 64) ((from + length bytes.now + 63) / 64) }
@@ -88,7 +88,7 @@ impl KeptBytes {
         }
     }
 
-    // Bytes of one chunk are there from an offset on, where there was none before.
+    // Bytes of one chunk are there from an offset on, if there was none before.
     fn fill_chunk(&mut self, from: usize, bytes: &[u8])
         requires within { from < 2 ^ 31 }
         requires fits { from % 64 + length bytes.now ≤ 64 }

@@ -39,7 +39,7 @@ impl KeptStream {
         }
     }
 
-    // Bytes are there from an offset on, where there was none before. After a refusal all bytes are
+    // Bytes are there from an offset on, if there was none before. If allocation fails, all bytes are
     // as before.
     pub(crate) fn add(&mut self, from: u32, bytes: &[u8]) -> Result<(), NoMemory>
         requires within { from + length bytes.now ≤ 2 ^ 31 }
@@ -62,7 +62,7 @@ impl KeptStream {
         self.add_next(begin, bytes)
     }
 
-    // Bytes of which some come next after the first ones, where there are no others.
+    // Bytes of which some come next after the first ones, if there are no others.
     fn append(&mut self, from: usize, bytes: &[u8]) -> Result<(), NoMemory>
         requires next { from ≤ length self.old.front }
         requires some { length self.old.front < from + length bytes.now }
@@ -80,7 +80,7 @@ impl KeptStream {
         }
     }
 
-    // Bytes of which some come next after the first ones, where there may be others.
+    // Bytes of which some come next after the first ones, if there may be others.
     fn add_next(&mut self, from: usize, bytes: &[u8]) -> Result<(), NoMemory>
         requires next { from ≤ length self.old.front }
         requires some { length self.old.front < from + length bytes.now }
@@ -122,7 +122,7 @@ impl KeptStream {
         }
     }
 
-    // The bytes of one chunk, where there are any.
+    // The bytes of one chunk, if there are any.
     fn absorb_part(&mut self) -> bool
         ensures same { HoldsSame (byte_held self.old) (byte_held self.new) }
     {

@@ -12,7 +12,7 @@ ghost use Rattle.zy_pcap.specs.Packets.FoundPackets.{Packets};
 
 use zy_capture::a_capture_is_good_exactly_where_it_is_a_spelling;
 
-/// The capture of recorded packets is good, where it has bytes alone and is not too long: its count is
+/// The capture of recorded packets is good, if it has bytes only and is not too long: its count is
 /// that of the connections, at most 4,096, and its records are those of their streams.
 pub fn the_capture_of_packets_is_good()
     ensures good { (packets : List Packet) → AreBytes (pcap_capture packets)

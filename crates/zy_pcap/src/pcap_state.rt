@@ -18,7 +18,7 @@ pub(crate) struct PcapState {
 }
 
 impl PcapState {
-    // The same state, where this is the next field.
+    // The same state, if this is the next field.
     pub(crate) fn to(self, due: Due) -> PcapState
         ensures value { result ≡ then_due self due }
     {

@@ -20,7 +20,7 @@ const STREAM_END: u32 = 1 << 31;
 
 /// Writes the capture of the streams, in version 2. Takes no memory.
 ///
-/// `Failed` comes only where the sink's count of faults rose, or stands at its last value; then the
+/// `Failed` comes only if the sink's count of faults rose, or is at its maximum; then the
 /// sink has grown by a prefix of that text.
 pub fn write_flows<K: Sink>(sink: &mut K, flows: &Flows) -> Result<(), Failed>
     ensures writes { Writes K.holds K.faults K.finishes sink.old sink.new result (capture_of flows.now) }
@@ -74,7 +74,7 @@ fn write_sessions<K: Sink>(sink: &mut K, conn: u32, sessions: &[KeptSession]) ->
     Ok(())
 }
 
-// The records of a session, after a close record where it is not the first one.
+// The records of a session, after a close record if it is not the first one.
 fn write_session<K: Sink>(
     sink: &mut K,
     conn: u32,

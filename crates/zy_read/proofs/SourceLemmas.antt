@@ -31,3 +31,11 @@ piece_on piece left at end count is few rising within =
     let size : length left ≡ end - at = ap length is ∙ length-take-le (end - at) (drop at piece) (let dropped = length-drop at piece in omega arith) in
     let all : end - at ≡ count + (end - (at + count)) = omega arith in
     sym (ap (λ (l : List ℕ). drop count l) is ∙ ap (λ (n : ℕ). drop count (take n (drop at piece))) all ∙ drop-take count (end - (at + count)) (drop at piece) ∙ ap (λ (l : List ℕ). take (end - (at + count)) l) (drop-drop count at piece))
+
+-- a part of what is left of a piece, in a copy of the piece
+pub part_of_left : (copy piece left : List ℕ) (at end from to : ℕ) → copy ≡ take end piece → take (end - at) (drop at piece) ≡ left → at ≤ end → take (at + to - (at + from)) (drop (at + from) copy) ≡ take (to - from) (drop from left)
+part_of_left copy piece left at end from to same is rising =
+    let size : at + to - (at + from) ≡ to - from = omega arith in
+    let all : end ≡ at + (end - at) = omega arith in
+    let rest : drop at copy ≡ left = ap (λ (l : List ℕ). drop at l) same ∙ ap (λ (n : ℕ). drop at (take n piece)) all ∙ drop-take at (end - at) piece ∙ is in
+    ap (λ (n : ℕ). take n (drop (at + from) copy)) size ∙ ap (λ (l : List ℕ). take (to - from) l) (sym (drop-drop from at copy) ∙ ap (λ (l : List ℕ). drop from l) rest)

@@ -9,7 +9,7 @@ use crate::not_taken::NotTaken;
 
 /// A reader of the texts of a format.
 pub trait Reads {
-    /// The record that bytes end.
+    /// What the reader yields: the record that a byte ends.
     type Gives: Drop;
 
     /// A fault of a text.

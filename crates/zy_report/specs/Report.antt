@@ -50,7 +50,7 @@ line_text name counts =
     right 3 name ++ (count_text counts.gets ++ (count_text counts.sets ++ (count_text counts.hits
     ++ (count_text counts.misses ++ (count_text counts.items ++ codes "\n")))))
 
--- the line of a shard; none where each count is 0
+-- the line of a shard; none if each count is 0
 abbrev pub shard_text : ℕ → Tallied → List ℕ
 shard_text shard counts = if counts_nothing counts then [] else line_text (decimal shard) counts
 

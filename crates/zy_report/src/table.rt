@@ -43,7 +43,7 @@ fn append_shards(text: &mut Blob, counts: &[Tallied]) -> Result<(), NoMemory>
     Ok(())
 }
 
-// Appends the line of a shard, where a count is not 0.
+// Appends the line of a shard, if a count is not 0.
 fn append_shard(text: &mut Blob, shard: u64, counts: Tallied) -> Result<(), NoMemory>
     ensures ok { OnOk result (text.new ≡ text.old ++ shard_text shard counts) }
 {
@@ -65,7 +65,7 @@ fn counts_nothing(counts: Tallied) -> bool
         && counts.items == 0
 }
 
-// The sums; `None` where one of them does not fit in 64 bits.
+// The sums; `None` if one of them does not fit in 64 bits.
 fn sums(counts: &[Tallied]) -> Option<Tallied>
     ensures value { IfSome result (λ all. all ≡ sums counts.now) }
 {

@@ -65,7 +65,7 @@ fn add<'j>(alloc: Global, tallies: &mut Vec<Tally<'j>>, entry: &'j Entry) -> Res
     tallies[shard].add(entry)
 }
 
-// Makes the tallies up to that of a shard, where they are not there.
+// Makes the tallies up to that of a shard, if they are not there.
 fn make_up_to<'j>(alloc: Global, tallies: &mut Vec<Tally<'j>>, shard: usize) -> Result<(), NoMemory>
     requires within { shard < 2 ^ 32 }
     ensures size { OnOk result (length tallies.new.items ≡ max (length tallies.old.items) (shard + 1)) }

@@ -1,4 +1,4 @@
--- Connections that are apart: no key is called by two of them, and no reply shows or compares a unique.
+-- Connections that are apart: no key is called by two of them, and no reply shows or compares a CAS value.
 use Rattle.std.specs.Prelude.{◌≡◌, ℕ, ◌<◌, List, All}
 use Rattle.std.specs.List.{Contains}
 use Rattle.mc_parse.specs.declared.command.Command.{Command}
@@ -9,7 +9,7 @@ use Rattle.zy_run.specs.Commands.{commands_over}
 abbrev pub commands_of_all : (ℕ → List (List ℕ)) → ℕ → List Command
 commands_of_all streams conn = commands_over (streams conn)
 
--- the commands of the first `count` connections are apart
+-- the commands of the first `count` connections share no keys
 pub record AreApart (count : ℕ) (commands : ℕ → List Command) : Type 0 where
   -- no command is `gets`, `cas`, `flush_all` or `stats`, `mg` with `c` or `ms` with `C`
   pub plain : (conn : ℕ) → conn < count → All IsPlain (commands conn)

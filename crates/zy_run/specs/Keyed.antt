@@ -12,13 +12,13 @@ use Rattle.mc_parse.specs.Plain.{IsDueOwn}
 abbrev pub IsEntryOwn : ℕ → ℕ → (ℕ → List (List ℕ)) → Entry → Type 0
 IsEntryOwn shards count keys e = IsDueOwn shards count keys (due_of e)
 
--- at each of these keys, a store and a single shard have the same, apart from uniques
+-- at each of these keys, a store and a single shard have the same, apart from CAS values
 abbrev pub AgreeAtKeys : ℕ → List (List ℕ) → (ℕ → State) → State → Type 0
 AgreeAtKeys shards keys states single =
     (key : List ℕ) → Contains keys key → seen_at key (states (shard_of key shards)) ≡ seen_at key single
 
 -- the entries of expected calls that are made one after another on one shard, without shards,
--- uniques and stamps
+-- CAS values and stamps
 abbrev pub told_by : State → List Due → List Entry
 told_by single [] = []
 told_by single (due ∷ dues) =

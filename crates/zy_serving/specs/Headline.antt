@@ -31,7 +31,7 @@ abbrev pub front : Out → Journal → List ℕ
 front Replies journal = []
 front Both journal = journal_bytes journal
 
--- what is written of a run: the journal if it is asked for, and the replies
+-- what is written of a run: the journal if it is requested, and the replies
 abbrev pub written : Out → Journal → AllOutputs → List ℕ
 written out journal outputs = front out journal ++ replies_bytes outputs
 
@@ -43,16 +43,16 @@ pub record IsServed (asked : Run) (bytes : List ℕ) (journal : Journal) (output
   pub records : List Record
   -- the bytes are a capture, with these records
   pub capture : verdict bytes ≡ Good version count records
-  -- and they are the spelling of these
+  -- and they are the encoding of these
   pub spelled : Spells bytes version count records
-  -- the entries are one legal run of its commands: each is carried out once, in the order of
+  -- the entries are one legal run of its commands: each is executed once, in the order of
   -- arrival, none after quit, and none is left
   pub run : IsRun asked.shards journal.entries count (commands_in records)
   -- the entries are in the order of their stamps
   pub order : IsOrdered None journal.entries
   -- the holds add up to the commands of each connection
   pub holds : Spans journal.holds count (commands_in records)
-  -- each is by one of the cores that were asked for, and is of 1 to 64 commands
+  -- each is by one of the requested cores, and is of 1 to 64 commands
   pub held : AllByRecursion (IsHoldBy asked.cores) journal.holds
   -- the outputs are exactly each session's replies in that order
   pub replies : outputs ≡ outputs_of_records version count records journal.entries

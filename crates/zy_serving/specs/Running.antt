@@ -24,7 +24,7 @@ abbrev pub AreStations : TableId → ℕ → List Station → Type 0
 AreStations store count stations =
     (core : ℕ) (s : Station) → slice_get stations core ≡ Some s → IsStation store (length stations) count core s
 
--- the cores that were asked for can be driven, and taken apart again
+-- the requested cores can be driven, and taken apart again
 pub record IsPrepared (asked : Run) (p : Running) : Type 0 where
   pub connections : p.header.count ≤ connection_limit
   pub cores : AreCores p.shared (identities p.cores)

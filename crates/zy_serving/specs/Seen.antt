@@ -3,7 +3,7 @@ use Rattle.std.specs.Prelude.{◌≡◌, ℕ, List, [], Option, None, Some, ⊤}
 use Rattle.zy_base.specs.Outside.{Rose, Grew, GrewByPrefix}
 use Rattle.zy_read.specs.Bytes.{ReadsAll}
 
--- a source or a sink, before a call and after it: the bytes that the source has left, or the sink holds, where it
+-- a source or a sink, before a call and after it: the bytes that the source has left, or the sink holds, if it
 -- reports them, and the count of its faults
 pub record Side : Type 0 where
   pub before : Option (List ℕ)

@@ -160,8 +160,8 @@ fn drive_threads<R: Threads + Wait + Sync, F: Feeder, G: Gate + Sync>(
     driven
 }
 
-// Who drives the first group. The caller does if each processor has a thread of the run, so that none is
-// left for a feeder that stays apart, and no core rests.
+// Who drives the first group. The caller does if there are as many threads as processors, so that none is
+// left for a feeder on a thread of its own, and no core rests.
 fn first_group<R: Threads>(rt: &R, run: Run) -> FirstGroup
     ensures caller { result ≡ FirstGroup.Caller
         → (1 < run.threads) × (idle_turns_before_rest run.threads run.cores run.rest ≡ 0) }

@@ -23,7 +23,7 @@ use zy_command_line::Run;
 use zy_feed::{Intake, Stop};
 use zy_finish::{Finished, Taken, finish, take};
 
-/// Serves a capture on the cores that are asked for: reads it to its end, carries out its commands, and
+/// Serves a capture on the requested cores: reads it to its end, executes its commands, and
 /// puts together what that leaves. The call may wait.
 pub fn serve_capture<R: Threads + Wait + Sync, S: Source, G: Gate + Sync>(
     rt: &R,

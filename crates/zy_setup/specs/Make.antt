@@ -30,7 +30,7 @@ pub record IsConnection (store : TableId) (cores conn : ℕ) (block : Blocked) (
   pub ring_is : inlet.ring ≡ block.work.ring
   pub unused : IsUnused inlet
 
--- one further connection
+-- one more connection
 pub record HasOneMore (block : Blocked) (inlet : EventInlet) (own own' : OwnConnections) : Type 0 where
   pub places_are : own'.places ≡ own.places + 1
   pub blocks_are : own'.blocks ≡ own.blocks ++ block ∷ []
@@ -51,7 +51,7 @@ pub record AreOwns (store : TableId) (cores conn : ℕ) (owns : List OwnConnecti
 
 -- ---- passes
 
--- the passes of a core, with one further pass on the ring of another core
+-- the passes of a core, with one more pass on the ring of another core
 abbrev pub with_further_pass : ℕ → Held Blocked → ℕ → PassList Blocked → PassList Blocked
 with_further_pass core pass other passes =
     if other == core then passes else pass_list passes.core (passes.items ++ pass ∷ [])

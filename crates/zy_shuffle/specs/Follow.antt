@@ -32,7 +32,7 @@ pub record Follows {T M : Type 0} (words : List ℕ) (m head tail : ℕ) (holder
   pub run : Runs 0 no_requests events owners
   pub places : (p : ℕ) → p < m → Agrees (holders p) (owners.places p)
   pub queue : owners.queue ≡ queue_of words m head (tail - head)
-  -- a connection is idle exactly where the home keeps no mark for it, as it was never published
+  -- a connection is idle if and only if the home keeps no mark for it, as it was never published
   pub unmarked : (p : ℕ) → p < m → (owners.places p ≡ idle) ↔ (marks p ≡ None)
   -- one that is not idle has one unfinished request
   pub due : (p : ℕ) → p < m → owners.places p ≢ idle → owners.finished p + 1 ≡ owners.arrived p

@@ -44,7 +44,7 @@ queued c s = record (moved c ready s) { queue = s.queue ++ c ∷ [] }
 abbrev pub with_requests : ℕ → ℕ → Owners → Owners
 with_requests c count s = record s { arrived = put s.arrived c (s.arrived c + count) }
 
--- one further request of the connection was finished
+-- one more request of the connection was finished
 abbrev pub with_finished : ℕ → Owners → Owners
 with_finished c s = record s { finished = put s.finished c (s.finished c + 1) }
 
@@ -66,7 +66,7 @@ happens home s (Settle c) t = (s.places c ≡ held home)
 
 -- each connection is in one place, by these rules
 pub record IsSound (s : Owners) : Type 0 where
-  -- a connection is ready exactly where it is in the queue
+  -- a connection is ready if and only if it is in the queue
   pub queued : (c : ℕ) → (s.places c ≡ ready) ↔ (is_in c s.queue ≡ true)
   -- no connection is in the queue twice
   pub once : IsDistinct s.queue

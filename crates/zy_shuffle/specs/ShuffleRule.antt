@@ -68,9 +68,9 @@ module _ {T M : Type 0} (mark : T → M) (label : T → Name) where
   -- the rule of one place
   pub record PlaceRule (words : List ℕ) (homes : List (Option (std.Option T))) (head tail : ℕ)
       (marks : ℕ → std.Option M) (name : Name) (place : ℕ) (holder : Holder) : Type 0 where
-    -- its slot is at home exactly where the place is in the queue or at its doorbell
+    -- its slot is at home if and only if the place is in the queue or at its doorbell
     pub lies : Lies homes marks name place holder
-    -- its doorbell bit is 1 exactly where the place was given back
+    -- its doorbell bit is 1 if and only if the place was given back
     pub rings : bell_at words (length homes) place ≡ bell holder
     -- a place in the queue is in its cell
     pub queued : InQueue words head tail (length homes) place holder

@@ -1,7 +1,7 @@
-//! The parts of blocks and rings that are for contracts alone.
+//! The parts of blocks and rings that are for contracts only.
 use std::marker::Brand;
 
-/// The parts of a block that are for contracts alone.
+/// The parts of a block that are for contracts only.
 pub trait Marked {
     ghost use Rattle.zy_table.specs.declared.name.Name.{Name};
 
@@ -15,7 +15,7 @@ pub trait Marked {
     ghost label: { Self → Name };
 }
 
-/// The state of a connection before its home publishes it, for contracts alone. The caller names it
+/// The state of a connection before its home publishes it, for contracts only. The caller names it
 /// by a marker type, which does not exist at run time.
 pub trait Publishing {
     ghost use Rattle.zy_shuffle.specs.Run.{Before};
@@ -41,7 +41,7 @@ impl Publishing for WasHeld {
     ghost before = { was_held };
 }
 
-/// The label that the maker of a ring names, for contracts alone. It is named by a marker type,
+/// The label that the maker of a ring names, for contracts only. It is named by a marker type,
 /// which does not exist at run time.
 pub trait Label {
     ghost use Rattle.zy_table.specs.declared.name.Name.{Name};

@@ -13,7 +13,7 @@ pub enum Look {
     Raced { saw: u64, found: u64 },
 }
 
-/// The look at each of at most 64 cores, where there was one. It takes no memory.
+/// The look at each of at most 64 cores, if there was one. It takes no memory.
 #[derive(Drop)]
 pub struct Looks {
     looks: [Option<Look>; 64],

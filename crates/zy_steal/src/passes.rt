@@ -39,7 +39,7 @@ impl<T: Marked> Passes<T> {
         }
     }
 
-    /// Appends the pass on the ring of the next other core; after a refusal it is handed back.
+    /// Appends the pass on the ring of the next other core; if allocation fails, it is handed back.
     pub fn push(&mut self, pass: CorePass<T>) -> Result<(), (CorePass<T>, NoMemory)>
         ensures ok { OnOk result (self.new ≡ pass_list self.old.core (self.old.items ++ pass ∷ [])) }
         ensures err { OnErr result (self.new ≡ self.old) }

@@ -37,7 +37,7 @@ impl<T: Marked> Rings<T> {
         }
     }
 
-    /// Appends the ring of the next core; after a refusal it is handed back.
+    /// Appends the ring of the next core; if allocation fails, it is handed back.
     pub fn push(&mut self, ring: Ring<T>) -> Result<(), (Ring<T>, NoMemory)>
         ensures ok { OnOk result (self.new ≡ self.old ++ ring ∷ []) }
         ensures err { OnErr result (self.new ≡ self.old) }

@@ -42,7 +42,7 @@ fn key_text(alloc: Global, number: u64) -> Result<Blob, NoMemory> {
     }
 }
 
-/// Makes a call where the shard is young enough, and lets go of its reply.
+/// Makes a call if the shard is young enough, and lets go of its reply.
 pub(crate) fn apply(shard: &mut Shard, index: u64, call: Call) -> Result<(), NoMemory> {
     if shard.last() >= 1 << 60 || shard.history().len() >= 1 << 52 {
         drop(call);

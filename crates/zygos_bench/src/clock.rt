@@ -16,11 +16,3 @@ pub(crate) fn since<R: Clock>(rt: &R, start: Instant) -> u64 {
         Err(_) => 0,
     }
 }
-
-/// The time since some start, in nanoseconds.
-pub(crate) fn monotonic<R: Clock>(rt: &R) -> u64 {
-    match rt.monotonic() {
-        Ok(time) => u64::try_from(time.as_nanos()).unwrap_or(u64::MAX),
-        Err(_) => u64::MAX,
-    }
-}

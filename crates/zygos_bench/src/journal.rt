@@ -14,22 +14,32 @@ use std::time::CpuClock;
 use zy_base::{Holds, NoMemory};
 use zy_journal::{Journal, merge, write_journal};
 
-/// 1 merges the histories of `shards` shards, with `entries` entries together; 2 writes a journal
-/// of `entries` entries; any other number reads a journal from the input.
+/// What is done with journals.
+#[derive(Clone, Copy)]
+pub(crate) enum Part {
+    /// The histories of several shards are merged.
+    Merge,
+    /// A journal is written.
+    Write,
+    /// A journal is read from the input.
+    Read,
+}
+
+/// Times this part: merging has `entries` entries of `shards` shards together, and writing `entries` entries.
 pub(crate) fn measured<R: CpuClock, I: Read>(
     rt: &R,
     alloc: Global,
     input: &mut I,
-    which: u64,
+    part: Part,
     entries: u64,
     shards: u64,
 ) -> Result<Done, NoMemory> {
     let entries = entries.min(1 << 32);
     let shards = shards.max(1).min(256) as u32;
-    match which {
-        1 => merging(rt, alloc, entries, shards),
-        2 => writing(rt, alloc, entries),
-        _ => reading::measured(rt, alloc, input),
+    match part {
+        Part::Merge => merging(rt, alloc, entries, shards),
+        Part::Write => writing(rt, alloc, entries),
+        Part::Read => reading::measured(rt, alloc, input),
     }
 }
 

@@ -10,24 +10,31 @@ use std::thread::Threads;
 use std::time::{Clock, Instant};
 use zy_base::NoMemory;
 
-// A run: on the ring or on the queue under a lock.
+/// The queue that is timed.
+#[derive(Clone, Copy, Drop)]
+pub(crate) enum Queue {
+    Ring,
+    Lock,
+}
+
+// A run on a queue.
 #[derive(Clone, Copy, Drop)]
 struct Run {
-    ring: bool,
+    queue: Queue,
     thieves: u64,
     rounds: u64,
 }
 
-/// `rounds` rounds with `thieves` thieves, on the ring if the first number is 0.
+/// Times `rounds` rounds with `thieves` thieves.
 pub(crate) fn measured<R: Threads + Wait + Clock + Sync>(
     rt: &R,
     alloc: Global,
-    which: u64,
+    queue: Queue,
     thieves: u64,
     rounds: u64,
 ) -> Result<Done, NoMemory> {
     let run = Run {
-        ring: which == 0,
+        queue,
         thieves,
         rounds,
     };
@@ -44,10 +51,10 @@ pub(crate) fn measured<R: Threads + Wait + Clock + Sync>(
 // Carries the run out.
 fn work<R: Threads + Wait + Sync>(rt: &R, alloc: Global, run: &Run) -> Result<(), NoMemory> {
     let rounds = run.rounds.min(1 << 40);
-    match (run.ring, run.thieves) {
-        (true, 0) => ringed::alone(alloc, rounds),
-        (true, thieves) => ringed::robbed(rt, alloc, thieves, rounds),
-        (false, 0) => locked::alone(rt, alloc, rounds),
-        (false, thieves) => locked::robbed(rt, alloc, thieves, rounds),
+    match (run.queue, run.thieves) {
+        (Queue::Ring, 0) => ringed::alone(alloc, rounds),
+        (Queue::Ring, thieves) => ringed::robbed(rt, alloc, thieves, rounds),
+        (Queue::Lock, 0) => locked::alone(rt, alloc, rounds),
+        (Queue::Lock, thieves) => locked::robbed(rt, alloc, thieves, rounds),
     }
 }

@@ -32,8 +32,8 @@ pub record IsInputOfRun (shards : ℕ) (bytes : List ℕ) : Type 0 where
   pub of_replies : SpellsReplies replies_text outputs.version (items_of outputs)
   pub run : AreOfRun shards count records journal outputs
 
--- what was asked for was written of a served run, and the verdict on the capture with the run's journal and replies
--- behind it is yes
+-- what was requested was written of a served run, and the verdict on the capture with the run's journal and replies
+-- after it is yes
 pub record IsCertified (asked : Run) (out : Out) (bytes : List ℕ) (journal : Journal) (sink : Side) : Type 0 where
   pub outputs : AllOutputs
   pub wrote : WasWritten sink (written out journal outputs)

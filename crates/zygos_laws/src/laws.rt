@@ -23,7 +23,7 @@ ghost use Rattle.zygos_run.specs.declared.answer.Answer.TheVariants as Answers;
 ghost use Rattle.zygos_run.specs.Served.{HeadlineHolds};
 ghost use Rattle.zygos_laws.specs.Certified.{IsInputOfRun, IsCertified};
 
-/// The headline says of a run that was asked for, and of no other command, that it was served of all bytes
+/// The headline says of a run that was requested, and of no other command, that it was served of all bytes
 /// that the source reported, and that all of it was written.
 pub fn the_headline_is_of_a_run()
     ensures run { (request : Option Request) (call : Seen) (journal : Journal)
@@ -42,7 +42,7 @@ pub fn a_served_run_has_short_files()
         → length (replies_bytes outputs) < replies_limit }
 {}
 
-/// A capture that was served, with the text of the run's journal and the replies file behind it, is
+/// A capture that was served, with the text of the run's journal and the replies file after it, is
 /// an input of `check`, and the verdict on it is yes.
 pub fn what_is_served_checks()
     ensures checks { (asked : Run) (bytes : List ℕ) (journal : Journal) (outputs : AllOutputs)

@@ -10,7 +10,7 @@ use Rattle.zygos_run.specs.Task.{Task, task_of, input_of}
 
 -- ---- what was carried out
 
--- the words are lawful, and this is so of the task of their command
+-- the words are valid, and this is so of the task of their command
 abbrev pub OfTask : Option Request → (Task → Type 0) → Type 0
 OfTask request Holds = IsSomeAnd request (λ asked. Holds (task_of asked))
 
@@ -28,7 +28,7 @@ CarriesOut request answer Of Writes =
 
 -- ---- the answers, one by one
 
--- the answers of a command that was carried out
+-- the answers of a command that was executed
 abbrev pub IsSuccess : Answer → Type 0
 IsSuccess (Served journal) = ⊤
 IsSuccess (Checked verdict) = ⊤
@@ -36,19 +36,19 @@ IsSuccess Made = ⊤
 IsSuccess (Tested journal numbers) = ⊤
 IsSuccess answer = ⊥
 
--- the command that has this answer was asked for and carried out on the bytes that the source gave, if it reads any,
+-- the command that has this answer was requested and executed on the bytes that the source gave, if it reads any,
 -- and all of its text was written
 abbrev pub DoneHolds : Option Request → Seen → Answer → Type 0
 DoneHolds request call answer = CarriesOut request answer (OfGiven call.source) (WasWritten call.sink)
 
--- what was asked for was done of bytes that the source gave, if it reads any, and a prefix of what is expected was
+-- what was requested was done of bytes that the source gave, if it reads any, and a prefix of what is expected was
 -- written
 abbrev pub HasPart : Option Request → Seen → Type 0
 HasPart request call =
     OfTask request (λ task. (found : task.Found)
     × OfInput task.reads (OfGiven call.source) (λ bytes. task.Does bytes found (TakesPart call.sink)))
 
--- the request reads an input that may have this fault, and the bytes have it where they are reported
+-- the request reads an input that may have this fault, and the bytes have it if they are reported
 abbrev pub IsFaultOf : Option Request → Option (List ℕ) → Refusal → Type 0
 IsFaultOf request reported refusal =
     IsSomeAnd (input_of request) (λ input. IsRefusedFor input reported refusal)
@@ -57,7 +57,7 @@ IsFaultOf request reported refusal =
 abbrev pub ReadsInput : Option Request → Type 0
 ReadsInput request = IsSome (input_of request)
 
--- the request reads nothing: the words are not lawful, or they ask for traffic, or for a test run
+-- the request reads nothing: the words are invalid, or they ask for traffic, or for a test run
 abbrev pub ReadsNothing : Option Request → Type 0
 ReadsNothing request = IsNone (input_of request)
 

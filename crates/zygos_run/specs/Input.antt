@@ -31,7 +31,7 @@ HasInputFault (PacketsInput port) (Pcap fault) bytes = Recorded.packets port byt
 HasInputFault JournalInput (Journal fault) bytes = Journals.journal_verdict bytes ≡ Journals.JournalVerdict.Bad fault
 HasInputFault input refusal bytes = ⊥
 
--- such an input is refused for this fault: it may have it, and the bytes have it where they are reported
+-- such an input is refused for this fault: it may have it, and the bytes have it if they are reported
 abbrev pub IsRefusedFor : Input → Option (List ℕ) → Refusal → Type 0
 IsRefusedFor input reported refusal =
     MayHaveFault input refusal × IfSome reported (λ bytes. HasInputFault input refusal bytes)

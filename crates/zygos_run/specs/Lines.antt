@@ -51,7 +51,7 @@ fault_text (Truncated at) = codes "zygos: capture: truncated at "
 fault_text (Trailing at) = codes "zygos: capture: trailing at "
 fault_text TooLong = codes "zygos: capture: too-long\n"
 
--- what is between its two numbers, where it has two
+-- what is between its two numbers, if it has two
 abbrev pub fault_middle : CaptureFault → List ℕ
 fault_middle (BadTag at byte) = codes " byte "
 fault_middle fault = codes " number "
@@ -116,7 +116,7 @@ refusal_line (Pcap fault) = line_with pcap_text (pcap_number fault)
 
 -- ---- the line on standard error
 
--- the line of an answer that is not a refusal; none after a command that was carried out
+-- the line of an answer that is not a refusal; none after a command that was executed
 abbrev pub plain_line : Answer → List ℕ
 plain_line Usage = codes "zygos: usage: zygos run|check|gen|self|pcap|report [options]\n"
 plain_line ReadFault = codes "zygos: reading failed\n"

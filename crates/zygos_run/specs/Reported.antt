@@ -9,6 +9,6 @@ use Rattle.zy_report.specs.Report.{report_of}
 pub record IsReported (bytes : List ℕ) (Holds : List ℕ → Type 0) : Type 0 where
   pub journal : Journal
   pub good : journal_verdict bytes ≡ Good journal
-  -- the bytes are its spelling
+  -- the bytes are its encoding
   pub spelled : SpellsJournal bytes journal
   pub table : Holds (report_of journal.entries)

@@ -11,7 +11,7 @@ use Rattle.zygos_run.specs.Ends.{OfTask, CarriesOut}
 
 -- ---- bytes that are reported
 
--- the command that has this answer was asked for and carried out on all bytes that the source reported, if it reads any,
+-- the command that has this answer was requested and executed on all bytes that the source reported, if it reads any,
 -- and all of its text was written: of `run`, by the first row of `task_of`, `IsWritten` of these bytes
 abbrev pub HeadlineHolds : Option Request → Seen → Answer → Type 0
 HeadlineHolds request call answer = CarriesOut request answer (OfTold call.source) (WasWritten call.sink)
@@ -28,7 +28,7 @@ abbrev pub IsToldGood : Option Request → Option (List ℕ) → Type 0
 IsToldGood request reported =
     OfTask request (λ task. IfSome task.reads (λ input. IsSomeAnd reported (λ bytes. IsFaultless input bytes)))
 
--- the answer is that of the command that was carried out
+-- the answer is that of the command that was executed
 abbrev pub IsDone : Option Request → Answer → Type 0
 IsDone request answer = OfTask request (λ task. IsSome (task.found_in answer))
 
@@ -40,6 +40,6 @@ IsDoneOr request answer = IsDone request answer ⊎ (answer ≡ OutOfMemory)
 abbrev pub IsRefusedOr : Refusal → Answer → Type 0
 IsRefusedOr refusal answer = (answer ≡ Refused refusal) ⊎ (answer ≡ OutOfMemory)
 
--- the answer is that the words are not lawful, unless memory ran out
+-- the answer is that the words are invalid, unless memory ran out
 abbrev pub IsUsageOr : Answer → Type 0
 IsUsageOr answer = (answer ≡ Usage) ⊎ (answer ≡ OutOfMemory)

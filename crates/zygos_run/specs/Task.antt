@@ -90,7 +90,7 @@ task_of Report = record {
   Does = λ bytes found Writes. IsReported bytes Writes;
 }
 
--- what is read, if the words are lawful and their command reads anything
+-- what is read, if the words are valid and their command reads anything
 abbrev pub input_of : Option Request → Option Input
 input_of None = None
 input_of (Some request) = (task_of request).reads

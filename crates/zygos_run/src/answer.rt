@@ -10,7 +10,7 @@ use zy_run::Summary;
 /// How the top call ended.
 #[derive(Drop)]
 pub enum Answer {
-    /// `run`: the capture was read to its end, its commands were carried out, and all was written.
+    /// `run`: the capture was read to its end, its commands were executed, and all was written.
     /// The journal has every call on the store with its reply, and for each hold its core, its
     /// connection and the number of commands finished in it.
     Served(Journal),
@@ -20,7 +20,7 @@ pub enum Answer {
     Made,
     /// `self`: the capture was made, served and checked, and the line of these numbers was written.
     Tested(Journal, Summary),
-    /// The words are not lawful. Nothing was read or written.
+    /// The words are invalid. Nothing was read or written.
     Usage,
     /// The input has this fault. Nothing was written.
     Refused(Refusal),

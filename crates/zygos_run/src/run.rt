@@ -25,7 +25,7 @@ use zy_input::Refusal;
 use zy_journal::{Journal, write_journal};
 use zy_serving::serve_capture;
 
-/// Serves a capture, and writes the replies, and the journal where it is asked for.
+/// Serves a capture, and writes the replies, and the journal if it is requested.
 pub(crate) fn run_capture<R: Threads + Wait + Sync, S: Source, K: Sink, G: Gate + Sync>(
     rt: &R,
     alloc: Global,
@@ -54,7 +54,7 @@ pub(crate) fn run_capture<R: Threads + Wait + Sync, S: Source, K: Sink, G: Gate 
     }
 }
 
-// Writes the journal where it is asked for, and the replies, and finishes. Takes no memory.
+// Writes the journal if it is requested, and the replies, and finishes. Takes no memory.
 fn write_all<K: Sink>(sink: &mut K, out: Out, done: &Finished) -> Result<(), Failed>
     requires outputs { AreOutputs done.now.outputs }
     requires journal { IsJournal done.now.journal }

@@ -108,7 +108,7 @@ fn fault_text(fault: CaptureFault) -> &'static [u8]
     }
 }
 
-// What is between the two numbers of a line, where it has two.
+// What is between the two numbers of a line, if it has two.
 fn fault_middle(fault: CaptureFault) -> &'static [u8]
     ensures value { result.now ≡ fault_middle fault }
 {

@@ -23,8 +23,8 @@ use zy_input::{parts_have_no_fault, there_is_one_part_fault};
 /// Carries out the command that the words ask for.
 ///
 /// `words` are the words after the program's name. `run` reads a capture from `source` to its end,
-/// carries out its commands on the cores that the words ask for, and writes the replies file of all
-/// sessions to `sink`, with `--out both` behind the journal. `check` reads a capture, a journal and a
+/// executes its commands on the cores that the words ask for, and writes the replies file of all
+/// sessions to `sink`, with `--out both` after the journal. `check` reads a capture, a journal and a
 /// replies file, and writes a line with the verdict on them. `gen` writes the capture of generated
 /// traffic. `self` makes that capture, serves it, checks what came, and writes a line with its
 /// numbers: that the check says yes is proved. `pcap` reads recorded packets to the end of the source,
@@ -32,8 +32,8 @@ use zy_input::{parts_have_no_fault, there_is_one_part_fault};
 /// and writes a table of what its entries count, by shard. The sink is finished once, after the last write.
 ///
 /// A line on an answer that is no success goes to `says`; a fault there changes nothing. `gate` is
-/// passed once for each command, when it is begun. Want of memory is free, and comes only before the
-/// first byte is written.
+/// passed once for each command, when it begins. The answer may always be `OutOfMemory`, but only before
+/// the first byte is written.
 pub fn serve<R: Threads + Wait + Sync, S: Source, K: Sink, E: Sink, G: Gate + Sync>(
     rt: &R,
     alloc: Global,

@@ -1,14 +1,15 @@
-//! The first items of a bucket, in a row with fingerprints.
-ghost use Rattle.std.specs.Prelude.{◌≡◌, ◌↔◌, ◌<◌, [], ◌∷◌, ◌++◌, List, ℕ, length, None, Some, IfSome, IfNone, OnOk, OnErr, option_copied, true};
+//! The first items of a bucket or of a part, in a row with fingerprints.
+ghost use Rattle.std.specs.Prelude.{◌≡◌, ◌↔◌, ◌<◌, [], ◌∷◌, ◌++◌, List, ℕ, length, None, Some, IfSome, IfNone, IfErr, OnOk, OnErr, option_copied, true};
 ghost use Rattle.std.specs.List.{remove};
 ghost use Rattle.mc_shard.specs.Buckets.{item_in, IsFirstAt, IsWith, SameItems};
 
+use super::parts::Parts;
 use crate::hashed::Hashed;
 use std::alloc::Global;
 use std::collections::BTreeMap;
 use std::marker::Model;
 use std::mem;
-use zy_base::{Item, NoMemory};
+use zy_base::Item;
 
 // The most items that are kept in a row.
 const FEW: usize = 16;
@@ -88,11 +89,12 @@ impl Row {
         mem::replace(&mut self.entries[at].1, item)
     }
 
-    /// Puts an item after the others.
-    pub(crate) fn push(&mut self, key: Hashed, item: Item) -> Result<(), NoMemory>
+    /// Puts an item after the others. After a refusal key and item are handed back.
+    pub(crate) fn push(&mut self, key: Hashed, item: Item) -> Result<(), (Hashed, Item)>
         requires room { length self.old < 16 }
         ensures ok { OnOk result (self.new ≡ self.old ++ (key, item) ∷ []) }
         ensures err { OnErr result (self.new ≡ self.old) }
+        ensures back { IfErr result (λ back. back ≡ (key, item)) }
     {
         let at = self.entries.len();
         let fingerprint = key.fingerprint();
@@ -101,15 +103,28 @@ impl Row {
                 self.fingerprints[at] = fingerprint;
                 Ok(())
             }
-            Err(back) => {
-                drop(back);
-                Err(NoMemory)
+            Err(back) => Err(back.value),
+        }
+    }
+
+    /// Moves the last item into parts, if there is one and memory for it.
+    pub(crate) fn move_to_parts(&mut self, parts: &mut Parts)
+        ensures same { SameItems (self.old ++ parts.old) (self.new ++ parts.new) }
+    {
+        let Some((key, item)) = self.entries.pop() else {
+            return;
+        };
+        match parts.insert(key, item) {
+            Ok(before) => {
+                drop(before);
+                give_room(&mut self.entries);
             }
+            Err(back) => self.entries.push_reserved(back),
         }
     }
 
     /// Moves the last item into a tree, if there is one and memory for it.
-    pub(crate) fn move_one(&mut self, tree: &mut BTreeMap<Hashed, Item>)
+    pub(crate) fn move_to_tree(&mut self, tree: &mut BTreeMap<Hashed, Item>)
         ensures same { SameItems (self.old ++ tree.old.entries) (self.new ++ tree.new.entries) }
     {
         let Some((key, item)) = self.entries.pop() else {

@@ -1,6 +1,6 @@
 //! A segment that bytes hold whole, taken at once.
-ghost use Rattle.std.specs.Prelude.{◌≡◌, ◌≢◌, ◌<◌, ◌≤◌, length, take, get_or, IfSome, IfOk, OnErr, Ok, Err};
-ghost use Rattle.std.specs.Prelude.{None};
+ghost use Rattle.std.specs.Prelude.{◌≡◌, ◌≢◌, ◌+◌, ◌<◌, ◌≤◌, length, take, drop, get_or, IfSome, IfOk, OnErr};
+ghost use Rattle.std.specs.Prelude.{Ok, Err, None};
 ghost use Rattle.zy_read.specs.Standing.{given_in, Feeds, TellsFault, TellsLasting};
 ghost use Rattle.zy_read.specs.declared.not_taken.NotTaken.TheVariants as Answers;
 ghost use Rattle.zy_capture.specs.Standing.{IsLengthEnd};
@@ -15,7 +15,7 @@ use crate::record::{Record, Segment};
 use crate::whole::{Head, held_segment};
 use std::alloc::Global;
 use zy_base::{Blob, NoMemory};
-use zy_read::Fed;
+use zy_read::{Fed, Pieces};
 
 // The bytes of a segment before its own.
 const FRONT: usize = HEAD + 1;
@@ -40,10 +40,18 @@ impl Reader {
         Some(head)
     }
 
-    // Takes the segment that has this head. If memory for its bytes is refused, it takes those before the
-    // last one of its length.
-    pub(super) fn take_segment(&mut self, bytes: &[u8], head: Head) -> Fed<Record, CaptureFault>
+    // Takes the segment that has this head and these bytes. If memory for them was refused, it takes
+    // those before the last one of its length.
+    #[inline(always)]
+    pub(super) fn take_segment(
+        &mut self,
+        bytes: &[u8],
+        head: Head,
+        payload: Result<Blob, NoMemory>,
+    ) -> Fed<Record, CaptureFault>
         requires takes { TakesSegment self.old bytes.now head.conn head.size }
+        requires payload { IfOk payload (λ payload. payload ≡ take head.size (drop 9 bytes.now)) }
+        requires some { OnErr payload (0 < head.size) }
         ensures within { result.taken ≤ length bytes.now }
         ensures some { 0 < result.taken }
         ensures gives { result.answer ≢ Ok None }
@@ -55,12 +63,16 @@ impl Reader {
     {
         let Head { conn, size } = head;
         let end = FRONT + size as usize;
-        match copy_of(self.alloc, &bytes[FRONT..end]) {
-            Ok(bytes) => {
-                self.at += end as u64;
+        let at = self.at + end as u64;
+        match payload {
+            Ok(payload) => {
+                self.at = at;
                 Fed {
                     taken: end,
-                    answer: Ok(Some(Record::Segment(Segment { conn, bytes }))),
+                    answer: Ok(Some(Record::Segment(Segment {
+                        conn,
+                        bytes: payload,
+                    }))),
                 }
             }
             Err(_) => {
@@ -74,14 +86,31 @@ impl Reader {
     }
 }
 
-// A copy of the bytes of a segment. It is not refused if there are none.
-fn copy_of(alloc: Global, bytes: &[u8]) -> Result<Blob, NoMemory>
-    ensures value { IfOk result (λ copy. copy ≡ bytes.now) }
-    ensures some { OnErr result (0 < length bytes.now) }
+// A copy of the segment that has this size, and with which bytes begin. It is not refused if it is
+// empty.
+pub(super) fn copy_of(alloc: Global, bytes: &[u8], size: u32) -> Result<Blob, NoMemory>
+    requires within { 9 + size ≤ length bytes.now }
+    ensures value { IfOk result (λ payload. payload ≡ take size (drop 9 bytes.now)) }
+    ensures some { OnErr result (0 < size) }
 {
-    match Blob::copy_of(alloc, bytes) {
+    match Blob::copy_of(alloc, &bytes[FRONT..FRONT + size as usize]) {
         Ok(copy) => Ok(copy),
-        Err(_) if bytes.is_empty() => Ok(Blob::new(alloc)),
+        Err(_) if size == 0 => Ok(Blob::new(alloc)),
+        Err(_) => Err(NoMemory),
+    }
+}
+
+// The same with bytes that are shared with the piece, which stays.
+#[inline(always)]
+pub(super) fn part_of(alloc: Global, pieces: &mut Pieces, size: u32) -> Result<Blob, NoMemory>
+    requires within { 9 + size ≤ length pieces.old }
+    ensures value { IfOk result (λ payload. payload ≡ take size (drop 9 pieces.old)) }
+    ensures some { OnErr result (0 < size) }
+    ensures kept { pieces.new ≡ pieces.old }
+{
+    match pieces.part(FRONT, FRONT + size as usize) {
+        Ok(part) => Ok(part),
+        Err(_) if size == 0 => Ok(Blob::new(alloc)),
         Err(_) => Err(NoMemory),
     }
 }

@@ -18,7 +18,7 @@ use zy_calls::Batch;
 
 impl Work {
     /// Begins the next command if none is in progress, or says why it did not. It passes the gate. The
-    /// calls of the command are on so many shards.
+    /// calls of the command go to `shards` shards.
     pub(crate) fn begin<G: Gate>(
         &mut self,
         shards: u32,

@@ -21,7 +21,7 @@ use zy_steal::Looks;
 pub(crate) struct Group {
     cores: Vec<Core>,
     done: bool,
-    // The looks of their turns, which nobody reads.
+    // Scratch space for the looks of their turns.
     looks: Looks,
 }
 

@@ -6,17 +6,25 @@ use std::{hint, thread};
 // How many times it looks again at once.
 const LOOKS: u32 = 16;
 
-// How long it spins the first time after these, and the last time; it spins twice as long each time.
-// From then on it yields each time.
-const FIRST_SPIN: u32 = 64;
+// How long it spins each time after these, and how many times before it yields. A thread that yields
+// can lose its processor for a whole slice of time, also to a program of the lowest priority.
+const SPIN: u32 = 64;
 
-const LAST_SPIN: u32 = 512;
+const SPINS: u32 = 32;
 
-// How often in a row it found nothing, and how long it spins next.
+// How long it spins after a round that found a shard busy, and how many times before it yields, since
+// the thread that has the shard may need this processor to go on.
+const BUSY_SPIN: u32 = 16;
+
+const BUSY_SPINS: u32 = 8;
+
+// How often in a row it found nothing and looked at once, how often it spun since it last yielded or
+// found something, and how often it spun for a busy shard since it yielded for one or rested.
 #[derive(Drop)]
 pub(crate) struct Patience {
     looks: u32,
-    spin: u32,
+    spins: u32,
+    busy: u32,
 }
 
 impl Patience {
@@ -24,38 +32,55 @@ impl Patience {
     pub(crate) fn new() -> Patience {
         Patience {
             looks: 0,
-            spin: FIRST_SPIN,
+            spins: 0,
+            busy: 0,
         }
     }
 
     // Waits for a little after a round that found nothing, and longer the more often that was so in a
-    // row. After one that found a shard busy it yields at once, since the thread that has the shard may
-    // need this processor to go on.
+    // row. After one that found a shard busy it spins, and every ninth such time it yields. A thread that was
+    // just rung begins anew, so it is not the next one that yields.
     pub(crate) fn wait_after(&mut self, round: Round) {
         match round {
             Round::Idle => self.wait(),
             Round::Busy => {
                 self.begin_again();
-                thread::yield_now();
+                self.wait_for_shard();
             }
-            Round::Worked | Round::Rested => self.begin_again(),
+            Round::Worked => self.begin_again(),
+            Round::Rested => {
+                self.begin_again();
+                self.busy = 0;
+            }
         }
     }
 
     // Something was found.
     fn begin_again(&mut self) {
         self.looks = 0;
-        self.spin = FIRST_SPIN;
+        self.spins = 0;
     }
 
     // Nothing was found once more.
     fn wait(&mut self) {
         if self.looks < LOOKS {
             self.looks += 1;
-        } else if self.spin <= LAST_SPIN {
-            spin_for(self.spin);
-            self.spin *= 2;
+        } else if self.spins < SPINS {
+            self.spins += 1;
+            spin_for(SPIN);
         } else {
+            self.spins = 0;
+            thread::yield_now();
+        }
+    }
+
+    // A shard was found busy once more.
+    fn wait_for_shard(&mut self) {
+        if self.busy < BUSY_SPINS {
+            self.busy += 1;
+            spin_for(BUSY_SPIN);
+        } else {
+            self.busy = 0;
             thread::yield_now();
         }
     }

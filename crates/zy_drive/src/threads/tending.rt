@@ -36,7 +36,7 @@ pub(crate) enum How {
 // What the caller did before the cores that are with it may take turns.
 #[derive(Drop)]
 pub(crate) enum Next {
-    // It made a step of the feeder, or none where none was to be made, which came to this.
+    // The result of its step of the feeder, if one was needed.
     Made(Step),
     // It made a step, and the feeder is broken.
     Broken,

@@ -7,7 +7,7 @@ use super::fields::{flags, key, number, value};
 use std::alloc::Global;
 use zy_base::{Blob, CallKind, LAST_CALL_CODE, NoMemory};
 
-/// The fields of a call; 0 and empty where its kind has none.
+/// The fields of a call; 0 and empty if its kind has none.
 #[derive(Clone, Copy)]
 pub(crate) struct CallBytes<'a> {
     pub(crate) kind: CallKind,

@@ -43,7 +43,7 @@ pub(crate) fn contents(bytes: &[u8]) -> Option<(&[u8], &[u8])>
     rest.split_at_checked(size as usize)
 }
 
-// The bytes of a key, where there is one; else none.
+// The bytes of a key, if there is one; else none.
 pub(crate) fn key(has: bool, bytes: &[u8]) -> Option<(&[u8], &[u8])>
     ensures value { IfSome result (λ found.
         HasField key_text IsKey has bytes.now found.0.now found.1.now) }
@@ -58,7 +58,7 @@ pub(crate) fn key(has: bool, bytes: &[u8]) -> Option<(&[u8], &[u8])>
     rest.split_at_checked(usize::from(*size))
 }
 
-// Flags, where there are some; else 0.
+// Flags, if there are some; else 0.
 pub(crate) fn flags(has: bool, bytes: &[u8]) -> Option<(u32, &[u8])>
     ensures value { IfSome result (λ found.
         HasField (to_be_bytes w32) (λ n. n < 2 ^ 32) has bytes.now found.0 found.1.now) }
@@ -69,7 +69,7 @@ pub(crate) fn flags(has: bool, bytes: &[u8]) -> Option<(u32, &[u8])>
     four(bytes)
 }
 
-// A number, where there is one; else 0.
+// A number, if there is one; else 0.
 pub(crate) fn number(has: bool, bytes: &[u8]) -> Option<(u64, &[u8])>
     ensures value { IfSome result (λ found.
         HasField (to_be_bytes w64) (λ n. n < 2 ^ 64) has bytes.now found.0 found.1.now) }
@@ -80,7 +80,7 @@ pub(crate) fn number(has: bool, bytes: &[u8]) -> Option<(u64, &[u8])>
     eight(bytes)
 }
 
-// The bytes of a value, where there is one; else none.
+// The bytes of a value, if there is one; else none.
 pub(crate) fn value(has: bool, bytes: &[u8]) -> Option<(&[u8], &[u8])>
     ensures value { IfSome result (λ found.
         HasField value_text IsValue has bytes.now found.0.now found.1.now) }

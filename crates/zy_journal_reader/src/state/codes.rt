@@ -20,7 +20,7 @@ use zy_read::FileFeed;
 const MAGIC: &[u8; 8] = b"ZYGJRN1\n";
 
 impl JournalState {
-    // A lawful field of one byte.
+    // A valid field of one byte.
     #[tactic(auto, using(crate::proofs::PlacedLemmas::placed))]
     pub(super) fn take_byte(
         &mut self,

@@ -31,7 +31,7 @@ impl JournalState {
         }
     }
 
-    // A lawful number.
+    // A valid number.
     pub(super) fn take_long(
         &mut self,
         alloc: Global,

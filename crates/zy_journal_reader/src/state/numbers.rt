@@ -35,7 +35,7 @@ impl JournalState {
         }
     }
 
-    // A lawful number.
+    // A valid number.
     pub(super) fn take_number(
         &mut self,
         alloc: Global,

@@ -10,7 +10,7 @@ use std::alloc::Global;
 use zy_base::{Entry, Hold};
 
 impl JournalState {
-    // Takes lawful records one after another. Returns the number of their bytes.
+    // Takes valid records one after another. Returns the number of their bytes.
     #[tactic(auto, using(zy_read::proofs::OverLemmas::over_none))]
     pub(super) fn take_records(&mut self, alloc: Global, bytes: &[u8]) -> usize
         requires there { IsAtRecord self.old }
@@ -29,7 +29,7 @@ impl JournalState {
         }
     }
 
-    // Takes the record that the bytes begin with, where it is lawful. Returns its size, or 0; if
+    // Takes the record that the bytes begin with, if it is valid. Returns its size, or 0; if
     // memory for it was refused, 0.
     #[tactic(auto, using(zy_read::proofs::OverLemmas::over_none))]
     fn take_record(&mut self, alloc: Global, bytes: &[u8]) -> usize

@@ -5,7 +5,7 @@ ghost use Rattle.zy_park.specs.Token.{rings, takes};
 ghost use Rattle.zy_park.specs.Pass.{change_at, rung_by};
 ghost use Rattle.zy_park.specs.Bell.{tables_of, views_of};
 
-use crate::bell::{Bell, BellSeat, Numbered, Sleeper};
+use crate::bell::{Bell, BellSeat, Lent, Sleeper};
 use std::sync::Wait;
 
 // Puts the token of one core.
@@ -42,7 +42,7 @@ fn is_set(word: u64, number: u32) -> bool
 }
 
 // Waits until the token of a core is there, and takes it.
-pub(crate) fn rest_at<J: Numbered, R: Wait>(
+pub(crate) fn rest_at<J: Lent, R: Wait>(
     rt: &R,
     sleeper: &Sleeper,
     seats: &mut Vec<BellSeat>,
@@ -50,7 +50,7 @@ pub(crate) fn rest_at<J: Numbered, R: Wait>(
 )
     requires own { slice_get (tables_of seats.old.items) core ≡ Some sleeper.now }
     ensures bells { tables_of seats.new.items ≡ tables_of seats.old.items }
-    ensures value { views_of seats.new.items ≡ change_at (takes J.number) core (views_of seats.old.items) }
+    ensures value { views_of seats.new.items ≡ change_at (takes J.lent) core (views_of seats.old.items) }
 {
     sleeper.rest::<J, R>(rt, &mut seats[core as usize]);
 }

@@ -1,5 +1,5 @@
 //! What a seat learns from each kind of step, and the event of the ownership machine that the step
-//! is. These types are for contracts alone: no value of them is made.
+//! is. These types are for contracts only: no value of them is made.
 ghost use Rattle.zy_shuffle.specs.View.{spent};
 ghost use Rattle.zy_shuffle.specs.Step.{saw_head, saw_tail, saw_cell, saw_bells, stored_cell};
 ghost use Rattle.zy_shuffle.specs.Step.{published, claimed, collected, fronted, gave};

@@ -79,7 +79,7 @@ impl<T: Marked> Ring<T> {
     }
 
     /// Puts the block of a place that this pass claimed back, and rings the place's doorbell. It
-    /// cannot fail. If the place is not the one that was claimed last, this takes one further load.
+    /// cannot fail. If the place is not the one that was claimed last, this takes one more load.
     pub fn give_back(&self, pass: &mut CorePass<T>, place: u32, block: T)
         requires within { pass.old.table ≡ self.now.id }
         requires hand { is_in place pass.old.hand ≡ true }

@@ -30,7 +30,7 @@ pub(crate) fn history(alloc: Global, shard: u32, count: u64) -> Result<Entries, 
     }
 }
 
-// Appends `count` entries of a shard, where there are none.
+// Appends `count` entries of a shard, if there are none.
 fn add_entries(alloc: Global, entries: &mut Entries, shard: u32, count: u64) -> Result<(), NoMemory>
     requires none { entries.old ≡ [] }
     requires shard { shard < 256 }
@@ -113,7 +113,7 @@ pub(crate) fn histories(alloc: Global, shards: u32, each: u64) -> Result<Histori
     }
 }
 
-// Appends them where there are none.
+// Appends them if there are none.
 fn add_histories(alloc: Global, all: &mut Histories, shards: u32, each: u64) -> Result<(), NoMemory>
     requires none { all.old ≡ [] }
     requires shards { shards ≤ 256 }

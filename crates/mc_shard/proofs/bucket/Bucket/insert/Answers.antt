@@ -9,13 +9,13 @@ replace-requires c = record { within = within_row c.self.inside.row c.args.key c
 
 pub returns-in-Some-clause-old : goal.returns-in-Some-clause-old
 returns-in-Some-clause-old c =
-    rw (← c.self.view_is) (sym (item_before c.self.inside.row c.self.inside.tree.entries c.args.key c.replace.result (c.replace.ensures.old c.args.key c.in-Some.ensures.some)))
+    rw (← c.self.view_is) (sym (item_before c.self.inside.row c.self.inside.parts c.args.key c.replace.result (c.replace.ensures.old c.args.key c.in-Some.ensures.some)))
 
 pub returns-in-Some-clause-ok : goal.returns-in-Some-clause-ok
 returns-in-Some-clause-ok c =
-    rw (← c.self.view_is) (row_changed c.self.inside.row c.replace.new.self c.self.inside.tree.entries c.args.key c.args.item (c.replace.ensures.value c.args.key c.in-Some.ensures.some))
+    rw (← c.self.view_is) (row_changed c.self.inside.row c.replace.new.self c.self.inside.parts c.args.key c.args.item (c.replace.ensures.value c.args.key c.in-Some.ensures.some))
 
 pub returns-in-None-clause-old : goal.returns-in-None-clause-old
 returns-in-None-clause-old c =
     rw (← c.self.view_is) (subst (λ (o : Option Item). IfOk c.add.result (λ old. old ≡ o))
-    (sym (item_after c.self.inside.row c.self.inside.tree.entries c.args.key c.in-None.ensures.none)) c.add.ensures.old)
+    (sym (item_after c.self.inside.row c.self.inside.parts c.args.key c.in-None.ensures.none)) c.add.ensures.old)

@@ -1,6 +1,8 @@
-use Rattle.std.proofs.Common.{ℕ, Option, Some, None, sym, subst}
+use Rattle.std.proofs.Common.{◌≡◌, ℕ, List, Option, Some, None, [], ◌∷◌, ◌++◌, sym, ◌∙◌, ap, subst}
 use Rattle.zy_check.specs.Begun.{Begun}
 use Rattle.zy_check.specs.Track.{StandsAtSession}
+use Rattle.mc_reply.specs.Text.{text}
+use Rattle.zy_check.specs.Answered.{has_bytes}
 use Rattle.zy_check.proofs.TrackLemmas.{finished}
 use Rattle.zy_check.proofs.track.Track.finish.Goals as goal
 
@@ -9,9 +11,11 @@ returns-clause-kept c made has =
     let g = c.args.files.now in
     let t = c.args.self.now in
     let b = c.in-Some.begun in
-    let h : StandsAtSession g c.args.conn t.session t.cursor (Some b) t.commands t.compared made = subst (λ (o : Option Begun). StandsAtSession g c.args.conn t.session t.cursor o t.commands t.compared made) c.in-Some.is has in
+    let h : StandsAtSession g c.args.conn t.session t.cursor (Some b) t.commands t.compared t.answered.items made = subst (λ (o : Option Begun). StandsAtSession g c.args.conn t.session t.cursor o t.commands t.compared t.answered.items made) c.in-Some.is has in
     let all = rw c.in-Some.is at c.requires.done in
     let adds = rw (c.output.ensures.value, c.bytes.ensures.value, c.in_ok-text.ensures.value) at c.add.ensures.added in
-    rw c.replace.ensures.after
-    (subst (λ (n : ℕ). StandsAtSession g c.args.conn t.session t.cursor None n c.add.new.self made) (sym c.in-Some-checked_add.ensures.1)
-    (finished g c.args.conn t.session t.cursor b t.commands t.compared made h all c.add.new.self adds))
+    let noted : c.note-noted.new.answered.items ≡ t.answered.items ++ has_bytes (text b.command b.replies) ∷ [] =
+    c.in_ok-noted.ensures.more ∙ ap (λ (l : List ℕ). t.answered.items ++ has_bytes l ∷ []) (c.bytes-2.ensures.value ∙ c.in_ok-text.ensures.value) in
+    rw (c.replace.ensures.after, noted)
+    (subst (λ (n : ℕ). StandsAtSession g c.args.conn t.session t.cursor None n c.add.new.self (t.answered.items ++ has_bytes (text b.command b.replies) ∷ []) made) (sym c.in-Some-checked_add.ensures.1)
+    (finished g c.args.conn t.session t.cursor b t.commands t.compared t.answered.items made h all c.add.new.self adds))

@@ -21,8 +21,8 @@ unreachable-requires-in-Some-2 g c =
     let read = c.loop.invariant.read in
     let later = c.in_ok-refill.ensures.value c.args.source.now [] read.0 read.1.1 in
     let has = rw c.if-not-branch.false at later in
-    let takes = rw c.in-Some-2.is at c.in_ok-feed.ensures.value in
-    record_absurd g.S.Source.rest g.S.Source.faults c.args.source.now c.refill.new.source c.refill.new.self c.feed.new.self read.0 c.in-Some-2.field-0 has
+    let takes = rw c.in-Some-2.is at c.in_ok-feed_one.ensures.value in
+    record_absurd g.S.Source.rest g.S.Source.faults c.args.source.now c.refill.new.source c.refill.new.self c.feed_one.new.self read.0 c.in-Some-2.field-0 has
     (c.in_default.ensures.none [] read.0 read.1.1.reader) takes
 
 pub unreachable-requires-2 : goal.unreachable-requires-2

@@ -2,4 +2,4 @@ use Rattle.std.specs.Prelude.{option_map}
 use Rattle.zy_park.proofs.bells.Bells.rest.Given as goal
 
 abbrev pub ghosts-rest_as : goal.ghosts-rest_as
-ghosts-rest_as g a = record { number = option_map (λ p. p.now.trace.steps) a._control }
+ghosts-rest_as g a = record { lent = option_map (λ p. p.now) a._control }

@@ -1,5 +1,0 @@
-use Rattle.zy_input.proofs.LawfulLemmas.{count_few}
-use Rattle.zy_input.proofs.capture_part.StreamsKeep.make.Goals as goal
-
-pub new-requires : goal.new-requires
-new-requires c = record { limit = count_few c.requires.known.0 c.args.number c.requires.known.1 c.requires.known.2 }

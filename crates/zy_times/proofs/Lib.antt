@@ -1,0 +1,12 @@
+pub mod FirstLemmas
+pub mod TrueLemmas
+pub mod RecordLemmas
+pub mod CountLemmas
+pub mod LineLemmas
+pub mod SessionLemmas
+pub mod EndLemmas
+pub mod SpanLemmas
+pub mod FitLemmas
+pub mod InTimeLemmas
+pub mod LateLemmas
+pub mod JudgeLemmas

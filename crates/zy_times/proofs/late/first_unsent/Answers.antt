@@ -1,0 +1,49 @@
+use Rattle.std.specs.List.{slice_get}
+use Rattle.std.proofs.Common.{◌≡◌, List, Some, sym, ◌∙◌, ap, subst, arith}
+use mathlib.Core.Logic.{dite}
+use native.Mathlib.Decide.{dec_lt}
+use Rattle.zy_base.specs.declared.entry.Entry.{Entry}
+use Rattle.zy_check.proofs.WalkLemmas.{left_first}
+use Rattle.zy_times.specs.InTime.{IsEntrySent}
+use Rattle.zy_times.proofs.late.first_unsent.Goals as goal
+
+pub sent_of-requires : goal.sent_of-requires
+sent_of-requires c =
+    let h = c.requires.holds in
+    let at = c.loop-at.at in
+    let first = left_first c.args.journal.now.entries at c.in-Some.entry.now c.next.new.self (sym c.loop-at.invariant.left ∙ c.in-Some.ensures.some) in
+    record { holds = (h.0, h.1, at, h.2, ap (λ (es : List Entry). slice_get es at) h.3 ∙ first.0) }
+
+pub returns-then-moment-sent_of : goal.returns-then-moment-sent_of
+returns-then-moment-sent_of c = record {
+  found = λ r count h is.
+      let at = c.loop-at.at in
+      let e = c.in-Some.entry.now in
+      let first = left_first c.args.journal.now.entries at e c.next.new.self (sym c.loop-at.invariant.left ∙ c.in-Some.ensures.some) in
+      let here : slice_get r.entries at ≡ Some e = ap (λ (es : List Entry). slice_get es at) is ∙ first.0 in
+      let low = c.if-moment-sent_of.true in
+      record {
+        e = e;
+        is = here;
+        unsent = λ sent. let no = (c.sent_of.ensures.from r count at h here c.args.moment).0 sent in omega (arith, no, low);
+        before = λ p other below there. c.loop-at.invariant.seen r count h is p other below there;
+      };
+}
+
+pub loop-at-preserved : goal.loop-at-preserved
+loop-at-preserved c =
+    let at = c.loop-at.at in
+    let e = c.in-Some.entry.now in
+    let first = left_first c.args.journal.now.entries at e c.next.new.self (sym c.loop-at.invariant.left ∙ c.in-Some.ensures.some) in record {
+      left = first.1;
+      within = first.2;
+      seen = λ r count h is p other below there. dite (dec_lt p at)
+          (λ low. c.loop-at.invariant.seen r count h is p other low there)
+          (λ high.
+          let here : slice_get r.entries at ≡ Some e = ap (λ (es : List Entry). slice_get es at) is ∙ first.0 in
+          let last : p ≡ at = omega arith in
+          let both : Some e ≡ Some other = sym here ∙ ap (slice_get r.entries) (sym last) ∙ there in
+          let same : e ≡ other = cc in
+          let not_before = c.if-moment-sent_of.false in
+          subst (λ (x : Entry). IsEntrySent r x c.args.moment) same ((c.sent_of.ensures.from r count at h here c.args.moment).1 (omega (arith, not_before))));
+    }

@@ -1,0 +1,40 @@
+-- What is kept of the records of a capture while it is read. No public clause cites this module but for `TimesHold`.
+use Rattle.std.specs.Prelude.{◌≡◌, ℕ, ◌+◌, ◌≤◌, List, length, take, Some}
+use Rattle.std.specs.List.{slice_get}
+use Rattle.zy_capture.specs.declared.record.Record.{Record}
+use Rattle.zy_capture.specs.declared.record.Record.TheVariants as Kinds
+use Rattle.zy_capture.specs.Streams.{closes, stream}
+use Rattle.zy_frame.specs.Progress.{StandsFor}
+use Rattle.zy_run.specs.Commands.{streams_in, commands_in}
+use Rattle.zy_run.specs.Output.{commands_before}
+use Rattle.zy_times.specs.declared.line.Line.{Line}
+use Rattle.zy_times.specs.declared.session.Session.{Session}
+use Rattle.zy_times.specs.declared.times.Times.{Times}
+use Rattle.zy_times.specs.First.{AreRises}
+use Rattle.zy_times.specs.Times.{marks_in}
+
+-- the connection of a record
+abbrev pub conn_of : Record → ℕ
+conn_of (Kinds.Segment s) = s.conn
+conn_of (Kinds.Close conn) = conn
+
+-- the first of a session's commands, and the moments of its marks
+pub record SessionHolds (records : List Record) (conn session : ℕ) (s : Session) : Type 0 where
+  pub first : s.first ≡ commands_before session (streams_in records conn)
+  pub marks : AreRises (λ moment. marks_in (take moment records) conn session) (length records) s.marks.items
+
+-- the sessions of a connection, the moments of its commands, and what its framer is in the middle of
+pub record LineHolds (records : List Record) (conn : ℕ) (line : Line) : Type 0 where
+  pub count : length line.sessions.items ≡ closes conn records + 1
+  pub framer : StandsFor line.framer (stream conn (closes conn records) records)
+  pub sent : AreRises (λ moment. length (commands_in (take moment records) conn)) (length records) line.sent.items
+  pub sessions : (session : ℕ) (s : Session) → slice_get line.sessions.items session ≡ Some s
+      → SessionHolds records conn session s
+
+-- these are the times of the records of `count` connections
+pub record TimesHold (times : Times) (count : ℕ) (records : List Record) : Type 0 where
+  pub count_is : length times.lines.items ≡ count
+  pub now : times.moment ≡ length records
+  pub each : (conn : ℕ) (line : Line) → slice_get times.lines.items conn ≡ Some line → LineHolds records conn line
+  -- no mark is of another connection
+  pub others : (conn session : ℕ) → count ≤ conn → marks_in records conn session ≡ 0

@@ -1,0 +1,79 @@
+-- What the times of a recording are found from. No public clause cites this module but for `IsRecorded`.
+use Rattle.std.specs.Prelude.{◌≡◌, ℕ, ◌<◌, ◌≤◌, Bool, List, length, Option, None, Some}
+use Rattle.std.specs.List.{slice_get}
+use Rattle.zy_base.specs.declared.entry.Entry.{Entry}
+use Rattle.zy_times.specs.declared.late.Late.{Late}
+use Rattle.zy_times.specs.declared.spans.Spans.{Spans}
+use Rattle.zy_times.specs.declared.times.Times.{Times}
+use Rattle.zy_times.specs.declared.timing.Timing.{Timing}
+use Rattle.zy_times.specs.declared.timing.Timing.TheVariants.{InTime}
+use Rattle.zy_times.specs.Times.{Recording, answered_in}
+use Rattle.zy_times.specs.InTime.{IsEntrySent, IsEntryEnded, AreOfCommands, AreLate, commands_of_all, EndedOfAll}
+use Rattle.zy_times.specs.Line.{TimesHold}
+use Rattle.zy_times.specs.Ending.{AreEnds}
+
+-- these are the times of a recording's records, and this is which of its commands are answered
+pub record IsKept (r : Recording) (count : ℕ) (times : Times) (answered : List (List Bool)) : Type 0 where
+  pub times_hold : TimesHold times count r.records
+  pub size : length answered ≡ count
+  pub flags : (conn : ℕ) (fs : List Bool) → slice_get answered conn ≡ Some fs → fs ≡ answered_in r conn
+
+-- each entry is of one of the commands of `count` connections
+pub record IsOfRun (r : Recording) (count : ℕ) : Type 0 where
+  pub connections : (p : ℕ) (e : Entry) → slice_get r.entries p ≡ Some e → e.tag.conn < count
+  pub commands : AreOfCommands r
+
+-- the same, and these are the times of the records
+pub record HasLines (r : Recording) (count : ℕ) (times : Times) : Type 0 where
+  pub times_hold : TimesHold times count r.records
+  pub of_run : IsOfRun r count
+
+-- all of these
+pub record IsRecorded (r : Recording) (count : ℕ) (times : Times) (answered : List (List Bool)) (entries : List Entry)
+    : Type 0 where
+  pub kept : IsKept r count times answered
+  pub of_run : IsOfRun r count
+  pub entries_are : r.entries ≡ entries
+
+-- for each command of `count` connections, the first moment at which it had ended, if it ever had
+pub record AreSpans (r : Recording) (count : ℕ) (spans : Spans) : Type 0 where
+  pub size : length spans.ends.items ≡ count
+  pub each : (conn : ℕ) (ends : _) → slice_get spans.ends.items conn ≡ Some ends → AreEnds r conn ends.items
+
+-- the numbers of commands, and of those that some mark ends
+abbrev pub HasNumbers : Recording → ℕ → Timing → Type 0
+HasNumbers r count (InTime commands ended) = (commands ≡ commands_of_all r count) × EndedOfAll r count ended
+HasNumbers r count timing = ⊥
+
+-- the command of an entry before this one was not sent at a moment
+abbrev pub HasUnsentBefore : Recording → ℕ → ℕ → Type 0
+HasUnsentBefore r at moment =
+    (p : ℕ) × (p < at) × ((e : Entry) × (slice_get r.entries p ≡ Some e) × (IsEntrySent r e moment → ⊥))
+
+-- the command of this entry had ended at this moment, which is the first, when that of an earlier one was not sent
+pub record IsLateAt (r : Recording) (at moment : ℕ) : Type 0 where
+  pub e : Entry
+  pub is : slice_get r.entries at ≡ Some e
+  pub ended : IsEntryEnded r e moment
+  pub first : (other : ℕ) → IsEntryEnded r e other → moment ≤ other
+  pub unsent : HasUnsentBefore r at moment
+  pub before : (p q : ℕ) → p < q → q < at → AreLate r p q → ⊥
+
+-- no entry is late, or this is the first that is
+abbrev pub FoundLate : Recording → Option Late → Type 0
+FoundLate r None = (p q : ℕ) → p < q → AreLate r p q → ⊥
+FoundLate r (Some late) = IsLateAt r late.entry late.moment
+
+-- this is the first entry whose command was not sent at a moment
+pub record IsFirstUnsent (r : Recording) (moment at : ℕ) : Type 0 where
+  pub e : Entry
+  pub is : slice_get r.entries at ≡ Some e
+  pub unsent : IsEntrySent r e moment → ⊥
+  pub before : (p : ℕ) (other : Entry) → p < at → slice_get r.entries p ≡ Some other → IsEntrySent r other moment
+
+-- what came before an entry, when it is looked at: no earlier one is late, and the command of each was sent at the
+-- latest moment, but of some one not before it
+pub record CameBefore (r : Recording) (at latest : ℕ) : Type 0 where
+  pub none : (p q : ℕ) → p < q → q < at → AreLate r p q → ⊥
+  pub sent : (p : ℕ) (e : Entry) → p < at → slice_get r.entries p ≡ Some e → IsEntrySent r e latest
+  pub unsent : (moment : ℕ) → moment < latest → HasUnsentBefore r at moment

@@ -1,0 +1,103 @@
+//! Entries whose commands had ended before that of an earlier entry was sent.
+ghost use Rattle.std.specs.Prelude.{◌≡◌, ◌↔◌, ◌<◌, ◌≤◌, max, ℕ, None, Some, IfOk};
+ghost use Rattle.std.specs.List.{slice_get};
+ghost use Rattle.zy_times.specs.Times.{Recording};
+ghost use Rattle.zy_times.specs.Ending.{IsEndedFrom};
+ghost use Rattle.zy_times.specs.InTime.{IsEntrySent};
+ghost use Rattle.zy_times.specs.Recorded.{IsOfRun, HasLines, AreSpans, FoundLate, IsFirstUnsent};
+
+use crate::spans::Spans;
+use crate::times::Times;
+use zy_base::{Entry, NoMemory};
+use zy_journal::Journal;
+
+/// An entry that is late, and the first moment at which its command had ended.
+#[derive(Clone, Copy)]
+pub(crate) struct Late {
+    pub(crate) entry: u64,
+    pub(crate) moment: u32,
+}
+
+// The first entry whose command had ended before the command of an earlier entry was sent, if there is one.
+pub(crate) fn first_late(
+    times: &Times,
+    spans: &Spans,
+    journal: &Journal,
+) -> Result<Option<Late>, NoMemory>
+    requires holds { (r : Recording) × (count : ℕ) × HasLines r count times.now × (r.entries ≡ journal.now.entries)
+        × AreSpans r count spans.now }
+    ensures found { IfOk result (λ found. (r : Recording) (count : ℕ) → HasLines r count times.now
+        → r.entries ≡ journal.now.entries → AreSpans r count spans.now → FoundLate r found) }
+{
+    let mut latest = 0u32;
+    let mut entries = journal.entries();
+    for at in 0..u64::MAX {
+        let Some(entry) = entries.next() else {
+            return Ok(None);
+        };
+        let end = end_of(spans, entry);
+        if let Some(moment) = end_before(end, latest) {
+            return Ok(Some(Late { entry: at, moment }));
+        }
+        latest = later_of(latest, sent_of(times, entry));
+    }
+    // There are more entries than 64 bits count.
+    Err(NoMemory)
+}
+
+// The first moment at which the command of an entry had ended, if it ever had.
+fn end_of(spans: &Spans, entry: &Entry) -> Option<u32>
+    requires holds { (r : Recording) × (count : ℕ) × (p : ℕ) × IsOfRun r count × AreSpans r count spans.now
+        × (slice_get r.entries p ≡ Some entry.now) }
+    ensures ends { (r : Recording) (count p : ℕ) → IsOfRun r count → AreSpans r count spans.now
+        → slice_get r.entries p ≡ Some entry.now → IsEndedFrom r entry.now.tag.conn entry.now.tag.index result }
+{
+    spans.ends[entry.tag.conn as usize][entry.tag.index as usize]
+}
+
+// An end that is before a moment.
+fn end_before(end: Option<u32>, latest: u32) -> Option<u32>
+    ensures some { (moment : ℕ) → result ≡ Some moment → (end ≡ Some moment) × (moment < latest) }
+    ensures none { result ≡ None → (moment : ℕ) → end ≡ Some moment → latest ≤ moment }
+{
+    match end {
+        Some(moment) => { if moment < latest { Some(moment) } else { None } }
+        None => None,
+    }
+}
+
+// The later of two moments.
+fn later_of(one: u32, other: u32) -> u32
+    ensures value { result ≡ max one other }
+{
+    if one < other { other } else { one }
+}
+
+// The moment with which the command of an entry was sent.
+fn sent_of(times: &Times, entry: &Entry) -> u32
+    requires holds { (r : Recording) × (count : ℕ) × (p : ℕ) × HasLines r count times.now
+        × (slice_get r.entries p ≡ Some entry.now) }
+    ensures from { (r : Recording) (count p : ℕ) → HasLines r count times.now
+        → slice_get r.entries p ≡ Some entry.now
+        → (moment : ℕ) → (IsEntrySent r entry.now moment ↔ (result ≤ moment)) }
+{
+    times.lines[entry.tag.conn as usize].sent[entry.tag.index as usize]
+}
+
+// The first entry whose command was not sent at a moment.
+pub(crate) fn first_unsent(times: &Times, journal: &Journal, moment: u32) -> Result<u64, NoMemory>
+    requires holds { (r : Recording) × (count : ℕ) × HasLines r count times.now × (r.entries ≡ journal.now.entries) }
+    ensures found { IfOk result (λ found. (r : Recording) (count : ℕ) → HasLines r count times.now
+        → r.entries ≡ journal.now.entries → IsFirstUnsent r moment found) }
+{
+    let mut entries = journal.entries();
+    for at in 0..u64::MAX {
+        let Some(entry) = entries.next() else {
+            return Err(NoMemory);
+        };
+        if moment < sent_of(times, entry) {
+            return Ok(at);
+        }
+    }
+    Err(NoMemory)
+}

@@ -1,6 +1,0 @@
-use Rattle.std.proofs.Common.{sym, ◌∙◌, subst}
-use Rattle.zy_core.specs.Cores.{EachFits}
-use Rattle.zygos_bench.proofs.tail.virtual_time.turns.take_turns.Goals as goal
-
-pub take_turn-requires-clause-fits : goal.take_turn-requires-clause-fits
-take_turn-requires-clause-fits g c = subst (EachFits c.args.shared.now) (sym c.loop.invariant) c.requires.fits

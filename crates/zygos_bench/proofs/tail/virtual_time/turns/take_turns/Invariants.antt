@@ -1,7 +1,0 @@
-use Rattle.std.proofs.Common.{◌≡◌}
-use Rattle.zy_core.specs.Cores.{identities}
-use Rattle.zygos_bench.proofs.tail.virtual_time.turns.take_turns.Given as goal
-
--- the cores are still the same
-abbrev pub invariant-loop : goal.invariant-loop
-invariant-loop g l = identities l.cores.items ≡ identities l.fn.cores.items

@@ -1,0 +1,46 @@
+//! Runs under load: requests come at the times of a Poisson process, and the cores serve them.
+ghost use Rattle.std.specs.Prelude.{◌≤◌};
+
+use crate::load::{Load, Shape};
+use crate::services::read_services;
+use crate::virtual_time::Prices;
+use crate::{driving, virtual_time};
+use std::alloc::Global;
+use std::io::Read;
+use std::sync::Wait;
+use std::thread::Threads;
+use std::time::Clock;
+use zy_base::NoMemory;
+
+/// Serves the requests of a load, and prints what came of them. Service times that are to be given come from the input.
+pub(crate) fn print_run<R: Threads + Wait + Clock + Print + Sync, I: Read>(
+    rt: &R,
+    alloc: Global,
+    load: Load,
+    input: &mut I,
+) -> Result<(), NoMemory> {
+    let cores = load.cores.max(1).min(8);
+    let services = services_of(alloc, load, input)?;
+    driving::run(rt, alloc, Load { cores, ..load }, services)
+}
+
+/// The same in virtual time: all cores on one thread, each with a clock of its own, which goes on by these prices.
+pub(crate) fn print_virtual_run<R: Clock + Print, I: Read>(
+    rt: &R,
+    alloc: Global,
+    load: Load,
+    prices: Prices,
+    input: &mut I,
+) -> Result<(), NoMemory> {
+    let cores = load.cores.max(1).min(64);
+    let services = services_of(alloc, load, input)?;
+    virtual_time::run(rt, alloc, Load { cores, ..load }, services, prices)
+}
+
+// The service times that are given; none if they are drawn by themselves.
+fn services_of<I: Read>(alloc: Global, load: Load, input: &mut I) -> Result<Vec<u64>, NoMemory> {
+    match load.shape {
+        Shape::Given => read_services(alloc, input),
+        _ => Ok(Vec::new(alloc)),
+    }
+}

@@ -1,0 +1,133 @@
+//! Serving a load in virtual time: all cores on the caller's thread, each with a clock of its own.
+ghost use Rattle.std.specs.Prelude.{◌≤◌};
+ghost use Rattle.zy_core.specs.Cores.{identities, AreCores};
+
+mod clocks;
+mod gate;
+mod parts;
+mod source;
+mod state;
+mod turns;
+
+use crate::load::Load;
+use crate::notes::Notes;
+use crate::ready::{Ready, make_ready};
+use crate::report::print_all;
+use crate::times::Times;
+pub(crate) use clocks::Waits;
+pub(crate) use parts::Parts;
+use state::{Run, Served};
+use std::alloc::Global;
+use std::time::Clock;
+use turns::take_turns;
+use zy_base::NoMemory;
+use zy_core::{Cores, Shared};
+use zy_feed::Inlets;
+
+/// What virtual time goes on by, and how many turns are measured and printed.
+#[derive(Clone, Copy)]
+pub(crate) struct Prices {
+    /// The nanoseconds that each thing costs which a turn does.
+    pub(crate) parts: Parts,
+    /// How long an idle core waits before it looks again.
+    pub(crate) waits: Waits,
+    /// The number of turns whose times are printed.
+    pub(crate) samples: u64,
+}
+
+/// Serves the requests of a load in virtual time, with the service times that were given, and prints what came of them.
+pub(crate) fn run<R: Clock + Print>(
+    rt: &R,
+    alloc: Global,
+    load: Load,
+    services: Vec<u64>,
+    prices: Prices,
+) -> Result<(), NoMemory>
+    requires cores { (1 ≤ load.cores) × (load.cores ≤ 64) }
+{
+    let notes = Notes::new(alloc, load, services)?;
+    let ran = run_noted(rt, alloc, load, &notes, prices);
+    drop(notes);
+    ran
+}
+
+// The same, with a place for what is noted.
+fn run_noted<R: Clock + Print>(
+    rt: &R,
+    alloc: Global,
+    load: Load,
+    notes: &Notes,
+    prices: Prices,
+) -> Result<(), NoMemory>
+    requires cores { (1 ≤ load.cores) × (load.cores ≤ 64) }
+{
+    let times = Times::new(alloc, load)?;
+    let ready = match make_ready(alloc, load) {
+        Ok(ready) => ready,
+        Err(e) => {
+            drop(times);
+            return Err(e);
+        }
+    };
+    let Ready {
+        cores,
+        shared,
+        inlets,
+        root,
+    } = ready;
+    let ran = serve(
+        rt, alloc, load, notes, cores, &shared, inlets, times, prices,
+    );
+    drop(shared);
+    drop(root);
+    ran
+}
+
+// Has the cores take their turns until all requests were executed, and prints what came of them.
+fn serve<R: Clock + Print>(
+    rt: &R,
+    alloc: Global,
+    load: Load,
+    notes: &Notes,
+    cores: Cores,
+    shared: &Shared,
+    inlets: Inlets,
+    times: Times,
+    prices: Prices,
+) -> Result<(), NoMemory>
+    requires cores { AreCores shared.now (identities cores) }
+{
+    let mut run = match Run::new(alloc, load, notes, inlets.into_vec(), times, prices) {
+        Ok(run) => run,
+        Err(e) => {
+            drop(cores);
+            return Err(e);
+        }
+    };
+    let mut items = cores.into_items();
+    let taken = take_turns(rt, &mut items, shared, &mut run);
+    let served = run.into_served();
+    let printed = match taken {
+        Ok(()) => print_served(rt, alloc, load, notes, &served, Cores::from_items(items)),
+        Err(e) => {
+            drop(items);
+            Err(e)
+        }
+    };
+    drop(served);
+    printed
+}
+
+// Prints what came of the requests, and what the turns did.
+fn print_served<R: Print>(
+    rt: &R,
+    alloc: Global,
+    load: Load,
+    notes: &Notes,
+    served: &Served,
+    cores: Cores,
+) -> Result<(), NoMemory> {
+    print_all(rt, alloc, load, notes, served.times(), cores)?;
+    served.print(rt);
+    Ok(())
+}

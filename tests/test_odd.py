@@ -1,0 +1,286 @@
+"""Tests that no input makes a tool end with a trace, or lose something in silence.
+
+Each case is an input and a tool. A tool may have a result, or one line that names the file and what is wrong with it;
+what is left of an input that is not whole must be said. Most tools are carried out in a process that is forked of this
+one, which takes little time.
+"""
+import contextlib
+import io
+import itertools
+import os
+import random
+import re
+import struct
+import subprocess
+import sys
+import tempfile
+import unittest
+from importlib import import_module
+
+import packets
+from checks import cases, fail, path_of, same, written
+from zygos_tools.cli import ends, screen
+from zygos_tools.files.formats import Call, Entry, Hold, Reply, capture, close, journal, replies, segment
+
+MODULES = {
+    "capture": "showing.capture", "show": "showing.show", "top": "showing.top", "picture": "showing.picture",
+    "part": "showing.part", "compare": "comparing.compare", "warm": "comparing.warm", "inline": "comparing.inline",
+    "judge": "judging.command", "play": "playing.play", "record": "recording.record",
+    "packets": "recording.packets.command",
+}
+MAINS = {tool: import_module(f"zygos_tools.{name}") for tool, name in MODULES.items()}
+ASKED = b"set a 0 0 1\r\nx\r\nget a\r\ngets b\r\nincr n 1\r\nmg a v f c\r\nms a 1\r\ny\r\n"
+TOLD = b"STORED\r\nVALUE a 0 1\r\nx\r\nEND\r\nEND\r\nNOT_FOUND\r\nVA 1 f0 c7\r\nx\r\nHD\r\n"
+CAPTURE = capture(2, [segment(0, ASKED), segment(1, b"get a\r\n")])
+LATER = capture(1, [segment(0, b"mn\r\n"), close(0), segment(0, b"get a\r\n")], 2)
+REPLIES = replies([TOLD, b"END\r\n"])
+JOURNAL = journal([Entry(1, 0, 0, 0, 0, Call("set", b"a", 0, value=b"x"), Reply("stored"))], [Hold(0, 0, 1)])
+PLACE = "127.0.0.1:1"
+
+
+# ---- tools in forked processes
+
+
+def forked(words, given=b"", environment=()):
+    """Carries out a tool with its words. Gives its status, and what it writes and says."""
+    with contextlib.ExitStack() as opened:
+        files = [opened.enter_context(tempfile.TemporaryFile()) for _ in range(3)]
+        files[0].write(given)
+        files[0].seek(0)
+        child = os.fork()
+        if not child:
+            carry_out(words, files, dict(environment))
+        status = os.waitstatus_to_exitcode(os.waitpid(child, 0)[1])
+        for file in files[1:]:
+            file.seek(0)
+        return status, files[1].read(), files[2].read().decode(errors="backslashreplace")
+
+
+def carry_out(words, files, environment):
+    """Is the tool, in a process of its own."""
+    try:
+        for number, file in enumerate(files):
+            os.dup2(file.fileno(), number)
+        os.environ.update(environment)
+        sys.argv = [path_of(words[0]), *words[1:]]
+        sys.stdin, sys.stderr = open(0, encoding="utf-8", closefd=False), open(2, "w", closefd=False)
+        sys.stdout = io.TextIOWrapper(open(1, "wb", closefd=False), encoding=environment.get("ENCODING", "utf-8"))
+        screen.NAME = f"tools/{words[0]}"
+        ends.run(MAINS[words[0]].main, MAINS[words[0]].__doc__)
+    except SystemExit as ended:
+        os._exit(ended.code or 0)
+    finally:
+        os._exit(99)
+
+
+def is_plain(tool, said):
+    """Whether what a tool says has no trace in it, and all lines are its own."""
+    lines = said.splitlines()
+    return "Traceback" not in said and all(line.startswith((f"tools/{tool}: ", "  ")) for line in lines)
+
+
+def looks(name, words, given=b"", must_fail=False, wanted="", **more):
+    """A case: the tool ends plainly; an input that is not whole must not pass in silence."""
+    status, output, said = forked(words, given, **more)
+    if status not in (0, 1, 2, 3) or not is_plain(words[0], said):
+        fail(name, f"{words}: status {status}, {said[-400:]!r}")
+    elif must_fail and status == 0 or wanted and not re.search(wanted, said + output.decode(errors="replace")):
+        fail(name, f"{words}: status {status}, says {said!r}, and should say {wanted!r}")
+
+
+@contextlib.contextmanager
+def files(**texts):
+    with tempfile.TemporaryDirectory() as folder:
+        yield written(folder, **texts)
+
+
+def readers(path, other):
+    """The tools that read a file, each with its words; `other` is a file of the other kind, of the same traffic."""
+    capture_of, replies_of = path["capture"], path["replies"]
+    return {
+        "capture": [["show", capture_of], ["top", capture_of], ["part", "capture", capture_of],
+                    ["compare", "--capture", capture_of, other["replies"], other["replies"]],
+                    ["warm", capture_of, other["replies"]], ["inline", capture_of], ["inline", capture_of, other["replies"]],
+                    ["judge", "--out", os.devnull, capture_of, other["replies"]], ["play", capture_of, "--server", PLACE]],
+        "replies": [["show", replies_of], ["part", "replies", replies_of], ["compare", replies_of, other["replies"]],
+                    ["compare", "--capture", other["capture"], other["replies"], replies_of],
+                    ["warm", other["capture"], replies_of], ["inline", other["capture"], replies_of],
+                    ["inline", "--cut", replies_of, other["capture"]],
+                    ["judge", "--out", os.devnull, other["capture"], replies_of]],
+        "journal": [["show", path["journal"]], ["top", path["journal"]], ["picture", path["journal"]],
+                    ["part", "journal", path["journal"]]],
+    }
+
+
+# ---- cases
+
+
+def cut_files():
+    """Each format cut at random places, for each reader."""
+    draw = random.Random(1)
+    for name, text in (("capture", CAPTURE), ("capture", LATER), ("replies", REPLIES), ("journal", JOURNAL)):
+        for at in sorted({*range(0, 9), *(draw.randrange(len(text)) for _ in range(3)), len(text) - 1}):
+            with files(**{"capture": CAPTURE, "replies": REPLIES, "journal": JOURNAL, name: text[:at]}) as path, \
+                    files(capture=CAPTURE, replies=REPLIES) as other:
+                for words in readers(path, other)[name]:
+                    looks(f"{name} cut at {at}", words, must_fail=at > 0)
+
+
+def wrong_files():
+    """Empty files, garbage, wrong magics, folders, files that are not there, and files in each other's place."""
+    swapped = {"capture": REPLIES, "replies": CAPTURE, "journal": CAPTURE}
+    for name in ("capture", "replies", "journal"):
+        for what, text in (("empty", b""), ("garbage", bytes(range(256)) * 4), ("magic", b"ZYGXXX1\n" + b"E" * 9),
+                           ("text", b"set a 0 0 1\r\nx\r\n"), ("swapped", swapped[name])):
+            with files(**{"capture": CAPTURE, "replies": REPLIES, "journal": JOURNAL, name: text}) as path, \
+                    files(capture=CAPTURE, replies=REPLIES) as other:
+                for words in readers(path, other)[name]:
+                    looks(f"{name}, {what}", words)
+        for what in ("/", "/none/file"):
+            path = dict.fromkeys(("capture", "replies", "journal"), what)
+            with files(capture=CAPTURE, replies=REPLIES) as other:
+                for words in readers(path, other)[name]:
+                    looks(f"{name}, {what}", words, must_fail=True, wanted=re.escape(what))
+
+
+def bytes_after():
+    """What follows the end of a file is not passed over."""
+    for name, text in (("capture", CAPTURE), ("replies", REPLIES)):
+        for what, more in (("joined", text), ("a byte", b"x"), ("cut", text[:9])):
+            with files(**{"capture": CAPTURE, "replies": REPLIES, "journal": JOURNAL, name: text + more}) as path, \
+                    files(capture=CAPTURE, replies=REPLIES) as other:
+                for words in readers(path, other)[name]:
+                    is_single = words[0] not in ("show", "top", "part")
+                    if is_single or what != "joined":
+                        looks(f"{name} with {what} after it", words, must_fail=True, wanted=f"{len(text)}|not expected|two of them")
+
+
+def full_disks():
+    """A full disk, and outputs that are inputs, or each other, or there already."""
+    with files(capture=CAPTURE, replies=REPLIES, pcap=packets.file_of()) as path:
+        for words in (["judge", "--out", "/dev/full", path["capture"], path["replies"]],
+                      ["judge", "--out", "/none/file", path["capture"], path["replies"]],
+                      ["judge", "--order", "/none/file", path["capture"], path["replies"]],
+                      ["inline", "--write-order", "/none/file", path["capture"], path["replies"]]):
+            looks("an output that cannot be written", words, must_fail=True, wanted="/dev/full|/none/file")
+        for words in (["judge", "--out", path["capture"], path["capture"], path["replies"]],
+                      ["judge", "--over", "--out", path["replies"], path["capture"], path["replies"]],
+                      ["inline", "--write-order", path["capture"], path["capture"], path["replies"]],
+                      ["packets", "--in-order", path["pcap"], path["pcap"]],
+                      ["packets", "--over", "--in-order", path["pcap"], path["pcap"]],
+                      ["packets", "--in-order", path["capture"], path["pcap"]],
+                      ["packets", "--in-order", "/none/a", "--replies", "/none/a", path["pcap"]]):
+            looks("an output that is there", words, must_fail=True, wanted="File exists|this file|read; write|both")
+        for name, text in (("capture", CAPTURE), ("replies", REPLIES), ("pcap", packets.file_of())):
+            with open(path[name], "rb") as file:
+                same(f"the {name} is as it was", text, file.read())
+
+
+def encodings():
+    """Names that are not of UTF-8, and output in ASCII."""
+    with tempfile.TemporaryDirectory() as folder:
+        odd = os.fsdecode(os.path.join(os.fsencode(folder), b"caf\xe9-\xff-\xc3\xa9"))
+        for text, tools in ((CAPTURE, ("show", "top")), (JOURNAL, ("show", "picture")), (REPLIES, ("show",))):
+            with open(odd, "wb") as file:
+                file.write(text)
+            for tool, encoding in itertools.product(tools, ("utf-8", "ascii", "latin-1")):
+                looks(f"{tool}, {encoding}", [tool, odd], environment={"ENCODING": encoding})
+        with open(odd, "wb") as file:
+            file.write(replies([b"END\r\n"]))
+        other = os.path.join(folder, "other")
+        with open(other, "wb") as file:
+            file.write(replies([b"VALUE a 0 1\r\nx\r\nEND\r\n"]))
+        for encoding in ("utf-8", "ascii"):
+            looks(f"compare, {encoding}", ["compare", odd, other], environment={"ENCODING": encoding}, wanted="1 difference|connection")
+
+
+# answers that a server may give by mistake, to the command of the same row
+HOSTILE = [
+    (b"get a\r\n", text) for text in (
+        b"VALUE\r\nEND\r\n", b"VALUE \r\nEND\r\n", b"VALUE a\r\nEND\r\n", b"VALUE a 0\r\nEND\r\n", b"VALUE a 0 x\r\nx\r\nEND\r\n",
+        b"VALUE a xx 1\r\nx\r\nEND\r\n", b"VALUE a 0 99999999999\r\nx\r\nEND\r\n", b"VALUE a 0 1 z\r\nx\r\nEND\r\n",
+        b"VALUE a 0 1\r\nx\r\nVALUE a 0 1\r\nx\r\nEND\r\n", b"VALUE a " + b"9" * 5000 + b" 1\r\nx\r\nEND\r\n", b"\r\n", b"\n\n\n",
+        b"END", b"ERROR\r\n", b"STAT\r\nEND\r\n", b"VALUE b 0 1\r\nx\r\nEND\r\n", b"\x00\xff\r\n")
+] + [
+    (b"mg a v f c k\r\n", text) for text in (
+        b"HD fzz\r\n", b"HD c\r\n", b"\r\n", b" \r\n", b"VA\r\n", b"VA x\r\n\r\n", b"VA 1 f" + b"1" * 5000 + b" c0\r\nx\r\n",
+        b"VA 5\r\nx\r\n", b"HD\r\nHD\r\n", b"EN f1\r\n", b"VA 1 cxx\r\nx\r\n")
+] + [(b"incr a 1\r\n", text) for text in (b"9" * 5000 + b"\r\n", b"-1\r\n", b"1x\r\n", b" \r\n", b"18446744073709551616\r\n")] + [
+    (b"gets a\r\n", b"VALUE a 0 1 " + b"8" * 5000 + b"\r\nx\r\nEND\r\n"), (b"touch a 1\r\n", b"TOUCHED x\r\n"),
+    (b"gat 1 a\r\n", b"VALUE a\r\nEND\r\n"), (b"md a\r\n", b"HD \r\n"), (b"ms a 1\r\nx\r\n", b"\r\n"), (b"stats\r\n", b"STAT \r\nEND\r\n"),
+    (b"version\r\n", b"VERSION\r\n"), (b"flush_all\r\n", b"NO\r\n"),
+]
+
+
+def hostile_answers():
+    """Odd answers, to tools that read them."""
+    for number, (asked, told) in enumerate(HOSTILE):
+        sent = capture(2, [segment(0, b"set a 0 0 1\r\n1\r\n"), segment(1, asked), segment(0, b"get a\r\n"), segment(1, b"mn\r\n")])
+        right = replies([b"STORED\r\nVALUE a 0 1\r\n1\r\nEND\r\n", b"END\r\nMN\r\n"])
+        odd = replies([b"STORED\r\nVALUE a 0 1\r\n1\r\nEND\r\n", told + b"MN\r\n"])
+        with files(sent=sent, right=right, odd=odd) as path:
+            for words in (["judge", "--out", os.devnull, path["sent"], path["odd"]],
+                          ["judge", "--warm", "--may-forget", "--out", os.devnull, path["sent"], path["odd"]],
+                          ["warm", path["sent"], path["odd"]], ["inline", path["sent"], path["odd"]],
+                          ["inline", "--cut", path["odd"], path["sent"], path["right"]],
+                          ["compare", "--capture", path["sent"], path["odd"], path["right"]],
+                          ["compare", "--capture", path["sent"], path["right"], path["odd"]],
+                          ["compare", path["odd"], path["right"]], ["show", path["odd"]]):
+                looks(f"answer {number}, {told[:20]!r}", words)
+
+
+def deep_pipelines():
+    """Clients that send up to 5,000 commands before they read an answer."""
+    for count in (100, 400, 2000, 5000):
+        asked = [b"".join(b"get k%d\r\n" % (at % 7) for at in range(count)),
+                 b"".join(b"set k%d 0 0 1\r\n%d\r\n" % (at % 7, at % 10) for at in range(count // 10))]
+        hits = b"".join(b"VALUE k%d 0 1\r\n%d\r\nEND\r\n" % (at % 7, at % 10) if at % 3 else b"END\r\n" for at in range(count))
+        told = [hits, b"STORED\r\n" * (count // 10)]
+        sent = capture(2, [segment(number, text[at : at + 60000]) for number, text in enumerate(asked)
+                           for at in range(0, len(text), 60000)])
+        with files(sent=sent, told=replies(told), other=replies([b"END\r\n" * count, told[1]])) as path:
+            looks(f"{count} commands at a time", ["inline", path["sent"], path["told"]])
+            looks(f"{count} commands at a time", ["compare", "--capture", path["sent"], path["told"], path["other"]],
+                  must_fail=True, wanted="difference")
+            looks(f"{count} commands at a time", ["judge", "--seconds", "20", "--out", os.devnull, path["sent"], path["told"]])
+
+
+def spoiled_packets():
+    """Files of packets whose bytes are spoiled."""
+    draw = random.Random(5)
+    record = struct.pack(">IIII", 0, 0, 60, 60) + bytes(60)
+    whole = packets.file_of() + record * 3
+    for number in range(12):
+        text = bytearray(whole)
+        for _ in range(1 + number):
+            text[draw.randrange(len(text))] = draw.randrange(256)
+        for words in (["packets"], ["packets", "--resume"]):
+            looks(f"spoiled packets {number}", words, given=bytes(text[: draw.randrange(len(text))] if number % 2 else text))
+
+
+def unforeseen():
+    """What nobody foresaw is one line with status 70, and its trace is in a file."""
+    with tempfile.TemporaryDirectory() as folder:
+        program = ("import sys; sys.path.insert(0, sys.argv.pop(1)); sys.argv[0] = 'tools/show'\n"
+                   "from zygos_tools.cli import ends\ndef main(words): {}\nends.run(main, '')\n")
+        for what, status, wanted in (
+            ("raise KeyError('lines\\n of it')", 70, r"tools/show: this is a fault of the tool: KeyError: '.*'; please report it"
+             r" with the trace in .*zygos-.*\.trace\n"),
+            ("raise RecursionError('deep')", 70, r"tools/show: this is a fault of the tool: RecursionError: deep; .*\n"),
+            ("raise MemoryError", 1, r"tools/show: out of memory; record a shorter time\n"),
+        ):
+            path = os.path.join(folder, "odd.py")
+            with open(path, "w", encoding="utf-8") as file:
+                file.write(program.format(what))
+            ran = subprocess.run([sys.executable, path, path_of("")], capture_output=True, check=False,
+                                 env=dict(os.environ, TMPDIR=folder), timeout=120)
+            same(f"what is said of {what}", (status, True),
+                 (ran.returncode, re.fullmatch(wanted, ran.stderr.decode()) is not None))
+        same("the traces", 2, sum(name.endswith(".trace") for name in os.listdir(folder)))
+
+
+Tests = cases(cut_files, wrong_files, bytes_after, full_disks, encodings, hostile_answers, deep_pipelines, spoiled_packets,
+              unforeseen)
+
+if __name__ == "__main__":
+    unittest.main()

@@ -1,0 +1,596 @@
+"""Tests tools/record by the habits of real clients and servers: nothing is lost."""
+import contextlib
+import os
+import pty
+import re
+import resource
+import select
+import signal
+import socket
+import struct
+import subprocess
+import threading
+import time
+import unittest
+
+from checks import TOP, cases, fail, same
+from traffic import (Recorder, Server, at_once, big, connected, files_of, has_size, memcached, patched, rest_of, take,
+                     talk, until)
+from zygos_tools.cli.screen import Progress
+from zygos_tools.files.formats import capture_start, close, read_capture, segment
+from zygos_tools.files.part import Part
+
+# limits that tests make smaller
+LIMITS = "from zygos_tools.recording import proxy, recording; "
+SET, GET = b"set %d 0 0 5\r\nvalue\r\n", b"get %d\r\n"
+ASKED = b"set a 0 0 1\r\nx\r\nget a\r\n"
+ANSWERED = b"STORED\r\nVALUE a 0 1\r\nx\r\nEND\r\n"
+
+
+def recorded(connections, commands, sent, back):
+    return (f"tools/record: {connections} connections recorded, {commands} commands, {sent} bytes sent,"
+            f" {back} bytes back\n")
+
+
+def says(name, line, *words, status=1):
+    """The tool ends with a line, and makes no file."""
+    before = sorted(os.listdir("."))
+    ran = subprocess.run([os.path.join(TOP, "tools/record"), *words], capture_output=True, timeout=300, check=False)
+    same(name, (status, f"tools/record: {line}\n", before),
+         (ran.returncode, ran.stderr.decode(), sorted(os.listdir("."))))
+
+
+# ---- what is recorded
+
+
+def several_clients():
+    with Server() as server:
+        recorder = Recorder(server.place)
+        texts = [b"".join(SET % (c * 1000 + k) + GET % (c * 1000 + k) for k in range(300)) for c in range(5)]
+        got = {}
+        at_once([lambda text=text: got.update({text: talk(recorder.place, text, 7)}) for text in texts])
+        status, said = recorder.end()
+        sent, back = files_of()
+        same("what was sent", sorted(texts), sorted(sent.values()))
+        same("what came back", got, {sent[key]: back[key] for key in sent})
+        length = sum(map(len, texts))
+        same("what is said", (0, recorded(5, 3000, length, sum(map(len, got.values())))), (status, said))
+        same("no spool is left", ["my.cap", "my.replies"], sorted(os.listdir(".")))
+
+
+def no_client():
+    with Server() as server:
+        recorder = Recorder(server.place)
+        same("a recording without a client", (0, recorded(0, 0, 0, 0)), recorder.end())
+        same("its files", ({}, {}), files_of())
+
+
+def two_hundred():
+    with Server() as server:
+        recorder = Recorder(server.place, "--connections", "200")
+        ones = [connected(recorder.place) for _ in range(200)]
+        for number, one in enumerate(ones):
+            one.sendall(SET % number + GET % number)
+        told = b"STORED\r\nVALUE %d 0 5\r\nvalue\r\nEND\r\n"
+        got = [take(one, len(told % number)) for number, one in enumerate(ones)]
+        for one in ones:
+            one.close()
+        same("200 at a time end by themselves", 0, recorder.end(None)[0])
+        sent, back = files_of()
+        same("200 at a time", {SET % number + GET % number: got[number] for number in range(200)},
+             {sent[key]: back[key] for key in sent})
+
+
+def other_sockets():
+    """IPv6, and Unix sockets."""
+    for server_place, listen in ((("::1", 0), "[::1]:0"), (os.path.abspath("server"), "./clients"),
+                                 (("127.0.0.1", 0), "unix:clients")):
+        with Server(server_place) as server:
+            recorder = Recorder(server.place, listen=listen)
+            place = f"./{recorder.place}" if "/" not in recorder.place and ":" not in recorder.place else recorder.place
+            same(f"through {listen}", ANSWERED, talk(place, ASKED))
+            same(f"the status of {listen}", 0, recorder.end()[0])
+            same(f"recorded through {listen}", ({(0, 0): ASKED}, {(0, 0): ANSWERED}), files_of())
+            same(f"the path of {listen} is removed", False, os.path.exists("clients"))
+    with Server() as server:
+        recorder = Recorder(server.place, listen="./clients")
+        recorder.end(signal.SIGKILL)
+        repaired(0)
+        recorder = Recorder(server.place, listen="./clients")
+        same("a path that was left", ANSWERED, talk("./clients", ASKED))
+        recorder.end()
+
+
+def later_sessions():
+    """More connections than a capture has: a later one is a session of one that closed, or it is not recorded."""
+    with Server() as server:
+        recorder = Recorder(server.place, tool=patched(
+            "record", f"{LIMITS}proxy.MOST_CONNECTIONS = recording.MOST_CONNECTIONS = 2"))
+        first, second = connected(recorder.place), connected(recorder.place)
+        for one in (first, second):
+            one.sendall(b"mn\r\n")
+            same("an open connection is served", b"MN\r\n", take(one, 4))
+        same("a connection too many", ANSWERED, talk(recorder.place, ASKED))
+        second.close()
+        size = os.path.getsize("my.cap")
+        until("a later session is recorded",
+              lambda: talk(recorder.place, ASKED) == ANSWERED and os.path.getsize("my.cap") > size)
+        first.close()
+        status, said = recorder.end()
+        said = re.sub("[0-9]+ connections were", "some were", said)
+        same("its lines", (1, "tools/record: 2 connections are open, the most of a recording: others are passed on and"
+                           " not recorded\ntools/record: some were passed on and not recorded\n"
+                           + recorded(3, 4, 8 + len(ASKED), 8 + len(ANSWERED))), (status, said))
+        same("its files", ({(0, 0): b"mn\r\n", (1, 0): b"mn\r\n", (1, 1): ASKED},
+                           {(0, 0): b"MN\r\n", (1, 0): b"MN\r\n", (1, 1): ANSWERED}), files_of())
+
+
+def ends_of_answers():
+    """With --ends a segment without bytes is where an answer is whole."""
+    with Server() as server:
+        recorder = Recorder(server.place, "--ends")
+        with connected(recorder.place) as one, connected(recorder.place) as other:
+            texts = ((one, b"hold\r\n", b""), (other, ASKED[:5], b""), (other, ASKED[5:], ANSWERED),
+                     (one, b"", b"OK\r\n"), (one, b"set b 0 0 1 noreply\r\nx\r\nmg c v q\r\nmg b v q\r\nmn\r\n",
+                                               b"VA 1\r\nx\r\nMN\r\n"))
+            ends, size = (0, 0, 2, 1, 2), 12
+            for (client, sent, back), count in zip(texts, ends):
+                client.sendall(sent)
+                if not sent:
+                    server.release()
+                same(f"the answers to {sent}", back, take(client, len(back)))
+                size += (9 + len(sent) if sent else 0) + 9 * count
+                has_size("my.cap", size)
+        same("the end of a recording with ends", 0, recorder.end()[0])
+        number, sent, back = {one: 0, other: 1}, {0: b"", 1: b""}, {0: b"", 1: b""}
+        for client, asked, told in texts:
+            sent[number[client]] += asked
+            back[number[client]] += told
+        same("a recording with ends", ({(at, 0): text for at, text in sent.items()},
+                                       {(at, 0): text for at, text in back.items()}), files_of())
+        wanted = [record for (client, asked, _), count in zip(texts, ends)
+                  for record in [*([(number[client], asked)] if asked else []), *[(number[client], b"")] * count]]
+        with open("my.cap", "rb") as file:
+            read = read_capture(Part("capture", file.read()))
+        same("where answers end", wanted, [tuple(record) for record in read.records])
+
+
+def few_files():
+    """Few files may be open: clients wait until others have gone."""
+    with Server() as server:
+        recorder = Recorder(server.place, "--connections", "30",
+                            preexec_fn=lambda: resource.setrlimit(resource.RLIMIT_NOFILE, (80, 80)))
+        clients = [threading.Thread(target=lambda: same("a client that waits", b"OK\r\n", talk(recorder.place, b"hold\r\n")))
+                   for _ in range(30)]
+        for client in clients:
+            client.start()
+        same("what is said", "tools/record: no more files may be open (ulimit -n): clients wait\n", recorder.line())
+        server.release()
+        for client in clients:
+            client.join()
+        same("few files", (0, recorded(30, 30, 180, 120)), recorder.end(None))
+
+
+def standard_output():
+    with Server() as server:
+        for files in (("-", "my.replies"), ("my.cap", "-")):
+            with open("out", "wb") as out:
+                recorder = Recorder(server.place, "--connections", "1", files=files, stdout=out)
+                talk(recorder.place, ASKED)
+                same(f"recorded to {files}", 0, recorder.end(None)[0])
+            names = ["out" if name == "-" else name for name in files]
+            same(f"the files of {files}", ({(0, 0): ASKED}, {(0, 0): ANSWERED}), files_of(*names))
+
+
+# ---- habits of clients
+
+
+def gives_up():
+    """A client that times out on a large value, and one that closes at once: the others go on."""
+    with Server() as server:
+        recorder, size = Recorder(server.place), 20000000
+        with connected(recorder.place) as other:
+            with connected(recorder.place) as one:
+                one.sendall(b"big %d\r\n" % size)
+                take(one, 1000)
+            for linger in (None, struct.pack("ii", 1, 0)):
+                with connected(recorder.place) as one:
+                    one.sendall(ASKED)
+                    if linger:
+                        time.sleep(0.1)
+                        one.setsockopt(socket.SOL_SOCKET, socket.SO_LINGER, linger)
+            other.sendall(ASKED)
+            same("another client goes on", ANSWERED, take(other, len(ANSWERED)))
+            has_size("my.replies.spool", len(big(size)) + 3 * len(ANSWERED))
+        status, _ = recorder.end()
+        sent, back = files_of()
+        same("clients that give up", (0, {b"big %d\r\n" % size: big(size), ASKED: ANSWERED}),
+             (status, {sent[key]: back[key] for key in sent}))
+
+
+def half_closed():
+    """A client that ends what it sends, and then waits for its answers."""
+    with Server() as server:
+        recorder = Recorder(server.place)
+        with connected(recorder.place) as one:
+            one.sendall(b"hold\r\n" + ASKED)
+            one.shutdown(socket.SHUT_WR)
+            until("the server waits", lambda: server.held)
+            server.release()
+            same("a half-closed connection", b"OK\r\n" + ANSWERED, rest_of(one))
+        recorder.end()
+        same("what is recorded of it", ({(0, 0): b"hold\r\n" + ASKED}, {(0, 0): b"OK\r\n" + ANSWERED}), files_of())
+
+
+def slow_reader():
+    """A client that does not read for a while is waited for, and so is a server; others are served."""
+    with Server() as server:
+        recorder, few, size = Recorder(server.place), 20000000, 100000000
+        before = recorder.most_memory()
+        with connected(recorder.place) as slow:
+            slow.sendall(b"big %d\r\n" % few)
+            time.sleep(0.3)
+            same("beside a slow reader", ANSWERED, talk(recorder.place, ASKED))
+            got = take_all(slow, len(big(few)))
+        with connected(recorder.place) as one:
+            text = b"echo %d\r\n" % size + b"y" * (size + 2)
+            at_once([lambda: one.sendall(text), lambda: same("what is sent and comes back", True, take_all(one, size))])
+        same("what a slow reader gets", True, got)
+        grown = recorder.most_memory() - before
+        recorder.process.send_signal(signal.SIGINT)
+        most = 0
+        while recorder.process.poll() is None:
+            with contextlib.suppress(OSError, StopIteration):
+                most = max(most, recorder.most_memory())
+            time.sleep(0.02)
+        if max(grown, most - before) > 40 << 20:
+            fail("memory does not grow", f"by {grown} bytes, and {most - before} in all")
+        same("the size of the files", (True, True), (os.path.getsize("my.replies") > few + size,
+                                                     size < os.path.getsize("my.cap") < size + 1000000))
+        recorder.process.communicate()
+
+
+def take_all(one, count):
+    """Whether these bytes come, in number."""
+    while count and (piece := one.recv(min(count, 1 << 20))):
+        count -= len(piece)
+    return not count
+
+
+def binary():
+    with Server() as server:
+        recorder = Recorder(server.place)
+        for text in (b"\x80\x0b\n", b"\x16\x03\x01\n", b"mn\r\n"):
+            talk(recorder.place, text)
+        *lines, last = recorder.end()[1].splitlines()
+        begin = "tools/record: warning: connection"
+        same("connections that are no text", [
+            f"{begin} 0 begins with byte 0x80, as the binary protocol does; its commands will be read as text",
+            f"{begin} 1 begins with byte 0x16, as TLS does; its commands will be read as text",
+            "tools/record: 2 connections begin as the binary protocol or TLS does"], lines)
+        same("what is counted", recorded(3, 1, 11, 18).strip(), last)
+
+
+# ---- habits of servers
+
+
+def server_restarts():
+    """A server that stops closes its clients; others are turned away until it is back."""
+    name = os.path.abspath("server")
+    server = Server(name)
+    recorder = Recorder(name)
+    one = connected(recorder.place)
+    one.sendall(ASKED)
+    take(one, len(ANSWERED))
+    server.__exit__()
+    same("a client whose server went", b"", rest_of(one))
+    with contextlib.suppress(OSError):
+        same("a client without a server", b"", talk(recorder.place, ASKED))
+    with Server(name):
+        same("a client after it is back", ANSWERED, talk(recorder.place, ASKED))
+        status, said = recorder.end()
+    same("the lines of a restart", (0, f"tools/record: {name}: Connection refused: clients are turned away until"
+                                    " it is there; --server names it\n"
+                                    f"tools/record: {name}: connected again; clients turned away: 1\n"
+                                    + recorded(2, 4, 2 * len(ASKED), 2 * len(ANSWERED))), (status, said))
+    same("the recording of a restart", ({(0, 0): ASKED, (1, 0): ASKED}, {(0, 0): ANSWERED, (1, 0): ANSWERED}),
+         files_of())
+    one.close()
+
+
+# ---- how it ends
+
+
+def signals():
+    """Ctrl-C, a termination and a closed terminal: answers that come later are kept."""
+    signal.signal(signal.SIGHUP, signal.SIG_DFL)  # where the tests run under nohup, the recorder would ignore it
+    for number in (signal.SIGINT, signal.SIGTERM, signal.SIGHUP):
+        with Server() as server:
+            recorder = Recorder(server.place)
+            with connected(recorder.place) as one:
+                one.sendall(ASKED)
+                take(one, len(ANSWERED))
+                one.sendall(b"hold\r\n")
+                has_size("my.cap", 12 + 9 + len(ASKED) + 9 + 6)
+                until("the server waits", lambda: server.held)
+                recorder.process.send_signal(number)
+                until("nothing more is taken", lambda: not listens(recorder.place))
+                server.release()
+                same(f"a client at {number!r}", b"OK\r\n", rest_of(one))
+                status, said = recorder.end(None)
+            same(f"the end by {number!r}", (0, recorded(1, 3, len(ASKED) + 6, len(ANSWERED) + 4)), (status, said))
+            same(f"the files of {number!r}", ({(0, 0): ASKED + b"hold\r\n"}, {(0, 0): ANSWERED + b"OK\r\n"}),
+                 files_of())
+
+
+def listens(place):
+    """Whether something listens at a place, as the kernel's table says: to connect would be recorded."""
+    port = int(place.rsplit(":", 1)[1])
+    with open("/proc/net/tcp", encoding="ascii") as table:
+        rows = [line.split() for line in table.readlines()[1:]]
+    return any(int(row[1].rsplit(":", 1)[1], 16) == port and row[3] == "0A" for row in rows)
+
+
+def ends_with_a_slow_reader():
+    """An answer that its client does not take is recorded to its end."""
+    with Server() as server:
+        recorder, size = Recorder(server.place), 20000000
+        with connected(recorder.place) as slow:
+            slow.sendall(b"big %d\r\n" % size)
+            has_size("my.replies.spool", 100000)
+            same("the end with a slow reader", 0, recorder.end()[0])
+        same("what a slow reader leaves", {(0, 0): big(size)}, files_of()[1])
+
+
+def closed_errors():
+    """Standard error is closed, or its reader has gone: all is recorded."""
+    with Server() as server:
+        path, name = os.path.abspath("clients"), os.path.join(TOP, "tools/record")
+        words = f"{name} --over --listen {path} --server '{server.place}' --connections 1 my.cap my.replies"
+        for ending in ("2>&-", "2> >(true)"):
+            with subprocess.Popen(["bash", "-c", f"exec {words} {ending}"]) as process:
+                talk(path, b"\x80\n")
+                same(f"the end with {ending}", 0, process.wait(timeout=300))
+            same(f"the files with {ending}", ({(0, 0): b"\x80\n"}, {(0, 0): b"ERROR\r\n"}), files_of())
+
+
+def killed():
+    """A recorder that is killed: --repair completes its files, cuts where records are not whole, and says so."""
+    with Server() as server:
+        recorder = Recorder(server.place)
+        ones = [connected(recorder.place) for _ in range(3)]
+        for one in ones[:2]:
+            one.sendall(ASKED)
+            take(one, len(ANSWERED))
+        says("files that a recorder writes", "my.replies.spool: another recording writes this file", "--listen",
+             "127.0.0.1:0", "my.cap", "my.replies")
+        says("files that a recorder writes, to repair", "my.replies.spool: another recording writes this file",
+             "--repair", "my.cap", "my.replies")
+        recorder.end(signal.SIGKILL)
+        for one in ones:
+            one.close()
+    same("what a killed recorder leaves", ["my.cap", "my.replies", "my.replies.spool"], sorted(os.listdir(".")))
+    says("a start over it", "my.replies.spool: left by a recording that did not end; complete that with --repair",
+         "my.cap", "my.replies")
+    kept = {name: open(name, "rb").read() for name in os.listdir(".")}
+    ran = subprocess.run([os.path.join(TOP, "tools/top"), "my.cap"], capture_output=True, timeout=300, check=False)
+    same("what a tool says of its capture", f"tools/top: my.cap: capture: truncated at {len(kept['my.cap'])}; if it was"
+         " left by a recording that was killed, tools/record --repair completes it\n", ran.stderr.decode())
+    both = {(0, 0): ASKED, (1, 0): ASKED}, {(0, 0): ANSWERED, (1, 0): ANSWERED}
+    for cut, spoiled, tail in ((0, both, ""), (3, cut_of(both, 0, 3), f", {len(ASKED) - 3} of the {len(ASKED)} bytes of"
+                                                                      " the last segment")):
+        for name, text in kept.items():
+            with open(name, "wb") as file:
+                file.write(text[: len(text) - cut] if name == "my.cap" else text)
+        lines = repaired(0)
+        same(f"repaired without the last {cut} bytes", spoiled, files_of())
+        back = sum(map(len, spoiled[1].values()))
+        same("what is said of it", f"my.cap: completed: 2 connections, 2 sessions, {2 * len(ASKED) - cut} bytes sent"
+             f"{tail}\nmy.replies: completed: {back} bytes back\n", lines)
+    with open("my.replies.spool", "wb") as file:
+        file.write(kept["my.replies.spool"])
+    repaired(0)
+    same("repaired from a spool that was left at the end", cut_of(both, 0, 3), files_of())
+    same("repaired once more", f"my.cap: whole: 2 connections, {2 * len(ASKED) - 3} bytes sent\nmy.replies: whole\n",
+         repaired(0))
+    faulty(kept)
+
+
+def unanswered():
+    """How many commands --repair finds without an answer, over connections that close."""
+    asked = [segment(0, b"get a\r\nget b\r\nset c 0 0 1 noreply\r\nx\r\n"),
+             segment(1, b"mg a v q\r\nmg b v q\r\nmn\r\nget"), close(0), segment(0, b"get d\r\nget e\r\n"),
+             segment(1, b""), close(0), segment(2, b"\x80\nget a\r\n"),
+             segment(3, b"mg a v\r\nmg b v\r\nset a 0 0 1\r\n"), segment(0, b"get f\r\nquit\r\nget g\r\n")]
+    told = [segment(1, b"VA 1\r\nx"), segment(0, b"END\r\nVALUE b 0 1\r\nx\r\n"), segment(1, b"\r\nMN\r\n"), close(0),
+            segment(0, b"END\r\nEND\r\nERROR\r\n"), close(0), segment(3, b"EN\r\n")]
+    for name, records in (("my.cap", asked), ("my.replies.spool", told)):
+        with open(name, "wb") as file:
+            file.write(capture_start(4096, 2) + b"".join(records))
+    sent, back = (sum(len(text) - 9 for text in records if text != close(0)) for records in (asked, told))
+    same("commands without an answer", f"my.cap: completed: 4 connections, 6 sessions, {sent} bytes sent\n"
+         f"my.replies: completed: {back} bytes back\n3 commands are not answered whole\n", repaired(0))
+
+
+def cut_of(both, at, count):
+    """What is left when the last bytes of the last connection are gone."""
+    last = max(both[at])
+    return tuple({key: text[:-count] if number == at and key == last else text for key, text in part.items()}
+                 for number, part in enumerate(both))
+
+
+def repaired(status):
+    """What is said by --repair."""
+    ran = subprocess.run([os.path.join(TOP, "tools/record"), "--repair", "my.cap", "my.replies"], capture_output=True,
+                         timeout=300, check=False)
+    same("the status of --repair", status, ran.returncode)
+    return ran.stderr.decode().replace("tools/record: ", "")
+
+
+def faulty(kept):
+    """Files that --repair does not complete."""
+    for name, text, line in (
+        ("my.cap", kept["my.cap"] + b"X", f"my.cap: capture: bad-tag at {len(kept['my.cap'])} byte 88\n"),
+        ("my.cap", b"ZYGCAP", "my.cap: capture: truncated at 6\n"),
+        ("my.replies.spool", b"x", "my.replies.spool: capture: bad-magic at 0\n"),
+    ):
+        for file_name, bytes_of in {**kept, name: text}.items():
+            with open(file_name, "wb") as file:
+                file.write(bytes_of)
+        same("what cannot be repaired", line, repaired(1))
+    os.unlink("my.replies.spool")
+    same("without a spool", f"my.cap: completed: 2 connections, {2 * len(ASKED)} bytes sent\nmy.replies: no replies"
+         " file, and there is no my.replies.spool of which one could be made\n", repaired(1))
+
+
+def full():
+    """The most that a capture has, and no more space for files: all is passed on, and what there is is written."""
+    more = ": all is passed on, and nothing more recorded; Ctrl-C ends it, and completes the files"
+    with Server() as server:
+        hold = b"hold\r\n"
+        size = 12 + 9 + len(ASKED) + 2 * 9 + 9 + len(hold)
+        most = size + 9 + 4 + 1  # also for a short segment that comes later
+        recorder = Recorder(server.place, "--ends", tool=patched("record", f"{LIMITS}recording.MOST_CAPTURE = {most}"))
+        with connected(recorder.place) as one:
+            for sent, back in ((ASKED, ANSWERED), (hold, b""), (b"mn\r\nmn\r\n", b"OK\r\nMN\r\nMN\r\n"),
+                               (b"mn\r\n", b"MN\r\n"), (ASKED, ANSWERED)):
+                one.sendall(sent)
+                if sent == hold:
+                    has_size("my.cap", size)
+                elif b"OK" in back:
+                    same("what is said of a full capture", f"tools/record: my.cap: a capture has at most {most} bytes{more}\n",
+                         recorder.line())
+                    server.release()
+                same("what is passed on of a connection that was recorded", back, take(one, len(back)))
+            same("a connection that is not recorded", ANSWERED, talk(recorder.place, ASKED))
+        same("a full capture", (1, "tools/record: 1 connections were passed on and not recorded\n"
+                                + recorded(1, 3, len(ASKED) + len(hold), len(ANSWERED) + 4)), recorder.end())
+        same("its files", ({(0, 0): ASKED + hold}, {(0, 0): ANSWERED + b"OK\r\n"}), files_of())
+
+        def small():
+            resource.setrlimit(resource.RLIMIT_FSIZE, (10000, 10000))
+
+        recorder = Recorder(server.place, preexec_fn=small)
+        with connected(recorder.place) as one:
+            for _ in range(500):
+                one.sendall(ASKED)
+                same("what is passed on without space", ANSWERED, take(one, len(ANSWERED)))
+        same("no space", (1, f"my.replies: File too large{more}"),
+             (recorder.end()[0], recorder.said.splitlines()[0].replace("tools/record: ", "")))
+        sent, back = files_of()
+        count = len(sent[0, 0]) // len(ASKED)
+        same("its files", (True, ASKED * count, True), (count > 100, sent[0, 0],
+                                                        (ANSWERED * count).startswith(back[0, 0])))
+
+
+def before_it_begins():
+    """What is wrong is said before anything is recorded, and old files stay."""
+    says("a folder that isn't there", "none/my.cap: No such file or directory", "none/my.cap", "my.replies")
+    says("another one", "none/my.replies: No such file or directory", "my.cap", "none/my.replies")
+    says("a folder", ".: Is a directory", "my.cap", ".")
+    says("one file twice", "my.cap: both files cannot be this one", "my.cap", "my.cap")
+    with open("my.cap", "wb") as file:
+        file.write(b"old")
+    with Server() as server:
+        listen = server.place
+        says("a place that is taken", f"{listen}: Address already in use; --listen names another place", "--over",
+             "--listen", listen, "my.cap", "my.replies")
+        if not listen.startswith("[127"):
+            fail("the place of a server", listen)
+    says("a name without an address", "nowhere.invalid:1: no address has this name", "--over", "--server",
+         "nowhere.invalid:1", "--listen", "127.0.0.1:0", "my.cap", "my.replies")
+    same("an old file", b"old", open("my.cap", "rb").read())
+    old = "there is something in this file; --over writes over it"
+    says("an old file without --over", f"my.cap: {old}", "my.cap", "my.replies")
+    says("old replies without --over", f"my.cap: {old}", "other.cap", "my.cap")
+    same("an old file that is refused", b"old", open("my.cap", "rb").read())
+    for option, word in (("--listen", "foo"), ("--server", "foo:70000"), ("--server", "[::1]"), ("--listen", "unix:")):
+        says(f"{option} {word}", f"{option} takes HOST:PORT, [HOST]:PORT or a path with a slash, of at most 107 bytes,"
+             f" not {word}", option, word, "my.cap", "my.replies", status=2)
+    says("no number of connections", "--connections takes a number from 1 to 1000000000, not 0", "--connections", "0",
+         "my.cap", "my.replies", status=2)
+    says("one file", "two files are written; --help says more", "my.cap", status=2)
+
+
+def terminal():
+    """On a terminal a line says each second what was recorded."""
+    with Server() as server:
+        above, below = pty.openpty()
+        path = os.path.abspath("clients")
+        words = ["--listen", path, "--server", server.place, "--connections", "2", "my.cap", "my.replies"]
+        with subprocess.Popen([os.path.join(TOP, "tools/record"), *words], stderr=below) as process:
+            talk(path, ASKED)
+            shown = bytearray()
+
+            def is_shown(line):
+                while select.select([above], [], [], 0.1)[0]:
+                    shown.extend(os.read(above, 1 << 16))
+                return line.encode() in shown
+
+            with connected(path) as one:
+                line = f"1 connections open, 1 closed; 2 commands, {len(ASKED)} bytes sent, {len(ANSWERED)} bytes back"
+                until("a line a second", lambda: is_shown(line))
+                one.sendall(b"mn\r\n")
+                take(one, 4)
+            process.wait(timeout=300)
+            line = recorded(2, 3, len(ASKED) + 4, len(ANSWERED) + 4).strip()
+            until("the last line", lambda: is_shown(f"\x1b[K{line}\r\n"))
+        os.close(above)
+        os.close(below)
+
+
+class Terminal:
+    """A terminal, by the lines that are shown on it."""
+
+    def __init__(self):
+        self.is_terminal, self.lines = True, []
+
+    def show(self, line):
+        self.lines.append(line)
+
+
+def joining():
+    """What is said while the replies are joined: on a terminal each second, elsewhere once, if they are many."""
+    with Server() as server:
+        recorder = Recorder(server.place, tool=patched("record", "from zygos_tools.cli import screen; screen.MUCH = 0"))
+        talk(recorder.place, ASKED)
+        same("many replies", (0, "tools/record: joining 0 MB of replies\n" + recorded(1, 2, len(ASKED), len(ANSWERED))),
+             recorder.end())
+    shown = Terminal()
+    progress = Progress(shown, "joining", 10)
+    for seconds in (-1, 1, -1):
+        progress.next = time.monotonic() + seconds
+        progress(3)
+    same("how far it is", ["joining: 30 %", "joining: 90 %"], shown.lines)
+
+
+def quits():
+    """A `quit` is no command, as for tools/top."""
+    with Server() as server:
+        recorder = Recorder(server.place)
+        talk(recorder.place, b"mn\r\nmn\r\nquit\r\n")
+        same("a quit", (0, recorded(1, 2, 14, 8)), recorder.end())
+    ran = subprocess.run([os.path.join(TOP, "tools/top"), "my.cap"], capture_output=True, timeout=300, check=False)
+    same("a quit, by top", b"capture: 2 commands, 1 connections, 0 keys\n", ran.stdout[:43])
+
+
+def real_memcached():
+    with memcached() as place:
+        recorder = Recorder(place)
+        asked = b"set c%d:%d 0 0 1\r\nx\r\nget c%d:%d c%d:none\r\n"
+        told = b"STORED\r\nVALUE c%d:%d 0 1\r\nx\r\nEND\r\n"
+        texts = [b"".join(asked % (c, k, c, k, c) for k in range(200)) + b"quit\r\n" for c in range(2)]
+        at_once([lambda text=text: talk(recorder.place, text, 50) for text in texts])
+        recorder.end()
+        sent, back = files_of()
+        wanted = {text: b"".join(told % (c, k) for k in range(200)) for c, text in enumerate(texts)}
+        same("what a memcached answers", wanted, {sent[key]: back[key] for key in sent})
+
+
+Tests = cases(before_it_begins, several_clients, no_client, two_hundred, other_sockets, ends_of_answers, later_sessions,
+              few_files, standard_output, gives_up, half_closed, slow_reader, binary, server_restarts, signals,
+              ends_with_a_slow_reader, closed_errors, killed, unanswered, full, terminal, joining, quits,
+              real_memcached, has_folder=True)
+
+if __name__ == "__main__":
+    unittest.main()

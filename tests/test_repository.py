@@ -1,0 +1,124 @@
+"""Tests what the repository keeps of itself: crates.txt, lists in pages, names, lemmas, laws, examples, and the tools' own
+source by pyflakes and mypy."""
+import glob
+import os
+import re
+import shutil
+import subprocess
+import tempfile
+import unittest
+
+from checks import TOP, built_program, cases, fail, run, same, skip, written
+
+# the packages of the tools whose types are checked
+TYPED = ("cli", "files", "protocol")
+
+
+def read(name):
+    with open(os.path.join(TOP, name), encoding="utf-8") as file:
+        return file.read()
+
+
+def crates():
+    """The crates of crates.txt, each with those that its line lists."""
+    lines = [line for line in read("crates.txt").split("\n") if line and not line.startswith("#")]
+    return {re.match(r"\w+", line)[0]: line.partition(":")[2].split() for line in lines}
+
+
+def says_nothing(name, tool, *words):
+    ran = run(tool, *words)
+    same(name, "", (ran.stdout + ran.stderr).decode())
+
+
+def pages():
+    """The pages list the crates in the order of crates.txt; in PROOF a law is with what it is about."""
+    listed = [name for name in re.findall(r"^\| .* \| `([a-z_]*)` \| ", read("docs/PROOF.md"), re.M)
+              if not name.endswith("_laws")]
+    listed = [name for at, name in enumerate(listed) if not at or listed[at - 1] != name]
+    same("docs/PROOF.md lists the crates in the order of crates.txt", [name for name in crates() if name in listed], listed)
+    layers = read("docs/MAP.md").partition("\n## Layers")[2].partition("\n## The way")[0]
+    listed = re.findall(r"^\| [a-z ]* \| `([a-z_]*)`", layers, re.M)
+    same("docs/MAP.md lists the crates in the order of crates.txt", [name for name in crates() if name in listed], listed)
+
+
+def listed_crates():
+    """Each crate that a line of crates.txt lists is named by a file of the line's crate."""
+    for name, needs in crates().items():
+        text = "".join(read(path) for kind in ("rt", "antt") for part in ("src", "specs", "proofs")
+                       for path in glob.glob(f"crates/{name}/{part}/**/*.{kind}", root_dir=TOP, recursive=True))
+        for listed in needs:
+            if not re.search(rf"\b{listed}(::|\.)", text):
+                fail("crates.txt", f"no file of {name} names {listed}")
+
+
+def upkeep():
+    """What tools of the repository find."""
+    says_nothing("no new name is defined in two crates", "names", "--check")
+    says_nothing("no lemma is without a use", "dead", "--check")
+    says_nothing("no law is in the way of the program", "dead", "--laws")
+    says_nothing("no public call is without a caller and a row", "dead", "--calls")
+    says_nothing("the crates have what docs/PROOF.md names", "indexes")
+    ran = subprocess.run([os.path.join(TOP, "tests/answers"), "--check"], capture_output=True, check=False, timeout=600)
+    same("examples/answers.jsonl is what the tests say", (0, b"", b""), (ran.returncode, ran.stdout, ran.stderr))
+
+
+def english():
+    """What a native reader stumbles over is counted: of a page its prose, of a source its comments."""
+    page = f"It is told where it is cut, and says where it is.\n\n```\ntold\n```\n{'one ' * 36}.\n".encode()
+    with tempfile.TemporaryDirectory() as folder:
+        written(folder, **{"page.md": page, "source.rt": b"// A further `further` place.\nlet further = place;\n"})
+        counted = run("repo/english", "--in", folder, "page.md", "source.rt").stdout.decode().splitlines()[1:-1]
+        same("words are counted in prose and comments", [["52", "1", "1", "0", "1", "page.md"],
+             ["9", "0", "1", "1", "0", "source.rt"]], [line.split() for line in counted])
+        listed = run("repo/english", "--in", folder, "--list", "source.rt").stdout.decode().splitlines()
+        same("a word is listed with what to write", "source.rt:1: further: another, more", listed[0])
+
+
+def instructions():
+    """A command takes no more instructions than its bound, of either kind of traffic, if they can be counted here."""
+    program = built_program()
+    if not shutil.which("valgrind"):
+        skip("valgrind is not installed")
+    ran = subprocess.run([os.path.join(TOP, "bench/run"), "instructions", "--check", program], capture_output=True,
+                         check=False, timeout=600)
+    counted = [line.partition(":")[0] for line in ran.stdout.decode().splitlines()]
+    same("the instructions of a command", (0, ["generated", "cache"]), (ran.returncode, counted))
+
+
+def sources():
+    """The Python sources of the repository."""
+    named = [path for folder in ("tools", "tests", "bench") for path in glob.glob(f"{TOP}/{folder}/**/*", recursive=True)
+             if os.path.isfile(path) and not os.path.islink(path)]
+    return [path for path in named if path.endswith(".py") or is_script(path)]
+
+
+def is_script(path):
+    with open(path, "rb") as file:
+        return file.read(30).startswith(b"#!/usr/bin/env python3")
+
+
+def flakes():
+    """pyflakes finds nothing in any Python source."""
+    checker = shutil.which("pyflakes3") or shutil.which("pyflakes")
+    if not checker:
+        skip("pyflakes is not installed (Debian: pyflakes3)")
+    ran = subprocess.run([checker, *sources()], capture_output=True, check=False, timeout=600, cwd=TOP)
+    same("what pyflakes finds", (0, ""), (ran.returncode, (ran.stdout + ran.stderr).decode()))
+
+
+def types():
+    """mypy finds nothing in the packages with types, in its strict mode."""
+    if not shutil.which("mypy"):
+        skip("mypy is not installed (Debian: mypy)")
+    words = [word for name in TYPED for word in ("-p", f"zygos_tools.{name}")]
+    ran = subprocess.run(["mypy", "--strict", "--no-error-summary", "--cache-dir", "/dev/null", *words], check=False,
+                         capture_output=True, timeout=600, cwd=os.path.join(TOP, "tools"))
+    places = tuple(f"zygos_tools/{name}/" for name in TYPED)
+    found = [line for line in (ran.stdout + ran.stderr).decode().splitlines() if line.startswith(places)]
+    same("what mypy finds", [], found)
+
+
+Tests = cases(pages, listed_crates, upkeep, english, instructions, flakes, types)
+
+if __name__ == "__main__":
+    unittest.main()

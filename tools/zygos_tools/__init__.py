@@ -1,0 +1,1 @@
+"""The tools of zygos for people: a command of tools/ calls a module of one of these packages."""

@@ -1,0 +1,191 @@
+"""The words of the tools, and how they end.
+
+A tool ends quietly when it is interrupted or the reader of its output goes away. At a fault of its input, or of reading
+and writing, it prints one line that says where, and ends with status 1; words that it does not know have status 2. What
+nobody foresaw is one line too, with status 70: it names the file with the trace.
+"""
+import io
+import os
+import re
+import signal
+import sys
+import tempfile
+import traceback
+from collections.abc import Callable, Iterable
+from typing import Any, NoReturn
+
+from zygos_tools.cli.screen import say
+from zygos_tools.files.outputs import STANDARD_OUTPUT
+from zygos_tools.files.part import Fault
+
+# an option: what it takes, in the words of a message, and how a word is read, which gives None for a wrong one
+Option = tuple[str, Callable[[str], Any]]
+UNFORESEEN = 70
+# signals that end a tool once it has removed what it had begun to write
+ENDING = (signal.SIGINT, signal.SIGTERM, signal.SIGHUP)
+FILE: Option = ("a file", lambda word: word or None)
+OUTPUT: Option = ("a file other than standard output", lambda word: word if word not in ("", "-") else None)
+
+
+class End(Exception):
+    """The tool ends with this status."""
+
+    def __init__(self, status: int) -> None:
+        super().__init__(status)
+        self.status = status
+
+
+class Stop(Exception):
+    """The tool ends with a line on standard error and a status."""
+
+    def __init__(self, why: str, status: int = 1) -> None:
+        super().__init__(why)
+        self.status = status
+
+
+class Signalled(BaseException):
+    """A signal ends the tool."""
+
+    def __init__(self, number: int) -> None:
+        super().__init__(number)
+        self.number = number
+
+
+def end(status: int) -> NoReturn:
+    raise End(status)
+
+
+def stop(why: str, status: int = 1) -> NoReturn:
+    raise Stop(why, status)
+
+
+def unknown(word: str) -> NoReturn:
+    stop(f"no such option: {word}; --help lists them", 2)
+
+
+def number(least: int, most: int | None = None) -> Option:
+    """An option that takes a number of this range."""
+    def read_number(word: str) -> int | None:
+        is_number = re.fullmatch("[0-9]{1,18}", word) and least <= int(word) and (most is None or int(word) <= most)
+        return int(word) if is_number else None
+
+    return f"a number of {least} or more" if most is None else f"a number from {least} to {most}", read_number
+
+
+def options(words: Iterable[str], known: dict[str, Option | None]) -> tuple[dict[str, Any], list[str]]:
+    """The values of the options among the words, by their names, and the other words, which are the files.
+
+    `known` has the options of the tool. One that takes nothing has None there, and then the value True.
+    """
+    found: dict[str, Any] = {}
+    files: list[str] = []
+    rest = list(words)
+    while rest:
+        word = rest.pop(0)
+        name, joined, value = word.partition("=")
+        if word == "--":
+            return found, files + rest
+        if not word.startswith("-") or word == "-":
+            files.append(word)
+        elif name not in known:
+            unknown(name)
+        elif (option := known[name]) is not None:
+            found[name] = value_of(name, option, [value] if joined else rest)
+        elif joined:
+            stop(f"{name} takes no value", 2)
+        else:
+            found[name] = True
+    return found, files
+
+
+def value_of(name: str, option: Option, rest: list[str]) -> Any:
+    """The value of an option, whose word is the first of these."""
+    takes, read_word = option
+    if not rest:
+        stop(f"{name} takes {takes}", 2)
+    word = rest.pop(0)
+    value = read_word(word)
+    if value is None:
+        stop(f"{name} takes {takes}, not {word or 'nothing'}", 2)
+    return value
+
+
+# ---- how a tool ends
+
+
+def one_line(text: object) -> str:
+    """A text without ends of lines."""
+    return " ".join(str(text).split())
+
+
+def unforeseen(error: BaseException) -> str:
+    """A line about what nobody foresaw, whose trace is kept in a file."""
+    what = f"this is a fault of the tool: {type(error).__name__}: {one_line(error)[:200]}"
+    try:
+        file, name = tempfile.mkstemp(prefix="zygos-", suffix=".trace")
+        with open(file, "w", encoding="utf-8", errors="backslashreplace") as kept:
+            kept.writelines(traceback.format_exception(error))
+    except OSError as fault:
+        return f"{what}; its trace could not be written: {fault.strerror}"
+    return f"{what}; please report it with the trace in {name}"
+
+
+def signalled(number: int, _: object) -> NoReturn:
+    raise Signalled(number)
+
+
+def ending_signals() -> list[signal.Signals]:
+    """The signals that end a tool. A hangup that is ignored, as nohup has it, stays ignored."""
+    return [number for number in ENDING if number != signal.SIGHUP or signal.getsignal(number) != signal.SIG_IGN]
+
+
+def leave(why: str, status: int) -> NoReturn:
+    """Ends the process with a line, after what was printed."""
+    try:
+        if sys.stdout is not None:
+            sys.stdout.flush()
+    except (OSError, ValueError):
+        pass
+    say(why)
+    os._exit(status)  # what could not be written is not tried again
+
+
+def carried_out(main: Callable[[list[str]], object], page: str) -> int:
+    """Carries out a tool with its words. Gives its status."""
+    status = 0
+    try:
+        if {"-h", "--help"} & set(sys.argv[1:]):
+            print(page.strip())
+        else:
+            main(sys.argv[1:])
+    except End as end_of:
+        status = end_of.status
+    sys.stdout.flush()
+    return status
+
+
+def run(main: Callable[[list[str]], object], page: str) -> NoReturn:
+    """Runs a tool with its words, and ends the process; `page` is what it prints for --help."""
+    signal.signal(signal.SIGPIPE, signal.SIG_DFL)
+    for number in ending_signals():
+        signal.signal(number, signalled)
+    if sys.stdout is None:
+        leave("standard output is closed", 1)
+    if isinstance(sys.stdout, io.TextIOWrapper):
+        sys.stdout.reconfigure(errors="backslashreplace")
+    try:
+        sys.exit(carried_out(main, page))
+    except Stop as why:
+        leave(str(why), why.status)
+    except Fault as fault:
+        leave(f"{fault}{fault.hint}", 1)
+    except Signalled as ending:
+        signal.signal(ending.number, signal.SIG_DFL)
+        os.kill(os.getpid(), ending.number)
+        os._exit(128 + ending.number)
+    except MemoryError:
+        leave("out of memory; record a shorter time", 1)
+    except OSError as error:
+        leave(f"{error.filename or STANDARD_OUTPUT}: {error.strerror or one_line(error)}", 1)
+    except Exception as error:
+        leave(unforeseen(error), UNFORESEEN)

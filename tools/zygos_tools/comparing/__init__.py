@@ -1,0 +1,1 @@
+"""The answers of two servers to one capture, and why they differ."""

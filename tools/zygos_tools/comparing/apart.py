@@ -1,0 +1,109 @@
+"""Which commands of a capture have the same answers in all its runs: those on keys that one connection alone calls.
+
+Other keys depend on the order in which connections are served, and so do all of them after a `flush_all`, and `stats`.
+"""
+from zygos_tools.files.formats import shown
+from zygos_tools.protocol.meaning import frames_of, line_of, words_of
+from zygos_tools.protocol.table import BY_WORD, COUNTING, JOINING, MAKING, NO_KIND, STORING, does, kind_of
+
+
+def frames_in(stream):
+    """The frames of a stream, which may be given as its frames."""
+    return stream if isinstance(stream, tuple) else frames_of(stream)
+
+
+class Callers:
+    """Which connections call which keys, and which keys are stored at all."""
+
+    def __init__(self, streams):
+        """Of streams by connection and session, or of their frames; `counted` are keys with a counter."""
+        self.of_key, self.second, self.stored, self.flush, self.connections = {}, {}, set(), None, set()
+        self.counted, self.streams, self.values, self.joined = set(), streams, None, set()
+        number, last = 0, None
+        for connection, session in sorted(streams):
+            number, last = number if connection == last else 0, connection
+            for command, frame in frames_in(streams[connection, session]):
+                self.connections.add(connection)
+                if command.verb == "flush_all" and not self.flush:
+                    self.flush = connection, number
+                self.stored.update(stored_by(command, frame))
+                if action_of(command, frame) in COUNTING:
+                    self.counted.update(keys_of(command, line_of(frame)))
+                for key in command.keys:
+                    if self.of_key.setdefault(key, connection) != connection:
+                        self.second.setdefault(key, connection)
+                number += 1
+
+    def order(self, command):
+        """Why the answer to a command may depend on the order of connections; None if it does not."""
+        if len(self.connections) < 2:
+            return None
+        if command.verb == "stats":
+            return "stats counts the calls of all connections"
+        for key in command.keys:
+            if key in self.second:
+                return f"connections {self.of_key[key]} and {self.second[key]} both call the key {shown(key)}"
+        if self.flush and command.keys:
+            return "connection {} sends flush_all, command {}".format(*self.flush)
+        return None
+
+    def may_store(self, key, value):
+        """Whether the capture may store this value under a key that several connections call."""
+        if self.values is None:
+            self.values = set()
+            for stream in self.streams.values():
+                for command, frame in frames_in(stream):
+                    self.look(command, frame)
+        is_counted = key in self.counted and value.rstrip(b" ").isdigit()
+        return is_counted or key in self.joined or hash((key, value)) in self.values
+
+    def look(self, command, frame):
+        """What a command stores under shared keys: a value, or one that it joins to what is there."""
+        action = action_of(command, frame)
+        for key in keys_of(command, line_of(frame)):
+            if key in self.second:
+                if command.value is not None and action in STORING:
+                    self.values.add(hash((key, command.value)))
+                elif action in JOINING or command.verb == "fault" and not is_touching(line_of(frame)):
+                    self.joined.add(key)
+
+
+
+def action_of(command, frame):
+    """What a command does to the item of its key; of a faulty line, what it may do on another server."""
+    if command.verb != "fault":
+        return does(command)
+    kind = kind_of(line_of(frame))
+    return kind.does if kind else ""
+
+
+def is_touching(line):
+    """Whether a line gives an item another exptime, and does no more to it."""
+    kind = kind_of(line)
+    return kind is not None and kind.touches
+
+
+def keys_of(command, line):
+    """The keys of a command; those of a line that is faulty here too, for a memcached may serve it."""
+    if command.verb != "fault":
+        return command.keys
+    words = words_of(line)
+    kind = BY_WORD.get(words[0], NO_KIND) if words else NO_KIND
+    return words[kind.key :] if kind.key > 1 else words[1:2]
+
+
+def timed_by(command, frame):
+    """The keys to whose items a command gives an exptime, and of faulty ones those that may get one."""
+    if command.verb == "fault":
+        line = line_of(frame)
+        return keys_of(command, line) if is_touching(line) or action_of(command, frame) in MAKING else ()
+    return command.keys if command.numbers.get("exptime", 0) else ()
+
+
+def stored_by(command, frame):
+    """The keys of which a command may make items where there are none; a faulty line may do so on another server."""
+    if action_of(command, frame) not in MAKING:
+        return ()
+    if command.verb == "fault":
+        return words_of(line_of(frame))[1:2]
+    return command.keys if command.value is not None else ()

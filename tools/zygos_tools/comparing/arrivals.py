@@ -1,0 +1,210 @@
+"""The commands of a capture in the order in which their last bytes came, and their recorded answers."""
+from bisect import bisect_right
+from collections import Counter, namedtuple
+
+from zygos_tools.comparing.steps import BOTH, by_commands, is_silent
+from zygos_tools.files import inputs
+from zygos_tools.files.formats import END, Close, Segment, capture_head, capture_records, capture_start, close, segment
+from zygos_tools.files.part import Fault
+from zygos_tools.protocol.answers import answers, groups
+from zygos_tools.protocol.meaning import Framer, frames_of
+
+FOREVER = 1 << 62
+# a command, with the connection and the session that sent it, and the number of the record in which its last byte came
+Arrival = namedtuple("Arrival", "connection session command frame record")
+
+
+class Arrivals:
+    """The commands of a capture; `sessions` has the number of sessions that each connection had so far."""
+
+    def __init__(self, name):
+        self.name, self.version, self.count, self.later = name, 1, 0, Counter()
+
+    def records(self):
+        """The records of the capture, each after its session."""
+        self.later.clear()
+        parts = inputs.parts(self.name)
+        part = next(parts, None)
+        if part is None or part.name != "capture":
+            raise Fault(f"{inputs.name_of(self.name)}: not a capture")
+        self.version, self.count = capture_head(part)
+        for record in capture_records(part, self.version, self.count):
+            yield self.later[record.connection], record
+            if isinstance(record, Close):
+                self.later[record.connection] += 1
+        for other in parts:
+            raise other.fault("not expected here: a capture is read alone")
+
+    def commands(self):
+        """The commands in order."""
+        framers = {}
+        for place, (session, record) in enumerate(self.records()):
+            connection = record.connection
+            if isinstance(record, Close):
+                framers.pop(connection, None)
+                continue
+            if connection not in framers:
+                framers[connection] = Framer()
+            for command, frame in framers[connection].feed(record.text):
+                yield Arrival(connection, session, command, frame, place)
+
+    def capture(self):
+        """The bytes of the capture."""
+        records = [close(*record) if isinstance(record, Close) else segment(*record) for _, record in self.records()]
+        return b"".join([capture_start(self.count, self.version), *records, END])
+
+    def sessions(self):
+        """All connections with their sessions, in the order of a replies file, once all records were read."""
+        for connection in range(self.count):
+            for session in range(self.later[connection] + 1):
+                yield connection, session
+
+
+class Kept(Arrivals):
+    """The commands of a capture that is kept, so that it may be standard input; `streams` are those of its sessions."""
+
+    def __init__(self, name):
+        super().__init__(name)
+        self.kept = list(super().records())
+        self.streams = streams_of(self.kept)
+
+    def records(self):
+        return iter(self.kept)
+
+    def commands(self):
+        """The commands in order; each stream is cut into frames once."""
+        going = {}
+        for place, (session, record) in enumerate(self.kept):
+            if isinstance(record, Close):
+                continue
+            key = record.connection, session
+            if key not in going:
+                going[key] = Going(frames_of(self.streams[key]))
+            for command, frame in going[key].take(len(record.text)):
+                yield Arrival(*key, command, frame, place)
+
+
+class Going:
+    """The frames of a stream whose bytes come in pieces."""
+
+    def __init__(self, frames):
+        self.frames, self.at, self.left = frames, 0, 0
+
+    def take(self, count):
+        """The frames that end in further bytes."""
+        self.left += count
+        begin = self.at
+        while self.at < len(self.frames) and len(self.frames[self.at][1]) <= self.left:
+            self.left -= len(self.frames[self.at][1])
+            self.at += 1
+        return self.frames[begin : self.at]
+
+
+def streams_of(records):
+    """The streams of records, by connection and session."""
+    found = {}
+    for session, record in records:
+        if not isinstance(record, Close):
+            found.setdefault((record.connection, session), []).append(record.text)
+    return {key: b"".join(pieces) for key, pieces in found.items()}
+
+
+# ---- recorded answers
+
+
+class Session:
+    """The answers of a session, in the order of its commands."""
+
+    def __init__(self, stream, text):
+        self.source, self.number, self.next = answers_of(stream, text), 0, None
+
+    def answer(self):
+        """The answer to the next command; None where there is none."""
+        number, self.number = self.number, self.number + 1
+        if self.next is None or self.next[0] < number:
+            self.next = next((one for one in self.source if one[0] >= number), (1 << 62, None))
+        return self.next[1] if self.next[0] == number else None
+
+
+def answers_of(stream, text):
+    """The answers of a session by the number of the command; those of which it is not known whose they are, are left
+    out."""
+    found = list(groups(stream))
+    if all(len(group) == 1 and group.is_whole and not is_silent(group) for group in found):
+        for group, answer in zip(found, answers(text)):
+            yield group[0][0], answer
+        return
+    for exchange in by_commands(stream, text, text):
+        if exchange.kind == BOTH and exchange.first is not None and len(exchange.group) == 1:
+            yield exchange.first, exchange.one[1]
+
+
+def outputs(name):
+    """The outputs of a replies file by connection and session."""
+    found, _ = inputs.outputs_in(name, "; tools/record writes one", ": the replies that were recorded are",
+                                 ": one replies file is read")
+    return {record[:2]: record.text for record in found}
+
+
+def answered(arrivals, name):
+    """The commands of a capture in order, each with its answer in a replies file; None where there is none."""
+    texts = recorded(arrivals, name)
+    return with_answers(arrivals, streams_of(arrivals.records()), texts)
+
+
+def recorded(arrivals, name):
+    """The outputs of a replies file, which is of the same traffic, by connection and session."""
+    for _ in arrivals.records():  # counts the sessions
+        pass
+    texts = outputs(name)
+    wanted = set(arrivals.sessions())
+    if wanted != set(texts):
+        raise Fault(f"not of the same traffic: {inputs.name_of(arrivals.name)} has {arrivals.count} connections and"
+                    f" {len(wanted)} sessions, {inputs.name_of(name)} has {len({key[0] for key in texts})} and"
+                    f" {len(texts)}")
+    return texts
+
+
+def with_answers(arrivals, streams, *outputs_of):
+    """The commands of a capture in order, each with its answers in outputs by connection and session."""
+    sessions = [{key: Session(stream, texts.get(key, b"")) for key, stream in streams.items()} for texts in outputs_of]
+    for arrival in arrivals.commands():
+        yield arrival, *(some[arrival[:2]].answer() for some in sessions)
+
+
+# ---- ends of commands
+
+
+def ends_of(arrivals, given):
+    """The records at whose time commands had ended at the latest; `given` has the commands, and what answered each.
+
+    Without the ends of answers, which `record --ends` writes, each client is taken to wait for them.
+    """
+    marks, begins, sessions = {}, {}, {}
+    for place, (session, record) in enumerate(arrivals.records()):
+        if isinstance(record, Segment):
+            (begins if record.text else marks).setdefault((record.connection, session), []).append(place)
+    for at, (arrival, *_) in enumerate(given):
+        sessions.setdefault(arrival[:2], []).append(at)
+    found = [FOREVER] * len(given)
+    for key, places in sessions.items():
+        own = [given[at] for at in places]
+        is_hidden = any("q" in arrival.command.letters for arrival, *_ in own)
+        by_key = by_begins(own, begins.get(key, ())) if is_hidden or not marks else by_marks(own, marks.get(key, ()))
+        last = FOREVER
+        for at, end in reversed(list(zip(places, by_key))):
+            found[at] = last = min(last, end)
+    return found
+
+
+def by_marks(given, marks):
+    """The ends of the answers of a session, in order."""
+    left = iter(marks)
+    return [FOREVER if one is None or arrival.command.quiet else next(left, FOREVER) for arrival, one, *_ in given]
+
+
+def by_begins(given, begins):
+    """What each client sent next; a command with `noreply` ends with a later one."""
+    for arrival, *_ in given:
+        at = bisect_right(begins, arrival.record)
+        yield FOREVER if arrival.command.quiet or at == len(begins) else begins[at]

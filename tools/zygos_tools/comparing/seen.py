@@ -1,0 +1,107 @@
+"""What commands and their recorded answers say of the items of keys: how a server that answered so went on from an item.
+
+The server is a memcached: a number that became shorter keeps its length, with spaces.
+"""
+import re
+from collections import namedtuple
+
+from zygos_tools.protocol.answers import first_word, items, meta
+from zygos_tools.protocol.table import COUNTING, JOINING, SAME, classic_word, does
+
+# the item of a key, with its unique where that was shown; None where there is none
+Item = namedtuple("Item", "flags value unique", defaults=[None])
+UNKNOWN, WRONG = object(), object()
+NUMBER = re.compile(rb"([0-9]{1,20}) *")
+
+
+def shown(command, answer):
+    """The items that an answer to a retrieval shows, by key: None for a miss, UNKNOWN for one that is not shown whole."""
+    found = dict.fromkeys(command.keys)
+    if answer.startswith(b"VALUE "):
+        for item in items(answer):
+            if item.is_right():
+                found[item.key] = Item(item.flags, item.value, item.unique)
+    elif answer.startswith((b"HD", b"VA ")):
+        shows = meta(answer)
+        is_shown = None not in (shows.flags, shows.value)
+        found[command.keys[0]] = Item(shows.flags, shows.value) if is_shown else UNKNOWN
+    return found
+
+
+class Seen:
+    """What is known of a command by its answer, which may be None where it is not known."""
+
+    def __init__(self, command, answer):
+        self.command, self.name = command, does(command)
+        self.is_retrieval = self.name == "get"
+        self.items = shown(command, answer) if self.is_retrieval and answer is not None else None
+        self.word = classic_word(self.name, first_word(answer)) if answer and answer.strip() else None
+        self.is_reading = self.is_retrieval or self.word in SAME
+
+    def after(self, key, item):
+        """The item of a key after the command, if there was this one before; WRONG if a server then answers otherwise."""
+        if item is UNKNOWN:
+            return self.left(key, item)
+        if self.is_retrieval:
+            return self.read(key, item)
+        word, new = self.made(item)
+        return new if self.word in (None, word) else WRONG
+
+    def read(self, key, item):
+        found = self.items[key] if self.items else item
+        if (found is None) != (item is None) or found is UNKNOWN or found is None:
+            return WRONG if (found is None) != (item is None) else item
+        if item[:2] != found[:2] or None not in (item.unique, found.unique) and item.unique != found.unique:
+            return WRONG
+        return item if found.unique is None else found
+
+    def made(self, item):
+        """What a server with this item answers, and the item after it."""
+        name, command = self.name, self.command
+        if name == "delete":
+            return (b"DELETED", None) if item else (b"NOT_FOUND", None)
+        if name in COUNTING:
+            return self.counted(item)
+        if name == "cas":
+            return self.exchanged(item)
+        if name in JOINING:
+            if not item:
+                return b"NOT_STORED", None
+            value = item.value + command.value if name == "append" else command.value + item.value
+            return b"STORED", Item(item.flags, value)
+        if name in ("add", "replace") and bool(item) == (name == "add"):
+            return b"NOT_STORED", item
+        return b"STORED", self.stored()
+
+    def stored(self):
+        return Item(self.command.numbers["flags"], self.command.value) if self.command.value is not None else UNKNOWN
+
+    def exchanged(self, item):
+        if not item:
+            return b"NOT_FOUND", None
+        is_same = item.unique == self.command.numbers["unique"]
+        if is_same or item.unique is None and self.word != b"EXISTS":
+            return b"STORED", self.stored()
+        return b"EXISTS", item
+
+    def counted(self, item):
+        if not item:
+            return b"NOT_FOUND", None
+        number = NUMBER.fullmatch(item.value)
+        if not number:
+            return b"CLIENT_ERROR", item
+        old, amount = int(number[1]), self.command.numbers["amount"]
+        new = b"%d" % ((old + amount) % (1 << 64) if self.name == "incr" else max(0, old - amount))
+        return new, Item(item.flags, new.ljust(len(item.value)))
+
+    def left(self, key, item):
+        """The item of a key after the command, by the answer alone."""
+        if self.is_retrieval:
+            return self.items[key] if self.items else item
+        if self.word == b"STORED" and self.name not in JOINING or self.name == "set" and not self.is_reading:
+            return self.stored()
+        if self.name == "delete" or self.word == b"NOT_FOUND" or self.word == b"NOT_STORED" and self.name != "add":
+            return None
+        if self.name in COUNTING and self.word and self.word.isdigit():
+            return Item(item.flags if item and item is not UNKNOWN else 0, self.word)
+        return UNKNOWN

@@ -1,0 +1,1 @@
+"""Captures, journals and replies files: how they are read, and how they are written."""

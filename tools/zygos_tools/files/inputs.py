@@ -1,0 +1,97 @@
+"""The inputs of the tools: files by their names, and standard input, whose name is -."""
+import functools
+import sys
+from collections.abc import Callable, Iterator
+from typing import Protocol
+
+from zygos_tools.files.formats import FORMATS, Output, capture_head, replies_records, replies_version, skim
+from zygos_tools.files.part import PIECE, Fault, Part
+
+# how many bytes say what a file is
+MAGIC = 6
+
+
+class Reads(Protocol):
+    """A file that gives what there is, up to a number of bytes."""
+
+    def read1(self, count: int) -> bytes: ...
+
+
+def name_of(name: str) -> str:
+    """The name of an input as messages have it."""
+    return "standard input" if name == "-" else name
+
+
+def pieces(name: str) -> Callable[[int], bytes]:
+    """A function that reads an input: up to `count` of its next bytes, and none at its end."""
+    if name == "-" and sys.stdin is None:
+        raise Fault("standard input is closed")
+    file: Reads = sys.stdin.buffer if name == "-" else open(name, "rb")  # type: ignore[assignment]
+
+    def more(count: int) -> bytes:
+        try:
+            return file.read1(count)
+        except OSError as error:
+            raise OSError(error.errno, error.strerror, name_of(name)) from None
+
+    return more
+
+
+def read(name: str) -> bytes:
+    """The bytes of an input."""
+    return b"".join(iter(functools.partial(pieces(name), PIECE), b""))
+
+
+def parts(name: str) -> Iterator[Part]:
+    """The files of zygos in an input, one after the other; a fault names the input, the part and the place in it.
+
+    The caller reads each part to its end, or takes nothing of it: then it is read here, for its faults.
+    """
+    more, text, at = pieces(name), b"", 0
+    while True:
+        while len(text) < MAGIC and (piece := more(PIECE)):
+            text += piece
+        if not text:
+            return
+        if text[:MAGIC] not in FORMATS:
+            raise Fault(f"{name_of(name)}: no capture, journal or replies file begins at byte {at}")
+        after = f", in the part that begins at byte {at}" if at else ""
+        part = Part(FORMATS[text[:MAGIC]], text, more, f"{name_of(name)}: ", after)
+        yield part
+        if not part.place:
+            skim(part)
+        at, text = at + part.place, part.text[part.at :]
+
+
+def capture_alone(name: str) -> bytes:
+    """The bytes of an input that is one capture; anything after its end is refused."""
+    text = read(name)
+    if text.startswith(b"ZYGREP"):
+        raise Fault(f"{name_of(name)}: this is a replies file; the capture comes first")
+    part = Part("capture", text, before=f"{name_of(name)}: ")
+    capture_head(part)
+    part.at = 0
+    skim(part)
+    if part.place < len(text):
+        what = FORMATS.get(text[part.place : part.place + MAGIC])
+        after = f"a {what} begins" if what else "bytes follow the end of the capture"
+        raise Fault(f"{name_of(name)}: {after} at byte {part.place}; a capture is read alone")
+    return text
+
+
+def outputs_in(name: str, hint: str = "", capture_hint: str = "", second_hint: str = "") -> tuple[list[Output], bool]:
+    """The outputs of the replies file in an input, and whether a journal comes before it.
+
+    `hint` says what writes one if there is none, `capture_hint` and `second_hint` what may be done about a capture or
+    something after the replies.
+    """
+    found, has_journal = None, False
+    for part in parts(name):
+        if found is not None or part.name == "capture":
+            raise part.fault(f"not expected here{capture_hint if part.name == 'capture' else second_hint}")
+        if part.name == "replies":
+            found = list(replies_records(part, replies_version(part)))
+        has_journal = has_journal or part.name == "journal"
+    if found is None:
+        raise Fault(f"{name_of(name)}: no replies file in it{hint}")
+    return found, has_journal

@@ -1,0 +1,20 @@
+"""Looks for an order of all calls on a store that explains what a server answered.
+
+| Module | What it does |
+|---|---|
+| `events` | commands as they were asked and answered, and their calls |
+| `reading` | the commands of a recording, each with its answer |
+| `times` | when each command can have been carried out |
+| `seeing` | what an answer says of the replies to the calls of its command |
+| `values`, `states` | the values that items have, and what each call does to the item of its key |
+| `origin` | the item that a key had before the recording |
+| `needs` | what the calls that are left need of a key |
+| `search` | an order of the calls on one key, or on a few together |
+| `keys` | the orders of all keys |
+| `graph` | one order of all calls, made of those of the keys; circles where there is none |
+| `fitting`, `mending` | fits the orders of the keys in a circle to each other |
+| `numbering` | an order in which stores get the numbers that the server gave them |
+| `reasons` | the few calls that no order explains |
+| `certificate` | the capture, the journal and the replies that `zygos check` takes, with what is translated |
+| `judge` | all this, one after the other |
+"""

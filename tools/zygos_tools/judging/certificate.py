@@ -1,0 +1,299 @@
+"""The files for `zygos check` and `zygos linear`: the capture, the journal of an order of all calls, and the replies.
+
+The capture has the recorded records in the recorded order, so that it keeps what is known of times. A command that is
+translated stands in the segments in which it came. A segment without bytes, the mark of an answer, is left out only
+with its answer. The connections that are added send each command before the first record that needs it, and have no
+marks.
+
+| Counted as | What |
+|---|---|
+| touch, gat | commands that the profile leaves out, read as `mg` and `get` |
+| lines cut at a NUL | lines of which memcached reads only what comes before the NUL |
+| now noreply | a command at the end of a session that was carried out and not answered |
+
+What else is counted is in `replay`.
+"""
+from __future__ import annotations
+
+import tempfile
+from array import array
+from collections import Counter
+from collections.abc import Iterable, Iterator
+
+from zygos_tools.comparing.apart import is_touching
+from zygos_tools.files.formats import (END, JOURNAL_START, MOST_CONNECTIONS, MOST_HOLD, Segment, capture_head,
+                                       capture_records, capture_start, close, hold, output_start, pieces, replies_start,
+                                       segment)
+from zygos_tools.files.part import Part
+from zygos_tools.judging.events import CAS, Unknown
+from zygos_tools.judging.keys import CHANGED, WAS_LOST, Keys, Order
+from zygos_tools.judging.reading import Recording, sessions_of
+from zygos_tools.judging.replay import Replay
+from zygos_tools.judging.table import ANSWERED, DROPPED, LOST, REPLACED, VERBS
+from zygos_tools.protocol.meaning import line_of, words_of
+from zygos_tools.protocol.uniques import cut_line, with_unique
+
+# what is counted of a command that another one takes the place of, by its first word
+READ_AS = {b"touch": "touch", b"gat": "gat", b"gats": "gat", b"bget": "gat", b"version": "words left out",
+           b"mn": "words left out"}
+
+
+class Added:
+    """What the connections send that are added: `sets` stores the items that were there before, and `deletes` removes
+    items that the server lost, each before a record."""
+
+    def __init__(self, count: int, first: Iterable[tuple[bytes, tuple[int, bytes]]], losses: int):
+        self.first = list(first)
+        self.setter, self.deleter = count, count + bool(self.first)
+        self.count = self.deleter + bool(losses)
+        self.deletes: list[tuple[int, bytes]] = []
+        if self.count > MOST_CONNECTIONS:
+            raise Unknown("connections are to be added, and there are as many as a capture can have")
+
+    def sets(self) -> Iterator[bytes]:
+        """The segments that store items."""
+        for key, (flags, value) in self.first:
+            yield from pieces(self.setter, b"set %s %d 0 %d noreply\r\n%s\r\n" % (key, flags, len(value), value))
+
+
+class Certificate:
+    """What is handed to the program; `counts` says what is translated.
+
+    `order` has the calls by their numbers, and losses of items from `base` on, whose keys `lost` has. `begins` are the
+    times at which commands were sent.
+    """
+
+    def __init__(self, recording: Recording, order: array[int], base: int, lost: list[bytes],
+                 keys: Keys, begins: array[int]):
+        self.recording, self.table, self.begins = recording, recording.table, begins
+        there = [(key, item) for key, item in sorted(keys.first.items()) if item]
+        self.added = Added(recording.count, there, len(lost))
+        self.leave_out(order, base)
+        self.entries = tempfile.TemporaryFile()
+        self.entries.write(JOURNAL_START)
+        self.replay = Replay(self.table, self.entries)
+        self.carry_out(order, base, lost)
+        self.entries.writelines([*self.holds(), END])
+        self.counts: Counter[str] = self.replay.counts + recording.notes
+        self.counts["items that were there before"] += len(there)
+        explained = sum(map(self.losses_by_time, map(keys.found.__getitem__, set(lost))))
+        self.counts["losses of items that an exptime may explain"] += explained
+        self.counts["losses of items"] += len(lost) - explained
+        self.frames = self.translated()
+
+    def leave_out(self, order: array[int], base: int) -> None:
+        """Drops the commands at the end of a session that were not answered and are not in the order."""
+        table = self.table
+        if not any(state & LOST and not state & DROPPED for state in table.state):
+            return
+        made = {table.command[call] for call in order if call < base and table.state[table.command[call]] & LOST}
+        for command, state in enumerate(table.state):
+            if state & LOST and not state & DROPPED and table.count_of_calls(command) and command not in made:
+                table.state[command] |= DROPPED
+                self.recording.notes[f"unanswered {VERBS[table.verb[command]]} left out"] += 1
+
+    def losses_by_time(self, order: Order) -> int:
+        """How many of the losses of a key came after a command that gave the item an exptime."""
+        table, has_exptime, count = self.table, False, 0
+        for call, mark in zip(order.calls, order.marks):
+            count += bool(mark & WAS_LOST) and has_exptime
+            line = table.original(table.command[call])
+            words = words_of(line_of(line))
+            if is_touching(line_of(line)):
+                has_exptime = words[1 if words[0] in (b"gat", b"gats") else 2] not in (b"0", b"-0")
+            elif mark & CHANGED and table.kind[call] <= CAS:
+                has_exptime = table.meaning(table.command[call]).numbers.get("exptime", 0) != 0
+        return count
+
+    # ---- the journal
+
+    def carry_out(self, order: array[int], base: int, lost: list[bytes]) -> None:
+        """Carries out all calls in their order."""
+        replay, added, begins, commands = self.replay, self.added, self.begins, self.table.command
+        for place, (key, item) in enumerate(added.first):
+            replay.add(added.setter, place, key, item)
+        latest, make, count = 0, replay.make, len(commands)
+        for node in order:
+            if node < count:
+                make(node)
+                begin = begins[commands[node]]
+                if begin > latest:
+                    latest = begin
+            else:
+                key = lost[node - base]
+                replay.add(added.deleter, len(added.deletes), key, None)
+                added.deletes.append((latest // 2, b"delete %s noreply\r\n" % key))
+        replay.others()
+        replay.end()
+
+    def holds(self) -> Iterator[bytes]:
+        """The holds of all connections."""
+        counts = Counter(connection for command, connection in enumerate(self.table.connection)
+                         if not self.table.state[command] & DROPPED)
+        counts[self.added.setter] += len(self.added.first)
+        counts[self.added.deleter] += len(self.added.deletes)
+        for connection in range(self.added.count):
+            left = counts[connection]
+            while left:
+                some = min(left, MOST_HOLD)
+                yield hold(connection, 0, some)
+                left -= some
+
+    # ---- the capture
+
+    def translated(self) -> dict[int, bytes]:
+        """The commands that are not sent as they were recorded."""
+        table, found = self.table, {}
+        for command, state in enumerate(table.state):
+            if state & DROPPED:
+                found[command] = b""
+            elif state & (REPLACED | LOST) or command in self.replay.given:
+                found[command] = self.frame(command, state)
+        return found
+
+    def frame(self, command: int, state: int) -> bytes:
+        """The bytes of a command that is translated."""
+        table, frame, given = self.table, self.table.frame(command), self.replay.given.get(command)
+        if state & REPLACED:
+            line = table.original(command)
+            word = line.split(None, 1)[0]
+            if b"\0" not in line[: line.index(b"\n")]:
+                self.counts[READ_AS.get(word, "words left out")] += 1
+        if given is not None:
+            frame = with_unique(frame, given)
+        if state & LOST:
+            self.counts["now noreply"] += 1
+            frame = self.with_noreply(command, frame)
+        return frame
+
+    def with_noreply(self, command: int, frame: bytes) -> bytes:
+        """A command that is not answered; a meta command as the classic one that does the same."""
+        words, end, block = cut_line(frame)
+        meaning, call = self.table.meaning(command), self.table.first_call[command]
+        if meaning.verb == "md":
+            words = [b"delete", words[1]]
+        elif meaning.verb == "ms":
+            is_cas = self.table.kind[call] == CAS
+            given = self.replay.given.get(command, self.table.given[call])
+            words = [(meaning.call or "").encode(), words[1], b"%d" % self.table.flags[call], b"0",
+                     b"%d" % self.table.value_size[call], *[b"%d" % given] * is_cas]
+        text: bytes = b" ".join([*words, b"noreply"]) + end + block
+        return text
+
+    def is_recorded_capture(self) -> bool:
+        """Whether the capture is the recorded one."""
+        return not self.frames and self.added.count == self.recording.count and not any(self.hidden())
+
+    def hidden(self) -> Iterator[int]:
+        """The commands whose answers zygos does not give."""
+        return (command for command, answer in self.replay.answers.items() if not answer)
+
+    def capture(self) -> Iterator[bytes]:
+        """The capture, in pieces."""
+        if self.is_recorded_capture():
+            yield self.recording.capture
+            return
+        part = Part("capture", self.recording.capture)
+        version, count = capture_head(part)
+        yield capture_start(self.added.count, version)
+        yield from self.added.sets()
+        writers: dict[int, Session] = {}
+        sessions, deletes = Counter[int](), iter([*self.added.deletes, (1 << 62, b"")])
+        due, text = next(deletes)
+        of_session = self.by_session()
+        for place, record in enumerate(capture_records(part, version, count)):
+            while due <= place:
+                yield segment(self.added.deleter, text)
+                due, text = next(deletes)
+            connection = record.connection
+            if not isinstance(record, Segment):
+                yield close(connection)
+                sessions[connection] += 1
+                writers.pop(connection, None)
+                continue
+            writer = writers.get(connection)
+            if writer is None:
+                writer = writers[connection] = Session(self, of_session[connection, sessions[connection]])
+            if record.text:
+                yield from pieces(connection, writer.sent(record.text))
+            elif writer.keeps_mark():
+                yield segment(connection, b"")
+        yield END
+
+    def by_session(self) -> dict[tuple[int, int], array[int]]:
+        """The commands of each session."""
+        return dict(sessions_of(self.recording))
+
+    # ---- the journal and the replies
+
+    def journal(self) -> Iterator[bytes]:
+        """The journal, in pieces."""
+        self.entries.seek(0)
+        while piece := self.entries.read(1 << 20):
+            yield piece
+
+    def replies(self) -> Iterator[bytes]:
+        """The replies, in pieces."""
+        version = 2 if any(self.recording.sessions.values()) else self.recording.version
+        yield replies_start(version)
+        for (connection, session), asked in sessions_of(self.recording):
+            text = b"".join(self.answers(connection, session, asked))
+            yield output_start(version, connection, session, len(text))
+            yield text
+        for connection in range(self.recording.count, self.added.count):
+            yield output_start(version, connection, 0, 0)
+        yield END
+
+    def answers(self, connection: int, session: int, asked: array[int]) -> Iterator[bytes]:
+        """The answers of zygos to the commands of a session."""
+        table, ours, text = self.table, self.replay.answers, self.table.outputs[connection, session]
+        states, at, size = table.state, table.answer_at, table.answer_size
+        for command in asked:
+            if states[command] & DROPPED:
+                continue
+            if command in ours:
+                yield ours[command]
+            elif states[command] & ANSWERED:
+                yield text[at[command] : at[command] + size[command]]
+
+    def pieces(self) -> Iterator[bytes]:
+        """All three files, one after the other, in pieces."""
+        yield from self.capture()
+        yield from self.journal()
+        yield from self.replies()
+
+
+class Session:
+    """A session of the capture that is written: the commands whose bytes come next, and whose marks."""
+
+    def __init__(self, certificate: Certificate, asked: array[int]):
+        self.table, self.frames, self.answers = certificate.table, certificate.frames, certificate.replay.answers
+        self.asked, self.at, self.read, self.written = asked, 0, 0, 0
+        self.answered = iter([command for command in asked if self.table.state[command] & ANSWERED])
+
+    def sent(self, text: bytes) -> bytes:
+        """The bytes of a segment in place of those that were recorded. Of a command that ends later at least one byte
+        is left for then, so that it is sent when it was."""
+        found, at, sizes = [], 0, self.table.frame_size
+        while at < len(text) and self.at < len(self.asked):
+            command = self.asked[self.at]
+            frame, count = self.frames.get(command), sizes[command] - self.read
+            if count > len(text) - at:
+                self.read += len(text) - at
+                if frame is None:
+                    found.append(text[at:])
+                else:
+                    stop = min(self.written + len(text) - at, max(0, len(frame) - 1))
+                    found.append(frame[self.written : stop])
+                    self.written = max(self.written, stop)
+                return b"".join(found)
+            found.append(text[at : at + count] if frame is None else frame[self.written :])
+            at, self.at, self.read, self.written = at + count, self.at + 1, 0, 0
+        return b"".join([*found, text[at:]])
+
+    def keeps_mark(self) -> bool:
+        """Whether the next mark is that of an answer which zygos gives too."""
+        command = next(self.answered, None)
+        if command is None:
+            return True
+        return not self.table.state[command] & DROPPED and self.answers.get(command) != b""

@@ -1,0 +1,296 @@
+"""Judges a server by its recorded answers: looks for an order of all calls that explains them, for the proved checkers.
+
+usage: tools/judge [--check] [--out FILES] [--order FILE] [--over] [--shards N] [--times KIND] [--warm] [--may-forget]
+                   [--keys GLOBS] [--except-keys GLOBS] [--first] [--json] [--seconds N] [--states N] [--processes N]
+                   CAPTURE REPLIES
+
+    tools/judge --check examples/shared.cap examples/shared.replies
+
+CAPTURE, REPLIES  what clients sent and what the server answered, best as `tools/record --ends` writes them
+--check       runs `./zygos linear` on the files that are made, or `./zygos check` if times are not known, and prints
+              what it says
+--out FILES   where the files are written, one after the other: a capture, a journal of the order, and replies. Without
+              --out, --order, --check and --json they go to standard output, and what is said to standard error
+--order FILE  where the order of the commands is written, for tools/inline and tools/compare
+--over        write over files; without it, a file that is not empty is refused
+--shards N    of the run whose journal it is, 1 to 256 (if left out, 16); the checkers take the same number
+--times KIND  what is known of when commands ended. ends: segments without bytes, which `--ends` writes; segments: each
+              client waits for its answers before it sends again; none. If left out, ends where there are some
+--warm        the server had items before: a connection is added that stores those that answers imply
+--may-forget  the server may lose items: a connection is added that deletes them where they are missed
+--keys GLOBS  judges the keys that match one of these patterns, parted by spaces, as 'user:* count:*'
+--except-keys GLOBS  judges all keys but those that match
+--first       stops at the first fault; without it, all keys are searched
+--json        prints one line with the verdict and the counts, and nothing else
+--seconds N   gives up after N seconds (if left out, 600)
+--states N    gives up a key after N states of it (if left out, 200,000)
+--processes N  searches keys in N processes (if left out, as many as there are processors that are not busy)
+
+The first line is `order found: ..`, and a second one says what is translated; `no: ..`, with a few commands that no
+order explains; or `unknown: ..`, with the reason. Then follow how many keys have an order, and a line for each that has
+none. The status is 0, 1 or 3, and after an order, with --check, that of the checker, which says `yes`. For a fault in a
+file it is 1, and for one in the words 2. docs/JUDGE.md says what `yes` means, and what it does not.
+"""
+from __future__ import annotations
+
+import gc
+import json
+import os
+import re
+import subprocess
+import sys
+import tempfile
+import time
+from collections import Counter
+from collections.abc import Callable, Iterator
+from fnmatch import fnmatchcase
+from typing import IO, Any
+
+from zygos_tools.cli import ends
+from zygos_tools.cli.screen import Screen
+from zygos_tools.comparing.search import connections_of, digest, order_text
+from zygos_tools.files.formats import Output, shown
+from zygos_tools.files.inputs import capture_alone, outputs_in
+from zygos_tools.files.outputs import Beside, refuse_full, told_apart
+from zygos_tools.judging import sharing
+from zygos_tools.judging.certificate import Certificate
+from zygos_tools.judging.events import No, Unknown, Verdict, counted
+from zygos_tools.judging.judge import Clock, Judge
+from zygos_tools.judging.times import ENDS, NONE, SEGMENTS
+from zygos_tools.repository import TOP
+
+# beside the folder that the tool was called in, which may be a link to the repository's
+BESIDE = os.path.join(os.path.dirname(os.path.dirname(os.path.abspath(sys.argv[0]))), "zygos")
+ZYGOS = BESIDE if os.path.exists(BESIDE) else os.path.join(TOP, "zygos")
+STATUS = {"no": 1, "unknown": 3}
+NO_ENDS = ("the capture has no ends of answers: each client is taken to have waited for its answers; tools/record"
+           " --ends writes them; a `no` may be false without them")
+NOT_USED = "ends of answers are not used (--times segments): each client is taken to have waited"
+NOT_CLOSED = "commands name keys that are left out too, so no checker is asked"
+# of how many keys without an order something is said
+MOST_FAULTS = 100
+# memory: of the tool itself in MB, and of each command and each byte of the files in bytes; less than so many MB is not
+# worth a line
+OWN, OF_COMMAND, OF_BYTE, MUCH = 30, 250, 1.2, 200
+# of how many bytes the commands are counted
+SAMPLE = 1 << 20
+LINE = re.compile(rb"(?:\n|S\0\0..\0\0..)(?:gets?|gats?|set|add|replace|append|prepend|cas|incr|decr|delete|touch"
+                  rb"|m[gsdn]) ", re.DOTALL)
+GLOBS: ends.Option = ("patterns of keys", lambda word: word or None)
+OPTIONS: dict[str, ends.Option | None] = {
+           "--check": None, "--out": ends.OUTPUT, "--order": ends.OUTPUT, "--over": None,
+           "--shards": ends.number(1, 256),
+           "--times": ("ends, segments or none", lambda word: word if word in (ENDS, SEGMENTS, NONE) else None),
+           "--warm": None, "--may-forget": None, "--keys": GLOBS, "--except-keys": GLOBS, "--first": None,
+           "--json": None,
+           "--seconds": ends.number(1), "--states": ends.number(1), "--processes": ends.number(1, 64)}
+
+
+def chosen_by(given: dict[str, Any]) -> Callable[[bytes], bool] | None:
+    """Which keys are judged; None where all are."""
+    keys, but = given.get("--keys", "").split(), given.get("--except-keys", "").split()
+    if not keys and not but:
+        return None
+
+    def is_chosen(key: bytes) -> bool:
+        name = shown(key)
+        is_in = not keys or any(fnmatchcase(name, one) for one in keys)
+        return is_in and not any(fnmatchcase(name, one) for one in but)
+
+    return is_chosen
+
+
+def expected_memory(capture: bytes, outputs_of: list[Output]) -> tuple[int, int]:
+    """About how many commands a capture has, and how many MB their judging takes."""
+    sample = capture[:SAMPLE]
+    commands = len(LINE.findall(sample)) * len(capture) // max(1, len(sample))
+    size = len(capture) + sum(len(one.text) for one in outputs_of)
+    return commands, int(OWN + (commands * OF_COMMAND + size * OF_BYTE) / 1e6)
+
+
+class Judging:
+    """A recording that is judged by the words of the command."""
+
+    def __init__(self, names: list[str], given: dict[str, Any]):
+        self.names, self.given, self.screen, self.begun = names, given, Screen(), time.monotonic()
+        self.is_json = "--json" in given
+        self.to_output = not {"--check", "--out", "--order", "--json"} & set(given)
+        self.judge: Judge | None = None
+        self.certificate: Certificate | None = None
+        self.checked = self.recording = ""
+        self.clock = Clock(given.get("--seconds", 600), self.screen.ticker())
+
+    def say(self, line: str) -> None:
+        """Prints a line."""
+        self.screen.clear()
+        if not self.is_json:
+            print(line, file=sys.stderr if self.to_output else sys.stdout)
+
+    # ---- the search
+
+    def run(self) -> int:
+        """Judges, prints what is to be said, and gives the status."""
+        faults: list[Verdict] = []
+        try:
+            faults = self.search()
+        except Verdict as verdict:
+            faults = [*(self.judge.faults if self.judge else []), verdict]
+            if self.judge and verdict in self.judge.faults:
+                faults.pop()
+        self.screen.clear()
+        if faults:
+            return self.refuse(faults)
+        return self.accept()
+
+    def search(self) -> list[Verdict]:
+        """Looks for an order. Gives the faults, if there are some."""
+        given, capture, replies = self.given, capture_alone(self.names[0]), outputs_in(self.names[1])[0]
+        commands, megabytes = expected_memory(capture, replies)
+        if megabytes > MUCH:
+            self.screen.say(f"about {commands:,} commands, for which about {megabytes:,} MB of memory are needed")
+        judge = self.judge = Judge(
+            capture, replies, given.get("--shards", 16), given.get("--times"), "--warm" in given,
+            "--may-forget" in given, given.get("--states", 200000), self.clock, is_first="--first" in given,
+            is_chosen=chosen_by(given))
+        if "--order" in given:
+            self.recording = digest(capture, {one[:2]: one.text for one in replies})
+        del capture, replies
+        if judge.kind == ENDS and not judge.recording.marks:
+            ends.stop("this capture has no ends of answers (record with --ends); --times segments or none", 2)
+        count = len(judge.table.kind)
+        judge.search(given.get("--processes") or sharing.free_processors(count))
+        if judge.faults:
+            return judge.faults
+        judge.merge()
+        if judge.is_closed:
+            self.certificate = judge.certificate()
+        return []
+
+    # ---- what is said
+
+    def counts(self, faults: list[Verdict]) -> dict[str, int]:
+        """How many keys have an order, have none, or are unknown."""
+        no = {key for fault in faults if isinstance(fault, No) for key in fault.keys}
+        unknown = {key for fault in faults if isinstance(fault, Unknown) for key in fault.keys} - no
+        total = len(self.judge.keys.names) if self.judge and hasattr(self.judge, "keys") else 0
+        done = len(self.judge.keys.found.keys() - no - unknown) if total and self.judge else 0
+        return {"keys": total, "ordered": done, "without": len(no), "unknown": len(unknown)}
+
+    def refuse(self, faults: list[Verdict]) -> int:
+        """Prints a no or an unknown. Gives the status."""
+        faults.sort(key=lambda fault: (fault.word != "no", fault.record is None, fault.record or 0))
+        for line in faults[0].told():
+            self.say(line)
+        counts = self.counts(faults)
+        if counts["keys"] and "--first" not in self.given and (len(faults) > 1 or counts["keys"] > 1):
+            self.say(f"{counted(counts['keys'], 'key')}: {counts['ordered']:,} with an order,"
+                     f" {counts['without']:,} without, {counts['unknown']:,} unknown")
+        for fault in faults[:MOST_FAULTS] if len(faults) > 1 else ():
+            self.say(fault.brief())
+        if len(faults) > MOST_FAULTS:
+            self.say(f"  and {len(faults) - MOST_FAULTS:,} more")
+        self.say_left_out()
+        if faults[0].word == "no" and self.judge and self.judge.kind == SEGMENTS:
+            self.say(NOT_USED if self.judge.recording.marks else NO_ENDS)
+        if self.is_json:
+            self.print_json(faults[0].word, faults)
+        return STATUS[faults[0].word]
+
+    def say_left_out(self) -> None:
+        """Says which commands are left out by the words."""
+        left = self.judge.recording.notes["commands on keys left out"] if self.judge else 0
+        if left:
+            self.say(f"commands on keys left out: {left:,}")
+
+    def lines(self, judge: Judge) -> Iterator[str]:
+        """What is said of an order that was found."""
+        commands = len(judge.table.verb)
+        yield f"order found: {commands} commands, {len(judge.order)} calls, {len(judge.keys.names)} keys"
+        found = self.certificate.counts if self.certificate else judge.recording.notes
+        counts = ", ".join(f"{name} {count}" for name, count in sorted(found.items()) if count)
+        yield f"translated: {counts}" if counts else "nothing is translated"
+        if judge.kind == SEGMENTS:
+            yield NOT_USED if judge.recording.marks else NO_ENDS
+        elif judge.kind == NONE:
+            yield "nothing is taken to be known of times"
+        if not judge.is_closed:
+            yield NOT_CLOSED
+
+    def accept(self) -> int:
+        """Writes the files of an order, and asks the checker. Gives the status."""
+        assert self.judge
+        for line in self.lines(self.judge):
+            self.say(line)
+        if "--order" in self.given:
+            self.write_order(self.judge)
+        status = 0
+        if self.certificate:
+            status = self.write(self.certificate)
+        if self.is_json:
+            self.print_json(self.checked.split(" ")[0] if self.checked else "order found", [])
+        return status
+
+    def write(self, certificate: Certificate) -> int:
+        """Writes the files where they are wanted. Gives the status."""
+        if self.to_output:
+            sys.stdout.buffer.writelines(certificate.pieces())
+        if "--out" in self.given:
+            with Beside(self.given["--out"], "--over" in self.given) as out:
+                out.write(certificate.pieces())
+        if "--check" not in self.given:
+            return 0
+        if "--out" in self.given:
+            with open(self.given["--out"], "rb") as file:
+                return self.check(file)
+        with tempfile.TemporaryFile() as made:
+            made.writelines(certificate.pieces())
+            made.seek(0)
+            return self.check(made)
+
+    def write_order(self, judge: Judge) -> None:
+        """Writes the order of the commands."""
+        counts = {connection: len(asked) for connection, asked in enumerate(judge.recording.of_connection)}
+        with Beside(self.given["--order"], "--over" in self.given) as file:
+            file.write(order_text(connections_of(list(judge.places()), counts), self.recording))
+
+    def check(self, file: IO[bytes]) -> int:
+        """Runs a proved checker on the files. Gives its status."""
+        assert self.judge
+        is_timed = self.judge.kind == ENDS and os.path.isdir(os.path.join(TOP, "crates", "linear"))
+        words = ["linear" if is_timed else "check", "--shards", str(self.given.get("--shards", 16))]
+        sys.stdout.flush()
+        ran = subprocess.run([ZYGOS, *words], stdin=file, check=False, stdout=subprocess.PIPE)
+        self.checked = ran.stdout.decode("ascii", "replace").strip()
+        if self.checked:
+            self.say(self.checked)
+        return ran.returncode
+
+    def print_json(self, word: str, faults: list[Verdict]) -> None:
+        """Prints the verdict and the counts as one line."""
+        judge = self.judge
+        found = self.certificate.counts if self.certificate else judge.recording.notes if judge else Counter[str]()
+        line = {"verdict": word, "commands": len(judge.table.verb) if judge else 0,
+                "calls": len(judge.table.kind) if judge else 0, **self.counts(faults),
+                "translated": {name: count for name, count in sorted(found.items()) if count},
+                "checked": self.checked or None,
+                "faults": [{"verdict": fault.word, "keys": [shown(key) for key in fault.keys], "why": fault.why,
+                            "connections": fault.connections, "record": fault.record}
+                           for fault in faults[:MOST_FAULTS]],
+                "seconds": round(time.monotonic() - self.begun, 1)}
+        print(json.dumps(line))
+
+
+def main(words: list[str]) -> None:
+    """Judges a recording."""
+    given, names = ends.options(words, OPTIONS)
+    if len(names) != 2 or names.count("-") > 1:
+        ends.stop("a capture and a replies file are judged; --help says more", 2)
+    gc.disable()  # what is read stays to the end
+    judging = Judging(names, given)
+    if judging.to_output and os.isatty(1):
+        ends.stop("the files are not written to a terminal; --check judges them, and --out FILES keeps them", 2)
+    written = [given[option] for option in ("--out", "--order") if option in given]
+    told_apart(written, names)
+    for name in () if "--over" in given else written:
+        refuse_full(name)
+    ends.end(judging.run())

@@ -1,0 +1,392 @@
+"""One order of all calls, made of the orders of the keys.
+
+The calls are nodes of a graph. Its edges are: a call and the next one of its connection; of each key, a call that
+changed it and those that saw it so, and these and the next one that changed it; and times, by barriers: a call comes
+before the first barrier after its end, and behind the last one before its begin. An order of the graph is an order of
+the whole. Where there is none, the calls of one connection (of a multiple get, or of commands that were sent together)
+bind keys to each other in a circle.
+
+Nothing is kept of an edge: the nodes after another one are worked out from the next call of its connection, the
+barriers, and its place in the order of its key.
+"""
+from __future__ import annotations
+
+import heapq
+from array import array
+from bisect import bisect_right
+from collections import deque
+from collections.abc import Callable, Iterator, Sequence
+
+from zygos_tools.judging.events import FLUSH, FOREVER
+from zygos_tools.judging.keys import CHANGED, WAS_LOST, Order
+from zygos_tools.judging.table import DROPPED, LOST, Table
+
+# a part of more nodes is mended by short circles in it: of how many nodes, at most, found among how many
+MOST_NODES, MOST_LENGTH, MOST_REACHED = 150, 12, 500
+NONE = -1
+
+
+class Line:
+    """The nodes of the order of a key, the losses of its items among them.
+
+    `is_change` says of each node whether it changed the key, and `stops` where the next one is that did.
+    """
+
+    __slots__ = ("nodes", "is_change", "stops")
+
+    def __init__(self, nodes: array[int], is_change: bytearray):
+        self.nodes, self.is_change, self.stops = nodes, is_change, array("I", bytes(4 * len(nodes)))
+        stop = len(nodes)
+        for at in range(len(nodes) - 1, -1, -1):
+            self.stops[at] = stop
+            if is_change[at]:
+                stop = at
+
+    def after(self, at: int) -> Sequence[int]:
+        """The nodes after the one of a place."""
+        stop, nodes = self.stops[at], self.nodes
+        if self.is_change[at] and stop > at + 1:
+            return nodes[at + 1 : stop]
+        return nodes[stop : stop + 1]
+
+    def count_before(self) -> Iterator[tuple[int, int]]:
+        """How many nodes come directly before each, if any do."""
+        has_changed, seen = False, 0
+        for node, is_change in zip(self.nodes, self.is_change):
+            if not is_change:
+                seen += 1
+                if has_changed:
+                    yield node, 1
+                continue
+            if seen or has_changed:
+                yield node, seen or 1
+            has_changed, seen = True, 0
+
+
+class Graph:
+    """Nodes are the calls by their numbers, the barriers behind them, and then the losses of items.
+
+    `following` has the next call of the connection of a call, and `barrier` the first barrier after its end. A call is
+    `kept` if it is in the order of its keys. `lost` has the keys of losses.
+    """
+
+    def __init__(self, table: Table):
+        self.table, self.count = table, len(table.kind)
+        self.times = barriers(table)
+        self.base = self.count + len(self.times)
+        self.before = array("I", bytes(4 * self.base))
+        self.following, self.barrier = array("i", [NONE]) * self.count, array("i", [NONE]) * self.count
+        self.firsts = array("I", bytes(4 * (len(self.times) + 1)))
+        self.put_calls()
+        self.lines: dict[int, Line] = {}
+        self.spots = array("I", bytes(4 * self.count))
+        self.flushed: dict[int, list[tuple[Line, int]]] = {}
+        self.linked: dict[int, list[int]] = {}
+        self.lost: list[bytes] = []
+        self.line_of_loss: list[tuple[Line, int]] = []
+        self.kept = bytearray(self.count)
+
+    def put_calls(self) -> None:
+        """The edges of connections and of times."""
+        table, before, times = self.table, self.before, self.times
+        last: dict[int, int] = {}
+        commands, connections, states = table.command, table.connection, table.state
+        begins, ends = table.begin, table.end
+        for barrier in range(1, len(times)):
+            before[self.count + barrier] = 1
+        begun, at = 0, -1
+        for call in range(self.count):
+            command = commands[call]
+            while begun < len(times) and times[begun] <= begins[command]:
+                self.firsts[begun] = call
+                begun += 1
+            if states[command] & DROPPED:
+                continue
+            connection = connections[command]
+            previous = last.get(connection, NONE)
+            if previous >= 0:
+                self.following[previous] = call
+                before[call] += 1
+            last[connection] = call
+            if begun:
+                before[call] += 1
+            end = ends[command]
+            if end < FOREVER:
+                at = bisect_right(times, end)
+                if at < len(times):
+                    self.barrier[call] = self.count + at
+                    before[self.count + at] += 1
+        for at in range(begun, len(times) + 1):
+            self.firsts[at] = self.count
+
+    # ---- the orders of keys
+
+    def link(self, found: dict[bytes, Order]) -> None:
+        """Puts the orders of the keys into the graph."""
+        self.lines, self.flushed, self.linked, self.lost, self.line_of_loss = {}, {}, {}, [], []
+        states, commands = self.table.state, self.table.command
+        self.kept = bytearray([not states[command] & (LOST | DROPPED) for command in commands])
+        self.left: list[int] = list(self.before)
+        for key, order in found.items():
+            self.put_line(key, order)
+        self.keep_whole()
+
+    def put_line(self, key: bytes, order: Order) -> None:
+        """The order of a key."""
+        nodes, is_change = order.calls, bytearray([mark & CHANGED for mark in order.marks])
+        losses = [at for at, mark in enumerate(order.marks) if mark & WAS_LOST] if any(
+            mark & WAS_LOST for mark in order.marks) else []
+        if losses:
+            nodes, is_change = self.with_losses(key, order, is_change)
+        line, spots, kinds, count = Line(nodes, is_change), self.spots, self.table.kind, self.count
+        self.lines[self.table.key_of[key]] = line
+        for at, node in enumerate(nodes):
+            if node >= count:
+                self.line_of_loss[node - self.base] = line, at
+            elif kinds[node] == FLUSH:
+                self.flushed.setdefault(node, []).append((line, at))
+            else:
+                spots[node] = at
+            if node < count:
+                self.kept[node] = 1
+        for node, many in line.count_before():
+            self.left[node] += many
+
+    def with_losses(self, key: bytes, order: Order, is_change: bytearray) -> tuple[array[int], bytearray]:
+        """The nodes of an order with those of its losses."""
+        nodes, changes = array("I"), bytearray()
+        for call, mark, change in zip(order.calls, order.marks, is_change):
+            if mark & WAS_LOST:
+                nodes.append(self.base + len(self.lost))
+                changes.append(1)
+                self.lost.append(key)
+                self.line_of_loss.append((None, 0))  # type: ignore[arg-type]
+                self.left.append(0)
+            nodes.append(call)
+            changes.append(change)
+        return nodes, changes
+
+    def keep_whole(self) -> None:
+        """Keeps all calls of a command of which one is kept."""
+        table = self.table
+        for command, state in enumerate(table.state):
+            if state & LOST and not state & DROPPED:
+                calls = table.calls_of(command)
+                if any(self.kept[call] for call in calls):
+                    for call in calls:
+                        self.kept[call] = 1
+
+    def add_link(self, one: int, other: int) -> None:
+        """One call comes before another one."""
+        self.linked.setdefault(one, []).append(other)
+        self.left[other] += 1
+
+    # ---- nodes
+
+    def by_keys(self, node: int) -> Sequence[int]:
+        """The nodes that come after another one by the order of a key."""
+        if node >= self.base:
+            line, at = self.line_of_loss[node - self.base]
+            return line.after(at)
+        if node >= self.count:
+            return ()
+        table = self.table
+        if table.kind[node] == FLUSH:
+            found = [other for line, at in self.flushed.get(node, ()) for other in line.after(at)]
+        else:
+            mine = self.lines.get(table.key[node]) if self.kept[node] else None
+            at = self.spots[node]
+            if mine is None or at >= len(mine.nodes) or mine.nodes[at] != node:
+                found = []
+            elif node not in self.linked:
+                return mine.after(at)
+            else:
+                found = list(mine.after(at))
+        return [*found, *self.linked[node]] if node in self.linked else found
+
+    def after(self, node: int) -> list[int]:
+        """The nodes that come after another one."""
+        if node >= self.base:
+            return list(self.by_keys(node))
+        if node >= self.count:
+            barrier = node - self.count
+            found = [other for other in range(self.firsts[barrier], self.firsts[barrier + 1])
+                     if not self.table.state[self.table.command[other]] & DROPPED]
+            return [*found, node + 1] if node + 1 < self.base else found
+        found = list(self.by_keys(node))
+        if self.following[node] >= 0:
+            found.append(self.following[node])
+        if self.barrier[node] >= 0:
+            found.append(self.barrier[node])
+        return found
+
+    def weight(self, node: int) -> int:
+        """When a call probably ended; nothing of other nodes."""
+        return self.table.hint[self.table.command[node]] if node < self.count else 0
+
+    def is_call(self, node: int) -> bool:
+        """Whether a node is a call or a loss."""
+        return node < self.count or node >= self.base
+
+    # ---- orders of the whole
+
+    def sorted(self, look: Callable[[], None] = lambda: None) -> tuple[array[int], list[int]]:
+        """The nodes of calls in an order, and the nodes that have none since they are in or behind a circle."""
+        left, hints, commands, count, base = list(self.left), self.table.hint, self.table.command, self.count, self.base
+        states, total, push, pop, after = self.table.state, len(self.left), heapq.heappush, heapq.heappop, self.after
+        ready = [self.weight(node) * total + node for node in range(total) if not left[node]
+                 and not (node < count and states[commands[node]] & DROPPED)]
+        heapq.heapify(ready)
+        order, taken = array("I"), 0
+        while ready:
+            node = pop(ready) % total
+            taken += 1
+            if not taken & 65535:
+                look()
+            left[node] = NONE
+            if node < count or node >= base:
+                order.append(node)
+            for other in after(node):
+                left[other] -= 1
+                if not left[other]:
+                    push(ready, (hints[commands[other]] if other < count else 0) * total + other)
+        return order, [node for node in range(total) if left[node] > 0]
+
+    def ordered(self, order: Sequence[int]) -> array[int]:
+        """An order of nodes without the calls that were not made."""
+        kept, count = self.kept, self.count
+        return array("I", [node for node in order if node >= count or kept[node]])
+
+    def circles(self, left: list[int]) -> list[list[int]]:
+        """Circles among these nodes: the strongly connected parts of more than one node (Tarjan), and in place of a
+        large one some short circles in it."""
+        parts, found = Parts(self, left), []
+        for node in left:
+            if node not in parts.index:
+                parts.visit(node)
+        for part in parts.found:
+            found += [part] if len(part) <= MOST_NODES else self.short_circles(part) or [part]
+        return found
+
+    def short_circles(self, part: list[int]) -> list[list[int]]:
+        """Short circles in a strongly connected part, without a node in common. Where none is short, one with a link
+        from a call to another that probably ended before it, with as few calls as can be: each circle has such a
+        link."""
+        inside, found = set(part), []
+        for node in sorted(part, key=self.weight):
+            if node in inside and node < self.count:
+                circle = self.short_circle(node, inside)
+                found += [circle] * bool(circle)
+                inside.difference_update(circle)
+        if found:
+            return found
+        back = [(self.weight(one) - self.weight(other), one, other) for one in part if one < self.count
+                for other in self.by_keys(one) if other in inside and other < self.count
+                and self.weight(other) < self.weight(one)]
+        return [self.path(other, one, inside) for _, one, other in sorted(back)[:1]]
+
+    def short_circle(self, begin: int, inside: set[int]) -> list[int]:
+        """A shortest circle through a node among some nodes; nothing where none is short."""
+        came_from: dict[int, int] = {}
+        row, length = [begin], 0
+        while row and len(came_from) < MOST_REACHED and length < MOST_LENGTH:
+            following: list[int] = []
+            length += 1
+            for node in row:
+                for other in self.after(node):
+                    if other == begin:
+                        return [begin, *back_from(node, came_from, begin)]
+                    if other in inside and other not in came_from:
+                        came_from[other] = node
+                        following.append(other)
+            row = following
+        return []
+
+    def path(self, begin: int, end: int, inside: set[int]) -> list[int]:
+        """The calls of a path among some nodes, as few as can be."""
+        came_from, row = {begin: begin}, deque([begin])
+        while end not in came_from:
+            node = row.popleft()
+            for other in self.after(node):
+                if other in inside and other not in came_from:
+                    came_from[other] = node
+                    if self.is_call(other):
+                        row.append(other)
+                    else:
+                        row.appendleft(other)
+        return [begin, *[node for node in back_from(end, came_from, begin) if self.is_call(node)]]
+
+
+def back_from(node: int, came_from: dict[int, int], begin: int) -> list[int]:
+    """The nodes from a node back to where a search began, without that."""
+    found = []
+    while node != begin:
+        found.append(node)
+        node = came_from[node]
+    return found
+
+
+class Parts:
+    """The strongly connected parts of a graph among some nodes, without those of one node."""
+
+    def __init__(self, graph: Graph, nodes: list[int]):
+        self.graph, self.inside = graph, set(nodes)
+        self.index: dict[int, int] = {}
+        self.low: dict[int, int] = {}
+        self.path: list[int] = []
+        self.on_path: set[int] = set()
+        self.found: list[list[int]] = []
+
+    def visit(self, root: int) -> None:
+        """Goes through all that comes after a node."""
+        work = [self.enter(root)]
+        while work:
+            node, rest = work[-1]
+            for other in rest:
+                if other not in self.inside:
+                    continue
+                if other not in self.index:
+                    work.append(self.enter(other))
+                    break
+                if other in self.on_path:
+                    self.low[node] = min(self.low[node], self.index[other])
+            else:
+                work.pop()
+                if work:
+                    above = work[-1][0]
+                    self.low[above] = min(self.low[above], self.low[node])
+                self.leave(node)
+
+    def enter(self, node: int) -> tuple[int, Iterator[int]]:
+        """A node is met."""
+        self.index[node] = self.low[node] = len(self.index)
+        self.path.append(node)
+        self.on_path.add(node)
+        return node, iter(self.graph.after(node))
+
+    def leave(self, node: int) -> None:
+        """All that comes after a node was met."""
+        if self.low[node] != self.index[node]:
+            return
+        part: list[int] = []
+        while not part or part[-1] != node:
+            part.append(self.path.pop())
+        self.on_path.difference_update(part)
+        if len(part) > 1:
+            self.found.append(part)
+
+
+def barriers(table: Table) -> array[int]:
+    """The times of the barriers: the begins of commands before which, and after the last barrier, another one ended."""
+    ends = sorted(end for one, end in enumerate(table.end) if end < FOREVER and not table.state[one] & DROPPED)
+    found, at, last = array("q"), 0, -1
+    for one, begin in enumerate(table.begin):
+        if table.state[one] & DROPPED:
+            continue
+        has_ended = False
+        while at < len(ends) and ends[at] < begin:
+            has_ended, at = True, at + 1
+        if has_ended and begin != last:
+            found.append(begin)
+            last = begin
+    return found

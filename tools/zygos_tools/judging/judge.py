@@ -1,0 +1,172 @@
+"""Looks for an order of all calls of a recording, step by step."""
+from __future__ import annotations
+
+import time
+from array import array
+from collections.abc import Callable, Iterable, Iterator
+
+from zygos_tools.files.formats import Output
+from zygos_tools.judging import pairing, sharing, times
+from zygos_tools.judging.certificate import Certificate
+from zygos_tools.judging.events import No, Unknown, Verdict, brief, counted
+from zygos_tools.judging.graph import Graph
+from zygos_tools.judging.keys import Keys
+from zygos_tools.judging.mending import MOST_TURNS, Mending, keys_in
+from zygos_tools.judging.numbering import Stores, numbered
+from zygos_tools.judging.reading import Recording
+from zygos_tools.judging.seeing import Seeing
+from zygos_tools.judging.table import DROPPED, HAS_UNIQUE
+
+
+class Clock:
+    """How long the search has taken; after `seconds` it is given up. `show` is called about once a second."""
+
+    def __init__(self, seconds: float | None = None, show: Callable[[str], None] | None = None):
+        self.begun, self.seconds, self.show = time.monotonic(), seconds, show
+        self.shown, self.what = self.begun, "reading"
+
+    def set(self, what: str) -> None:
+        """What is done now."""
+        self.what = what
+        self.look()
+
+    def no_limit(self) -> None:
+        """From here on nothing is given up."""
+        self.seconds = None
+
+    def look(self) -> None:
+        """Gives up where the time has passed."""
+        now = time.monotonic()
+        if self.seconds is not None and now - self.begun > self.seconds:
+            raise Unknown(f"{self.what}; given up after {counted(self.seconds, 'second')}; give --seconds more")
+        if self.show and now - self.shown >= 1:
+            self.shown = now
+            self.show(f"{now - self.begun:.0f} s: {self.what}")
+
+
+class Judge:
+    """The search for an order of a recording; `order` has the nodes of its graph once `run` has ended.
+
+    With `is_first` the search stops at the first fault. `faults` has what is said of answers that no run gives, and of
+    keys that have no order. `is_chosen` says which keys are looked at; `is_closed` is whether no command names some
+    that are and some that are not.
+    """
+
+    def __init__(self, capture: bytes, outputs: Iterable[Output], shards: int = 16, kind: str | None = None,
+                 is_warm: bool = False, loses: bool = False, limit: int = 200000, clock: Clock | None = None,
+                 has_reasons: bool = True, is_first: bool = True, is_chosen: Callable[[bytes], bool] | None = None):
+        self.clock, self.shards, self.is_first = clock or Clock(), shards, is_first
+        self.recording = Recording(capture, shards, self.clock.look)
+        self.table = self.recording.table
+        self.clock.set("reading answers")
+        pairing.pair(self.recording, outputs)
+        if not self.table.verb:
+            raise Unknown("no command was recorded")
+        self.kind = times.set_times(self.recording, kind)
+        self.is_closed = self.leave_out(is_chosen) if is_chosen else True
+        seeing = Seeing(self.recording)
+        seeing.all()
+        self.faults: list[Verdict] = seeing.faults
+        if is_first and self.faults:
+            raise self.worst()
+        self.clock.set("sorting calls by keys")
+        self.keys = Keys(self.table, loses, is_warm, limit, self.clock.look, self.recording.unsure, has_reasons,
+                         is_chosen)
+        self.is_numbered = shards == 1 and any(want & HAS_UNIQUE for want in self.table.want)
+        self.graph: Graph | None = None
+        self.order: array[int] = array("I")
+
+    def leave_out(self, is_chosen: Callable[[bytes], bool]) -> bool:
+        """Leaves out the commands on keys that are not chosen. Gives whether no command names both kinds."""
+        table, is_closed = self.table, True
+        chosen = [is_chosen(key) for key in table.keys]
+        for command, state in enumerate(table.state):
+            keys = [table.key[call] for call in table.calls_of(command)]
+            if state & DROPPED or not keys or keys[0] < 0:
+                continue
+            several = {chosen[key] for key in keys}
+            if several == {False}:
+                table.state[command] |= DROPPED
+                self.recording.notes["commands on keys left out"] += 1
+            is_closed = is_closed and len(several) == 1
+        return is_closed
+
+    def worst(self) -> Verdict:
+        """The first `no`, or else the first fault."""
+        return next((fault for fault in self.faults if isinstance(fault, No)), self.faults[0])
+
+    def run(self) -> None:
+        """Finds an order, or raises No or Unknown."""
+        self.search()
+        if self.faults:
+            raise self.worst()
+        self.merge()
+
+    def search(self, processes: int = 1) -> None:
+        """Finds the orders of all keys; those that have none are among the faults."""
+        if processes > 1:
+            sharing.search(self.keys, self.clock, processes, self.faults)
+            if self.is_first and self.faults:
+                raise self.worst()
+            return
+        names = self.keys.names
+        for at, key in enumerate(names):
+            self.clock.set(f"key {brief(key)}, {at + 1:,} of {len(names):,}")
+            try:
+                self.keys.search([key])
+            except Verdict as verdict:
+                self.faults.append(verdict)
+                if self.is_first:
+                    raise
+
+    def merge(self) -> None:
+        """Makes one order of those of all keys, and mends these where they do not fit."""
+        graph, mending = Graph(self.table), Mending(self.table, self.keys, self.clock.look)
+        for turn in range(MOST_TURNS):
+            self.clock.set(f"one order of all, turn {turn + 1}")
+            graph.link(self.keys.found)
+            stores = Stores(self.table, self.keys.found) if self.is_numbered else None
+            rising = stores.in_order() if stores else []
+            for one, other in zip(rising, rising[1:]):
+                graph.add_link(one, other)
+            order, left = graph.sorted(self.clock.look)
+            if not left:
+                if stores:
+                    order = numbered(graph, stores) or order
+                self.graph, self.order = graph, graph.ordered(order)
+                self.check_times()
+                return
+            circles = graph.circles(left)
+            self.clock.set(f"{keys_in(circles, self.table)}: their orders are fitted to each other, turn {turn + 1}")
+            mending.turn(circles, rising)
+        raise Unknown(f"{keys_in(circles, self.table)}: their orders were not fitted to each other in {MOST_TURNS}"
+                      " turns")
+
+    def calls(self) -> Iterator[int]:
+        """The calls of the order, without losses."""
+        count = len(self.table.kind)
+        return (node for node in self.order if node < count)
+
+    def places(self) -> Iterator[tuple[int, int]]:
+        """The calls of the order: the connection, and the number of the command among those of the connection."""
+        table = self.table
+        for call in self.calls():
+            command = table.command[call]
+            yield table.connection[command], table.number[command]
+
+    def check_times(self) -> None:
+        """Sees that the order keeps to the times: no call comes after one that began when it had ended."""
+        latest, table = 0, self.table
+        for call in self.calls():
+            command = table.command[call]
+            if table.end[command] < latest:
+                raise AssertionError("the order that was found does not keep to the times")
+            latest = max(latest, table.begin[command])
+
+    def certificate(self) -> Certificate:
+        """The files for the order that was found."""
+        assert self.graph
+        self.clock.no_limit()
+        self.clock.set("writing")
+        begins = self.table.hint if self.kind == times.NONE else self.table.begin
+        return Certificate(self.recording, self.order, self.graph.base, self.graph.lost, self.keys, begins)

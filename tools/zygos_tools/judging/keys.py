@@ -1,0 +1,364 @@
+"""The orders of all keys: for each an order of its calls that explains their replies."""
+from __future__ import annotations
+
+from array import array
+from bisect import bisect_left, bisect_right
+from collections import OrderedDict
+from collections.abc import Callable, Iterable, Iterator, Sequence
+from dataclasses import dataclass
+from itertools import accumulate
+from typing import NamedTuple
+
+from zygos_tools.files.formats import shown
+from zygos_tools.judging.events import CAS, FLUSH, GET, Event, Unknown, counted
+from zygos_tools.judging.flushes import Flushes
+from zygos_tools.judging.needs import ITEM, Needs
+from zygos_tools.judging.origin import Origin
+from zygos_tools.judging.search import GaveUp, Made, Search, Stuck
+from zygos_tools.judging.states import (ABSENT, ANYTHING, NOTHING_KNOWN, AnyState, Lost, State, States, Step,
+                                        of_several, reached)
+from zygos_tools.judging.table import DROPPED, Table
+
+# how many states are looked at where an item is guessed, and how many items are tried
+MOST_STATES, MOST_GUESSES = 20000, 30
+# how many calls there are at most in the views that are kept
+MOST_KEPT = 200000
+# for how many values it is looked where else they are stored
+MOST_ELSEWHERE = 20
+# the marks of a call in the order of a key: it changed the key; the item was lost before it
+CHANGED, WAS_LOST = 1, 2
+
+
+class Placed(NamedTuple):
+    """A call in the order of a key: whether it changed the key, whether the item was lost before it, and the state
+    after it."""
+
+    event: Event
+    is_change: bool
+    was_lost: bool
+    state: State
+
+
+class Order(NamedTuple):
+    """The order of the calls on a key, by their numbers, and the marks of each."""
+
+    calls: array[int]
+    marks: bytearray
+
+
+@dataclass(slots=True)
+class Calls:
+    """The calls on a key, or on a few keys together, by their begins, and the states of these keys.
+
+    `first` are the items of the keys at first. Of several keys, `slots` has the place of each in a state.
+    """
+
+    names: tuple[bytes, ...]
+    events: list[Event]
+    states: States
+    first: dict[bytes | None, int]
+    step: Step
+    begin: AnyState
+    slots: dict[bytes | None, int] | None
+
+    def from_item(self, item: int) -> None:
+        """Another item of the one key at first."""
+        self.first, self.begin = {self.names[0]: item}, (item, 0, 0)
+
+
+class View:
+    """The calls on a key as events, with its states; `placed` is its order, where that was asked for."""
+
+    def __init__(self, calls: Calls):
+        self.calls, self.events = calls, calls.events
+        self.begins = [event.begin for event in calls.events]
+        self.latest = list(accumulate((event.end for event in calls.events), max))
+        self.placed: list[Placed] | None = None
+        self.places: dict[int, int] = {}
+
+
+class Keys:
+    """The calls of each key, and their orders that were found.
+
+    With `is_warm` a key may have an item at first: one that explains what was seen, which `first` then has. With
+    `loses` the server may lose items. `limit` is how many states of a key are looked at, and `look` is called from
+    time to time. Of keys that are `unsure` nothing can be refused, each for its reason. Without `has_reasons` nothing
+    is said of why there is no order. `is_chosen` says which keys are looked at.
+    """
+
+    def __init__(self, table: Table, loses: bool = False, is_warm: bool = False, limit: int = 200000,
+                 look: Callable[[], None] = lambda: None, unsure: dict[bytes, str] | None = None,
+                 has_reasons: bool = True, is_chosen: Callable[[bytes], bool] | None = None):
+        self.table, self.loses, self.is_warm, self.limit, self.look = table, loses, is_warm, limit, look
+        self.unsure, self.has_reasons = unsure or {}, has_reasons
+        self.first: dict[bytes, tuple[int, bytes] | None] = {}
+        self.found: dict[bytes, Order] = {}
+        self.flushes = Flushes(table)
+        self.begins, self.calls = by_key(table)
+        self.views: OrderedDict[bytes, View] = OrderedDict()
+        self.kept, self.looks_left = 0, MOST_ELSEWHERE
+        self.names = sorted(key for key, number in table.key_of.items() if self.begins[number] < self.begins[number + 1]
+                            and (is_chosen is None or is_chosen(key)))
+
+    # ---- calls
+
+    def numbers(self, key: bytes) -> list[int]:
+        """The calls on a key by their begins, with the flushes that count for it."""
+        number = self.table.key_of[key]
+        own = self.calls[self.begins[number] : self.begins[number + 1]]
+        flushes = self.flushes.of(self.table.shard_of[number], own) if self.flushes.all else []
+        return sorted([*own, *flushes]) if flushes else list(own)
+
+    def calls_on(self, names: Sequence[bytes], loses: bool | None = None, is_wide: bool = False) -> Calls:
+        """The calls on some keys, which may have the items at first that are known so far."""
+        several = {one for key in names for one in self.numbers(key)} if len(names) > 1 else ()
+        numbers = sorted(several) if several else self.numbers(names[0])
+        events, states = self.table.events(numbers), States(self.loses if loses is None else loses, is_wide)
+        states.learn(events)
+        first: dict[bytes | None, int] = {key: self.item_at_first(key, states) for key in names}
+        if len(names) == 1:
+            return Calls(tuple(names), events, states, first, states.step, (first[names[0]], 0, 0), None)
+        slots: dict[bytes | None, int] = {key: at for at, key in enumerate(names)}
+        of_shard: dict[int, list[int]] = {}
+        for at, key in enumerate(names):
+            of_shard.setdefault(self.shard(key), []).append(at)
+        begin = tuple([(first[key], 0, 0) for key in names])
+        return Calls(tuple(names), events, states, first, of_several(states, slots, of_shard), begin, slots)
+
+    def item_at_first(self, key: bytes, states: States) -> int:
+        """The number of the item that a key has at first, as far as that is known."""
+        pair = self.first.get(key)
+        return states.values.number(*pair) if pair else ABSENT
+
+    def shard(self, key: bytes) -> int:
+        """The shard of a key."""
+        return self.table.shard_of[self.table.key_of[key]]
+
+    def view(self, key: bytes) -> View:
+        """The calls on a key, kept for a while."""
+        found = self.views.get(key)
+        if found is None:
+            found = self.views[key] = View(self.calls_on([key]))
+            self.kept += len(found.events)
+            while self.kept > MOST_KEPT and len(self.views) > 1:
+                _, old = self.views.popitem(last=False)
+                self.kept -= len(old.events)
+        else:
+            self.views.move_to_end(key)
+        return found
+
+    def forget(self, key: bytes) -> None:
+        """Lets a view go whose order is no longer that of its key."""
+        old = self.views.pop(key, None)
+        self.kept -= len(old.events) if old else 0
+
+    # ---- orders
+
+    def search(self, names: Sequence[bytes]) -> None:
+        """Looks for an order of the calls on some keys, or raises No or Unknown."""
+        calls = self.calls_on(names)
+        try:
+            order = self.order_at_first(calls) if self.is_warm and len(names) == 1 and names[0] not in self.first \
+                else self.order_of(calls)
+        except Stuck as stuck:
+            if not self.has_reasons:
+                raise Unknown("there is no order") from None
+            from zygos_tools.judging.reasons import Reason  # which takes keys itself
+            raise Reason(self, calls, stuck.at).verdict() from None
+        except GaveUp:
+            told = f"key {shown(names[0])}" if len(names) == 1 else "keys " + ", ".join(map(shown, names[:5]))
+            raise Unknown(f"{told}: given up after {counted(self.limit, 'state')}; give --states more", keys=names,
+                          connections=[event.connection for event in calls.events]) from None
+        for key in names:
+            self.put(key, [calls.events[made.place] for made in order], order)
+
+    def put(self, key: bytes, events: Sequence[Event], order: Sequence[Made]) -> None:
+        """Keeps the order of a key, which is one of several or the only one."""
+        ids, marks, shard = array("I"), bytearray(), self.shard(key)
+        for event, made in zip(events, order):
+            if event.key == key or event.kind == FLUSH and event.shard == shard:
+                ids.append(event.id)
+                marks.append(CHANGED * made.is_change | WAS_LOST * made.was_lost)
+        self.found[key] = Order(ids, marks)
+        self.forget(key)
+
+    def order_of(self, calls: Calls) -> list[Made]:
+        """An order of these calls; one without losses, if such a one is soon found."""
+        order = quick(calls)
+        if order is not None:
+            return order
+        states = calls.states
+        if states.loses:
+            states.loses = False
+            try:
+                return self.run(calls, min(self.limit, MOST_STATES))
+            except (Stuck, GaveUp):
+                pass
+            finally:
+                states.loses = True
+        return self.run(calls, self.limit)
+
+    def run(self, calls: Calls, limit: int) -> list[Made]:
+        """Searches an order of these calls."""
+        needs = Needs(calls.events, calls.states, calls.first)
+        return Search(calls.events, calls.begin, calls.step, limit, needs, calls.slots, None, self.look).run()
+
+    # ---- items that were there at first
+
+    def order_at_first(self, calls: Calls) -> list[Made]:
+        """An order of the calls on a key from an item that explains all; where there is none, from the likeliest."""
+        key, likeliest = calls.names[0], ABSENT
+        order = quick(calls)
+        if order is not None:
+            self.first[key] = None
+            return order
+        for at, item in enumerate(dict.fromkeys(self.guesses(calls))):
+            calls.from_item(item)
+            likeliest = item if not at else likeliest
+            order = quick(calls)
+            try:
+                order = order or self.run(calls, MOST_STATES)
+            except (Stuck, GaveUp):
+                continue
+            self.first[key] = calls.states.values.pairs[item] if item else None
+            return self.order_of(calls) if any(made.was_lost for made in order) else order
+        calls.from_item(likeliest)
+        self.first[key] = calls.states.values.pairs[likeliest] if likeliest else None
+        return self.order_of(calls)
+
+    def guesses(self, calls: Calls) -> Iterator[int]:
+        """Items that a key may have had at first: one that was seen and that nobody stores, none, one that follows
+        from an order, one that nobody saw, any other that was seen."""
+        key, number = calls.names[0], calls.states.values.number
+        needs = Needs(calls.events, calls.states, {key: ABSENT})
+        lost = [item for at, (kind, _, item) in enumerate(needs.things) if kind == ITEM and item and not needs.make[at]]
+        lost.sort(key=lambda item: len(calls.states.values.pairs[item][1]))
+        yield from lost[:1]
+        yield ABSENT
+        yield from self.implied(calls)
+        yield from lost[1:MOST_GUESSES]
+        yield number(0, b"")
+        yield from [event.item for event in calls.events if event.kind == GET and event.item][:MOST_GUESSES]
+
+    def implied(self, calls: Calls) -> list[int]:
+        """The items from which the calls on a key follow in an order that takes any item to have been there at first.
+        """
+        try:
+            order = Search(calls.events, NOTHING_KNOWN, calls.step, MOST_STATES,
+                           Needs(calls.events, calls.states, {calls.names[0]: ANYTHING}), None, None, self.look).run()
+        except (Stuck, GaveUp):
+            return []
+        states = [(calls.events[made.place], made.state) for made in order]
+        return Origin(calls.states, states).items()  # type: ignore[arg-type]
+
+    # ---- the order of a key, to be mended
+
+    def placed(self, key: bytes) -> list[Placed]:
+        """The order of a key with the states after its calls."""
+        view = self.view(key)
+        if view.placed is None:
+            view.placed = self.with_states(view, self.found[key])
+            view.places = {one.event.id: at for at, one in enumerate(view.placed)}
+        return view.placed
+
+    def with_states(self, view: View, order: Order) -> list[Placed]:
+        """The calls of an order with the states after them."""
+        of_number = {event.id: event for event in view.events}
+        layers: list[dict[State, State | None]] = [{view.calls.begin: None}]  # type: ignore[dict-item]
+        for call, mark in zip(order.calls, order.marks):
+            layers.append(after(view.calls.states, layers[-1], of_number[call], bool(mark & WAS_LOST)))
+        state, found = next(iter(layers[-1])), []
+        for call, mark, layer in zip(reversed(order.calls), reversed(order.marks), reversed(layers[1:])):
+            found.append(Placed(of_number[call], bool(mark & CHANGED), bool(mark & WAS_LOST), state))
+            state = layer[state]  # type: ignore[assignment]
+        found.reverse()
+        return found
+
+    def keep(self, key: bytes) -> None:
+        """The order of a key is that of its view, which was mended."""
+        placed = self.placed(key)
+        self.found[key] = Order(array("I", [one.event.id for one in placed]), bytearray(
+            [CHANGED * one.is_change | WAS_LOST * one.was_lost for one in placed]))
+
+    # ---- other keys
+
+    def stored_elsewhere(self, event: Event) -> Event | None:
+        """The first call that stores the value that a call saw, where it is on another key; None where none does, or
+        where one on the same key does."""
+        table, value = self.table, event.value
+        if not value or not self.looks_left:
+            return None
+        self.looks_left -= 1
+        sizes, found = table.value_size, None
+        for call, kind in enumerate(table.kind):
+            if 0 < kind <= CAS and sizes[call] == len(value) and table.value(call) == value:
+                if table.keys[table.key[call]] == event.key:
+                    return None
+                found = call if found is None else found
+        return None if found is None else table.event(found)
+
+    # ---- times
+
+    def overlapping(self, key: bytes, begin: int, end: int) -> list[Event]:
+        """The calls on a key that overlap a time."""
+        view = self.view(key)
+        some = view.events[bisect_left(view.latest, begin) : bisect_right(view.begins, end)]
+        return [event for event in some if event.end >= begin]
+
+    def near(self, key: bytes, some: Sequence[Event], count: int) -> list[Event]:
+        """These calls on a key, those between them by their begins, and `count` more on both sides."""
+        begins, view = [event.begin for event in some], self.view(key)
+        return view.events[max(0, bisect_left(view.begins, min(begins)) - count) :
+                           bisect_right(view.begins, max(begins)) + count]
+
+    def names_at(self, begin: int, end: int) -> list[bytes]:
+        """The keys with calls that overlap a time and are not much longer than it."""
+        table, commands = self.table, self.table.begin
+        low = bisect_left(commands, begin - 4 * (end - begin) - 1000)
+        some = [one for one in range(low, bisect_right(commands, end))
+                if table.end[one] >= begin and not table.state[one] & DROPPED]
+        names = {table.keys[table.key[call]] for one in some for call in table.calls_of(one) if table.key[call] >= 0}
+        return sorted(names & self.found.keys())
+
+
+def by_key(table: Table) -> tuple[array[int], array[int]]:
+    """Where the calls of each key begin, and the calls, sorted by keys; without those of commands that are dropped."""
+    counts, keys, states, commands = [0] * (len(table.keys) + 1), table.key, table.state, table.command
+    for call, key in enumerate(keys):
+        if key >= 0 and not states[commands[call]] & DROPPED:
+            counts[key + 1] += 1
+    begins = array("I", accumulate(counts))
+    calls, places = array("I", bytes(4 * begins[-1])), list(begins)
+    for call, key in enumerate(keys):
+        if key >= 0 and not states[commands[call]] & DROPPED:
+            calls[places[key]] = call
+            places[key] += 1
+    return begins, calls
+
+
+def quick(calls: Calls) -> list[Made] | None:
+    """The order in which calls probably ended, if it explains their replies."""
+    events, step, state, order = calls.events, calls.step, calls.begin, []
+    last: dict[int, int] = {}
+    for place in sorted(range(len(events)), key=[event.hint for event in events].__getitem__):
+        event = events[place]
+        if event.optional or last.get(event.connection, -1) > event.id:
+            return None
+        found = step(state, event)
+        if not found or isinstance(found[0], Lost):
+            return None
+        new = reached(found[0])
+        order.append(Made(place, event.kind == FLUSH or new is not state and event.kind != GET, False, new))
+        last[event.connection] = event.id
+        state = new
+    return order
+
+
+def after(states: States, before: Iterable[State], event: Event, was_lost: bool) -> dict[State, State | None]:
+    """The states after a call, each with one before it."""
+    found: dict[State, State | None] = {}
+    for state in before:
+        for new in states.step(state, event):
+            if isinstance(new, Lost) == was_lost:
+                found.setdefault(reached(new), state)  # type: ignore[arg-type]
+    return found

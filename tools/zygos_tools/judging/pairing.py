@@ -1,0 +1,144 @@
+"""Gives each command of a recording its answer, and what the answer says of the replies to its calls.
+
+An answer that no run gives is refused, or is unknown where what was sent has a meaning of its own on a memcached.
+"""
+from __future__ import annotations
+
+from array import array
+from collections.abc import Iterable
+
+from zygos_tools.comparing.steps import SHORT, is_answered
+from zygos_tools.files.formats import Output
+from zygos_tools.judging.events import No, Unknown, first_line
+from zygos_tools.judging.reading import Recording, sessions_of
+from zygos_tools.judging.table import ANSWERED, DROPPED, LOST, QUIET, V_FAULT, V_MD, V_MG, V_MS
+from zygos_tools.protocol.answers import answer_end, is_whole
+from zygos_tools.protocol.meaning import Command, line_of
+
+# which answers of a meta command with the flag `q` are not hidden, by its call
+NOT_HIDDEN = {"get": (b"HD", b"VA"), "set": (), "cas": (b"EX", b"NF"), "delete": (b"NF",)}
+STORING = (b"NS",)
+ONE_RECORDING = "are both files of one recording?"
+
+
+def several(text: bytes, at: int, most: int) -> list[bytes]:
+    """The answers of an output from a place on, as many as are wanted."""
+    found: list[bytes] = []
+    while at < len(text) and len(found) < most:
+        begin, at = at, answer_end(text, at)
+        found.append(text[begin:at])
+    return found
+
+
+def pair(recording: Recording, outputs: Iterable[Output]) -> None:
+    """Gives each command its answer."""
+    texts = {(one.connection, one.session): one.text for one in outputs}
+    recording.table.outputs = texts
+    met = set()
+    for key, asked in sessions_of(recording):
+        Pairing(recording, asked, texts.setdefault(key, b""), key).pair()
+        recording.look_at_clock()
+        met.add(key)
+    left = [key for key in texts if key not in met and texts[key]]
+    if left:
+        connection, session = min(left)
+        raise Unknown(f"the replies have an output of connection {connection}, session {session}, and the capture"
+                      f" hasn't; {ONE_RECORDING}")
+
+
+class Pairing:
+    """The commands of a session, and its answers."""
+
+    def __init__(self, recording: Recording, asked: array[int], text: bytes, key: tuple[int, int]):
+        self.recording, self.table, self.asked, self.text, self.key = recording, recording.table, asked, text, key
+        self.met: set[tuple[bytes, bytes]] = set()
+        self.at = 0
+
+    def pair(self) -> None:
+        """Gives the commands the answers, one after the other."""
+        table, text, at, count = self.table, self.text, 0, 0
+        states, verbs, answer_at, answer_size = table.state, table.verb, table.answer_at, table.answer_size
+        size = end = len(text)
+        for number, one in enumerate(self.asked):
+            if states[one] & QUIET:
+                continue
+            if verbs[one] in (V_MG, V_MS, V_MD, V_FAULT):
+                self.at = at
+                if not self.is_answered(number, one):
+                    continue
+            elif self.met:
+                self.met.clear()
+            if at >= end:
+                states[one] |= LOST
+                continue
+            begin, at = at, answer_end(text, at)
+            if at == size and self.is_cut_off(begin):
+                states[one] |= LOST
+                at = end = begin
+                continue
+            answer_at[one], answer_size[one] = begin, at - begin
+            states[one] |= ANSWERED
+            count += 1
+        if at < end and not (answer_end(text, at) == size and self.is_cut_off(at)):
+            self.refuse_rest(count, at)
+
+    def is_cut_off(self, begin: int) -> bool:
+        """Whether the last answer, which begins there, is cut off."""
+        if is_whole(self.text[begin:]):
+            return False
+        self.recording.notes["bytes of an answer that is cut off"] += len(self.text) - begin
+        return True
+
+    def refuse_rest(self, count: int, at: int) -> None:
+        """Answers are left."""
+        why = (f"connection {self.key[0]}, session {self.key[1]}: answer {count} is to no command: "
+               f"{first_line(self.text[at : at + 200])}")
+        if self.key in self.recording.odd:
+            raise Unknown(f"{why}; {self.recording.odd[self.key]}", connections=[self.key[0]])
+        kind = Unknown if self.key in self.recording.outside else No
+        raise kind(f"{why}; {ONE_RECORDING}", connections=[self.key[0]])
+
+    def is_answered(self, number: int, one: int) -> bool:
+        """Whether the next answer is that of a meta command or of a faulty line."""
+        table, text = self.table, self.text
+        if table.verb[one] == V_FAULT:
+            if self.is_silent(number, one):
+                table.state[one] |= DROPPED
+                self.recording.notes["faulty line left out"] += 1
+                return False
+            if self.at < len(text):
+                self.recording.outside.add(self.key)
+            self.met.clear()
+            return True
+        command = table.meaning(one)
+        if "q" not in command.letters:
+            self.met.clear()
+            return True
+        return is_shown(self.recording, one, command, b"".join(several(text, self.at, 1)), self.met)
+
+    def is_silent(self, number: int, one: int) -> bool:
+        """Whether a faulty line has noreply and no answer."""
+        table = self.table
+        if not line_of(table.original(one)).rstrip().endswith(b" noreply"):
+            return False
+        lines = [line_of(table.original(other)) for other in self.asked[number : number + 2 * SHORT]
+                 if not table.state[other] & QUIET]
+        texts = several(self.text, self.at, SHORT)
+        return not is_answered(lines[: len(texts)], texts)
+
+
+def is_shown(recording: Recording, one: int, command: Command, answer: bytes, met: set[tuple[bytes, bytes]]) -> bool:
+    """Whether an answer is that of a command with the flag `q`. It must have the flag `k` too, and no other such
+    command of this key may have an answer of this kind before the next command that is surely answered."""
+    key = command.keys[0]
+    if "k" not in command.letters:
+        raise Unknown("a command with the flag q and without k: whether it was answered is not known",
+                      recording.table.asked(one))
+    codes = NOT_HIDDEN.get(command.call or "", STORING)
+    for code in codes:
+        if (key, code) in met:
+            raise Unknown("a key twice with the flag q: which of the commands was answered is not known",
+                          recording.table.asked(one))
+        met.add((key, code))
+    words = answer.split(b"\n", 1)[0].split()
+    return words[:1] != [] and words[0] in codes and b"k" + key in words[1:]

@@ -1,0 +1,332 @@
+"""The commands of a recording: a capture is cut into commands, whose calls go into the table.
+
+Commands that the profile leaves out are read as those that do the same to items: `gat` and `gats` as `get` and `gets`,
+`bget` as `get`, and `touch` as an `mg` that shows nothing. `stats` is dropped, with its answer. A line with a NUL is
+read up to there, as memcached reads it.
+"""
+from __future__ import annotations
+
+import re
+from array import array
+from collections import Counter, defaultdict
+from collections.abc import Callable, Iterator
+
+from zygos_tools.files.formats import MOST_VALUE, Segment, capture_head, capture_records, read_end
+from zygos_tools.files.part import Part
+from zygos_tools.judging.events import FLUSH, GET, KINDS
+from zygos_tools.judging.table import DROPPED, NO_KEY, QUIET, REPLACED, V_FAULT, V_FLUSH, V_STATS, VERB_OF, Table
+from zygos_tools.protocol.meaning import KEY, STORAGE, Command, command_in, line_of, stored, words_of
+
+# a usual line: of a retrieval, or of a command that stores
+USUAL_KEY = KEY.replace(rb"\r", rb"\r\0")
+USUAL = re.compile(rb"(?:(gets?) (%s(?: %s)*)|(%s) (%s) ([0-9]{1,9}) ([0-9]{1,9}) ([0-9]{1,9})( noreply)?)\r\n"
+                   % (USUAL_KEY, USUAL_KEY, "|".join(STORAGE).encode(), USUAL_KEY))
+STORING = {name.encode(): (VERB_OF[name], KINDS[name]) for name in STORAGE}
+
+# at which records the clock is looked at
+LOOKS = (1 << 16) - 1
+# memcached's limits: the length of a line that is no retrieval, exptimes, and the lengths of blocks
+MOST_PLAIN_LINE, MOST_EXPTIME, MOST_BLOCK = 2048, (1 << 63) - 1, (1 << 31) - 3
+# what memcached reads otherwise, after which nothing is sure in a session
+NUL_BLOCK = "a line has a NUL, where memcached ends it, so that it reads what follows otherwise"
+LONG_LINE = "a line is longer than memcached takes"
+LONG_KEY = "a key is longer than 250 bytes, and memcached may lose the answers before its line"
+FAR_EXPTIME = "an exptime is one that memcached does not take"
+LONG_BLOCK = "a block is longer than memcached takes"
+BINARY = "a stream begins as the binary protocol does"
+CLOSING = "a line is one on which memcached closes the connection"
+
+
+class Stream:
+    """What is left of the bytes of a session, and how many bytes the frame has that begins with it, if that is known.
+    """
+
+    __slots__ = ("pieces", "size", "least", "has_quit")
+
+    def __init__(self) -> None:
+        self.pieces: list[bytes] = []
+        self.size = self.least = 0
+        self.has_quit = False
+
+
+class Recording:
+    """What clients asked; `notes` counts what is left out or read as something else.
+
+    By connection and session, `marks` has the times at which answers were whole, and `starts` those at which the client
+    began to send after a whole command. In the sessions of `odd` is something that memcached reads otherwise, each with
+    what that is. Of keys that are `unsure` nothing can be refused, each for its reason.
+    """
+
+    def __init__(self, capture: bytes, shards: int = 16, look: Callable[[], None] = lambda: None):
+        self.capture, self.table, self.look_at_clock = capture, Table(capture, shards), look
+        self.marks: dict[tuple[int, int], array[int]] = defaultdict(lambda: array("q"))
+        self.starts: dict[tuple[int, int], array[int]] = defaultdict(lambda: array("q"))
+        self.sessions: Counter[int] = Counter()
+        self.notes: Counter[str] = Counter()
+        self.odd: dict[tuple[int, int], str] = {}
+        self.outside: set[tuple[int, int]] = set()
+        self.unsure: dict[bytes, str] = {}
+        part = Part("capture", capture)
+        self.version, self.count = capture_head(part)
+        self.begin = part.at
+        self.of_connection: list[array[int]] = [array("I") for _ in range(self.count)]
+        self.read(part)
+        read_end(part)
+        self.table.close()
+
+    # ---- records
+
+    def read(self, part: Part) -> None:
+        """Cuts the streams into commands."""
+        streams: dict[int, Stream] = {}
+        for place, record in enumerate(capture_records(part, self.version, self.count)):
+            connection = record.connection
+            if not place & LOOKS:
+                self.look_at_clock()
+            if not isinstance(record, Segment):
+                self.end(connection, streams.pop(connection, None))
+                self.sessions[connection] += 1
+                continue
+            text, session = record.text, self.sessions[connection]
+            if not text:
+                self.marks[connection, session].append(2 * place)
+                continue
+            stream = streams.get(connection)
+            if stream is None:
+                stream = streams[connection] = Stream()
+                if text[0] in (0x80, 0x16):
+                    self.be_odd(connection, BINARY)
+            if not stream.size:
+                self.starts[connection, session].append(2 * place)
+            self.take(stream, connection, text, part.at - len(text), 2 * place + 1)
+        for connection, stream in streams.items():
+            self.end(connection, stream)
+
+    def end(self, connection: int, stream: Stream | None) -> None:
+        """A session has ended."""
+        if stream and stream.least > MOST_BLOCK:
+            self.be_odd(connection, LONG_BLOCK)
+
+    def be_odd(self, connection: int, why: str) -> None:
+        """Nothing is sure in the current session of a connection."""
+        self.odd.setdefault((connection, self.sessions[connection]), why)
+
+    def take(self, stream: Stream, connection: int, text: bytes, place: int, begin: int) -> None:
+        """The commands that end in a further piece of a session, which is at this place of the capture."""
+        before = stream.size
+        if before or stream.has_quit:
+            stream.pieces.append(text)
+            stream.size += len(text)
+            if stream.has_quit or stream.size < stream.least or not stream.least and b"\n" not in text:
+                return
+            text = b"".join(stream.pieces)
+        at, stream.least, place = 0, 0, place - before
+        usual, size = USUAL.match, len(text)
+        while at < size:
+            found = usual(text, at)
+            end = self.take_usual(found, text, connection, begin, place, before) if found else 0
+            if not end:
+                end = self.take_other(stream, connection, text, at, begin, place, before)
+                if not end:
+                    break
+            at = end
+        stream.pieces, stream.size = [text[at:]] if at < size else [], size - at
+
+    def take_usual(self, found: re.Match[bytes], text: bytes, connection: int, begin: int, place: int,
+                   before: int) -> int:
+        """A command of a usual line. Gives its end; 0 where it is not usual after all, or not whole."""
+        getting, keys, storing, key, flags, _, length, noreply = found.groups()
+        at, end, table = found.start(), found.end(), self.table
+        if not getting:
+            line_end, count = end, int(length)
+            end += count + 2
+            if end > len(text) or count > MOST_VALUE or text[end - 2 : end] != b"\r\n":
+                return 0
+        frame_at = place + at if at >= before else table.put(text[at:end])
+        asked, session = self.of_connection[connection], self.sessions[connection]
+        if getting:
+            verb = VERB_OF[getting.decode()]
+            command = table.add(connection, session, len(asked), verb, 0, begin, frame_at, end - at)
+            number_of, add = table.number_of, table.add_call
+            for name in keys.split(b" "):
+                add(command, GET, number_of(name))
+        else:
+            verb, kind = STORING[storing]
+            command = table.add(connection, session, len(asked), verb, 1 if noreply else 0, begin, frame_at, end - at)
+            value_at = frame_at + line_end - at if frame_at >= 0 else frame_at - (line_end - at)
+            table.add_call(command, kind, table.number_of(key), 0, int(flags), value_at, count)
+        asked.append(command)
+        return end
+
+    def take_other(self, stream: Stream, connection: int, text: bytes, at: int, begin: int, place: int,
+                   before: int) -> int:
+        """Any command. Gives its end; 0 where it is not whole, or is `quit`."""
+        line_end = text.find(b"\n", at) + 1
+        if not line_end:
+            return 0
+        command, end = command_in(text[at:line_end]), line_end
+        if "bytes" in command.numbers:
+            end += command.numbers["bytes"] + 2
+            if end > len(text):
+                stream.least = end - at
+                return 0
+            command = stored(command, text[line_end:end])
+        if command.verb == "quit":
+            stream.has_quit = True
+            return 0
+        frame_at = place + at if at >= before else self.table.put(text[at:end])
+        self.add(connection, command, text[at:end], line_end - at, begin, frame_at)
+        return end
+
+    # ---- commands that are not usual
+
+    def add(self, connection: int, command: Command, frame: bytes, line_size: int, begin: int, frame_at: int) -> None:
+        """Adds a command, or the one that takes its place."""
+        read = self.read_as(connection, command, frame, line_size)
+        meant, table = read or command, self.table
+        verb = VERB_OF[meant.verb]
+        is_dropped = verb == V_STATS or meant.verb == "mg" and meant.quiet
+        if is_dropped:
+            self.notes["stats left out" if verb == V_STATS else "touch left out"] += 1
+        state = QUIET * meant.quiet | DROPPED * is_dropped | REPLACED * (read is not None)
+        asked = self.of_connection[connection]
+        number = table.add(connection, self.sessions[connection], len(asked), verb, state, begin, frame_at, len(frame))
+        asked.append(number)
+        if read is not None:
+            cut = frame[: frame.find(b"\0")] if b"\0" in frame[:line_size] else frame
+            table.replaced[number] = read, line_for(read) if read.verb != "fault" else cut + b"\r\n"
+        if verb == V_FAULT:
+            table.errors[number] = meant.error or b""
+        elif verb == V_FLUSH:
+            for _ in range(table.shards):
+                table.add_call(number, FLUSH, NO_KEY)
+        elif meant.keys and not is_dropped:
+            self.add_calls(number, meant, frame_at, line_size)
+        self.look(connection, command, frame, line_size)
+
+    def add_calls(self, number: int, command: Command, frame_at: int, line_size: int) -> None:
+        """The calls of a command on its keys."""
+        table, numbers = self.table, command.numbers
+        kind = KINDS["get" if command.verb == "gets" else command.call or command.verb]
+        given = numbers.get("unique", 0) if kind == KINDS["cas"] else numbers.get("amount", 0)
+        value_at = frame_at + line_size if frame_at >= 0 else frame_at - line_size
+        for key in command.keys:
+            table.add_call(number, kind, table.number_of(key), given, numbers.get("flags", 0), value_at,
+                           len(command.value) if command.value is not None else 0)
+
+    def look(self, connection: int, command: Command, frame: bytes, line_size: int) -> None:
+        """Notes what memcached reads otherwise."""
+        if line_size > MOST_PLAIN_LINE and not frame.startswith((b"get ", b"gets ", b"gat ", b"gats ", b"mg ")):
+            self.be_odd(connection, LONG_LINE)
+        if command.numbers.get("exptime", 0) > MOST_EXPTIME:
+            self.be_odd(connection, FAR_EXPTIME)
+        if command.verb == "fault":
+            self.look_at_fault(connection, command, frame, line_size)
+
+    def look_at_fault(self, connection: int, command: Command, frame: bytes, line_size: int) -> None:
+        """Notes what a faulty line does on a memcached alone."""
+        words, error = frame[:line_size].split(), command.error or b""
+        if error.startswith(b"SERVER_ERROR") and len(words) > 1:
+            self.unsure.setdefault(words[1], "a value is too large, and memcached then removes the older one")
+        if error.startswith(b"CLIENT_ERROR") and any(len(word) > 250 for word in words[1:]):
+            self.be_odd(connection, LONG_KEY)
+        if words and words[-1].startswith(b"HTTP/") or words[:1] == [b"quit"]:
+            self.be_odd(connection, CLOSING)
+
+    def read_as(self, connection: int, command: Command, frame: bytes, line_size: int) -> Command | None:
+        """The command that takes the place of one that the profile leaves out, or reads otherwise than memcached."""
+        if b"\0" in frame[:line_size]:
+            return self.cut_at_nul(connection, command, frame[:line_size])
+        if command.verb not in ("fault", "stats"):
+            return None
+        words = words_of(line_of(frame))
+        return READ_AS[words[0]](words) if words and words[0] in READ_AS else None
+
+    def cut_at_nul(self, connection: int, command: Command, line: bytes) -> Command | None:
+        """The command of a line up to its first NUL."""
+        cut = line[: line.index(b"\0")] + b"\r\n"
+        meant = command_in(cut)
+        if "bytes" in meant.numbers or command.value is not None or command.verb == "fault" and b"\0" in line[:2]:
+            self.be_odd(connection, NUL_BLOCK)
+            return None
+        if meant.verb in ("fault", "stats"):
+            words = words_of(line_of(cut))
+            read = READ_AS[words[0]](words) if words and words[0] in READ_AS else None
+            if read is not None and read.verb == "stats":
+                return read
+            meant = read or meant
+        for key in meant.keys:
+            self.unsure.setdefault(key, "a line has a NUL, where memcached ends it and another server may not")
+        self.notes["lines cut at a NUL"] += 1
+        return meant
+
+
+def line_for(command: Command) -> bytes:
+    """The line of a command that takes the place of another one."""
+    if command.verb == "stats":
+        return b"stats\r\n"
+    numbers = command.numbers
+    words = [command.verb.encode(), *command.keys]
+    if command.verb in ("incr", "decr"):
+        words.append(b"%d" % numbers["amount"])
+    elif command.verb == "verbosity":
+        words.append(b"%d" % numbers["level"])
+    words += [letter.encode() for letter in command.letters]
+    words += [b"noreply"] * (command.quiet and command.verb != "mg")
+    return b" ".join(words) + b"\r\n"
+
+
+# ---- commands that the profile leaves out
+
+
+def read_stats(_: list[bytes]) -> Command:
+    """`stats`, which is dropped."""
+    return Command("stats")
+
+
+def read_get(words: list[bytes]) -> Command | None:
+    """`gat` and `gats`: an exptime, and keys; `bget`."""
+    keys = words[1:] if words[0] == b"bget" else words[2:]
+    is_one = len(keys) > 0 and (words[0] == b"bget" or is_exptime(words[1]))
+    return meant(b" ".join([b"gets" if words[0] == b"gats" else b"get", *keys])) if is_one else None
+
+
+def read_touch(words: list[bytes]) -> Command | None:
+    """`touch`: a key, and an exptime."""
+    quiet = words[3:] == [b"noreply"]
+    if len(words) != 3 + quiet or not is_exptime(words[2]):
+        return None
+    command = meant(b"mg " + words[1])
+    return Command("mg", command.keys, quiet=quiet, call="get") if command else None
+
+
+def read_version(words: list[bytes]) -> Command | None:
+    """`version` and `mn`, of which memcached ignores the words after the name."""
+    return meant(words[0])
+
+
+def meant(line: bytes) -> Command | None:
+    """The command of a line without its end; None where it is faulty."""
+    command: Command = command_in(line + b"\r\n")
+    return None if command.verb == "fault" else command
+
+
+def is_exptime(word: bytes) -> bool:
+    """Whether a word is an exptime."""
+    return word.removeprefix(b"-").isdigit()
+
+
+READ_AS = {b"stats": read_stats, b"gat": read_get, b"gats": read_get, b"bget": read_get, b"touch": read_touch,
+           b"version": read_version, b"mn": read_version}
+
+
+def sessions_of(recording: Recording) -> Iterator[tuple[tuple[int, int], array[int]]]:
+    """The commands of each session, also of those without any."""
+    sessions = recording.table.session
+    for connection in range(recording.count):
+        asked, at = recording.of_connection[connection], 0
+        for session in range(recording.sessions[connection] + 1):
+            begin = at
+            while at < len(asked) and sessions[asked[at]] == session:
+                at += 1
+            yield (connection, session), asked[begin:at]

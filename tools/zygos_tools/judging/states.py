@@ -1,0 +1,220 @@
+"""What each call does to the item of its key, where it is seen what the server replied.
+
+The state of a key is (item, unique, top): the number of its flags and value, ABSENT for none, ANYTHING where nothing is
+known of it; the server's unique of the item, 0 while none was seen; and the greatest unique that was seen of the key's
+items so far. A server's uniques of one key are taken to rise. A step gives the states that a call may lead to, none
+where its reply does not fit.
+"""
+from __future__ import annotations
+
+from collections.abc import Callable, Iterable, Mapping, Sequence
+from typing import Union
+
+from zygos_tools.files.formats import MOST_VALUE
+from zygos_tools.judging.events import (ADD, APPEND, CAS, DECR, DELETE, FLUSH, GET, INCR, PREPEND, REPLACE, SET, Event)
+from zygos_tools.judging.values import Values
+
+State = tuple[int, int, int]
+# the states of several keys
+Group = tuple[State, ...]
+AnyState = Union[State, Group]
+
+ABSENT, ANYTHING = 0, -1
+NO_ITEM, NOTHING_KNOWN = (ABSENT, 0, 0), (ANYTHING, 0, 0)
+# how many bytes a key and memcached's header have at most, which count in the length of a value there
+MOST_HEAD = 512
+
+
+class Lost:
+    """A state that a call led to after the server had lost the item."""
+
+    __slots__ = ("state",)
+
+    def __init__(self, state: AnyState):
+        self.state = state
+
+
+New = Union[AnyState, Lost]
+Step = Callable[[AnyState, Event], Sequence[New]]
+
+
+def reached(new: New) -> AnyState:
+    """The state that a step leads to."""
+    return new.state if isinstance(new, Lost) else new
+
+
+def reached_at(new: New, slot: int | None) -> State:
+    """The state of a key that a step leads to; `slot` is its place in a state of several keys."""
+    state = reached(new)
+    return state if slot is None else state[slot]  # type: ignore[return-value]
+
+
+def top(state: State) -> int:
+    """The greatest unique that was seen."""
+    return state[2] if state[2] > state[1] else state[1]
+
+
+class States:
+    """The steps of calls on a key. With `loses` the server may lose an item before any call; `is_wide` is that of
+    Values."""
+
+    def __init__(self, loses: bool = False, is_wide: bool = False):
+        self.values, self.loses, self.flags = Values(is_wide), loses, [0]
+        self.of_number: dict[int | None, list[int]] = {}
+
+    def learn(self, events: Iterable[Event]) -> None:
+        """Numbers the values of events."""
+        number, flags = self.values.number, {0}
+        for event in events:
+            kind = event.kind
+            if event.flags is not None and event.value is not None and kind <= CAS and kind not in (APPEND, PREPEND):
+                event.item = number(event.flags, event.value)
+                flags.add(event.flags)
+        self.flags = sorted(flags)
+        for item in range(1, len(self.values.pairs)):
+            self.of_number.setdefault(self.values.numeric(item), []).append(item)
+
+    def step(self, state: AnyState, event: Event) -> Sequence[New]:
+        """The states after a call."""
+        now: State = state  # type: ignore[assignment]
+        if now[0] < 0:
+            return self.step_anything(now, event)
+        found: tuple[New, ...] = STEPS[event.kind](self, now, event)
+        if self.loses and now[0] > 0 and (event.kind == ADD if event.want is None else not found):
+            found += tuple([Lost(new) for new in STEPS[event.kind](self, (ABSENT, 0, top(now)), event)])
+        return found
+
+    def get(self, state: State, event: Event) -> tuple[State, ...]:
+        item = state[0]
+        if event.want == "miss":
+            return () if item else (state,)
+        if not item or event.want != "hit":
+            return (state,) if event.want is None else ()
+        if event.item != item and (event.item is not None or not self.fits(item, event)):
+            return ()
+        return (state,) if event.unique is None else self.show(state, event.unique)
+
+    def fits(self, item: int, event: Event) -> bool:
+        """Whether what was shown is an item."""
+        flags, value = self.values.pairs[item]
+        return event.flags in (None, flags) and event.value in (None, value)
+
+    def show(self, state: State, unique: int) -> tuple[State, ...]:
+        """The state where a unique is shown of its item."""
+        item, known, greatest = state
+        if known:
+            return (state,) if known == unique else ()
+        return ((item, unique, greatest),) if unique > greatest else ()
+
+    def set(self, state: State, event: Event) -> tuple[State, ...]:
+        return ((stored(event), 0, top(state)),)
+
+    def add(self, state: State, event: Event) -> tuple[State, ...]:
+        if (event.kind == ADD) == (not state[0]):
+            return ((stored(event), 0, top(state)),) if event.want != "not stored" else ()
+        return (state,) if event.want != "stored" else ()
+
+    def join(self, state: State, event: Event) -> tuple[State, ...]:
+        if not state[0]:
+            return (state,) if event.want in ("not stored", None) else ()
+        item = self.values.joined(state[0], event)
+        if item is None:
+            return (state,) if event.want in ("too large", "not stored", None) else ()
+        if event.want in ("too large", "not stored"):  # memcached counts its header too
+            return (state,) if len(self.values.pairs[item][1]) > MOST_VALUE - MOST_HEAD else ()
+        return ((item, 0, top(state)),)
+
+    def exchange(self, state: State, event: Event) -> tuple[State, ...]:
+        item, known, greatest = state
+        if not item:
+            return (state,) if event.want in ("not found", None) else ()
+        found: list[State] = []
+        unique = event.given
+        can_be = known == unique if known else unique > greatest
+        if can_be and event.want in ("stored", None):
+            found.append((stored(event), 0, max(greatest, unique)))
+        if (known != unique or not known) and event.want in ("exists", None):
+            found.append(state)
+        return tuple(found)
+
+    def count(self, state: State, event: Event) -> tuple[State, ...]:
+        if not state[0]:
+            return (state,) if event.want in ("not found", None) else ()
+        found = self.values.counted(state[0], event)
+        if found is None:
+            return (state,) if event.want in ("no number", None) else ()
+        if event.want not in ("number", None) or event.want and found[0] != event.number:
+            return ()
+        return tuple([(item, 0, top(state)) for item in found[1]])
+
+    def delete(self, state: State, event: Event) -> tuple[State, ...]:
+        if not state[0]:
+            return (state,) if event.want != "deleted" else ()
+        return ((ABSENT, 0, top(state)),) if event.want != "not found" else ()
+
+    def flush(self, state: State, _: Event) -> tuple[State, ...]:
+        return (state,) if not state[0] else ((ABSENT, 0, top(state)),)
+
+    def step_anything(self, state: State, event: Event) -> tuple[State, ...]:
+        """A step where nothing is known of the item: what was seen says what it may have been."""
+        kind, want = event.kind, event.want
+        if kind == SET:
+            return self.set(state, event)
+        if kind == GET:
+            if want == "miss":
+                return (NO_ITEM,)
+            return (state,) if event.item is None else ((stored(event), event.unique or 0, 0),)
+        if kind in (FLUSH, DELETE):
+            return (NO_ITEM,)
+        stores = want in ("stored", None)
+        if kind == ADD:
+            return tuple([(stored(event), 0, 0)] * stores + [state] * (want != "stored"))
+        found = [NO_ITEM] if want in ("not found", "not stored", None) else []
+        if kind in (REPLACE, CAS):
+            found += [(stored(event), 0, 0)] * stores + [state] * (kind == CAS and want in ("exists", None))
+        elif want == "number":
+            items = [self.values.number(flags, b"%d" % (event.number or 0)) for flags in self.flags]
+            found += [(item, 0, 0) for item in dict.fromkeys(items + self.of_number.get(event.number, []))]
+        elif want in ("no number", "too large", None):
+            found.append(state)
+        elif want == "stored":  # joined to a value that is not known: a state of its own, as the call changed the key
+            found.append((state[0], state[1], state[2]))
+        return tuple(found)
+
+
+STEPS = {GET: States.get, SET: States.set, ADD: States.add, REPLACE: States.add, APPEND: States.join,
+         PREPEND: States.join, CAS: States.exchange, INCR: States.count, DECR: States.count, DELETE: States.delete,
+         FLUSH: States.flush}
+
+
+def stored(event: Event) -> int:
+    """The item that a call stores or saw."""
+    assert event.item is not None
+    return event.item
+
+
+def of_several(states: States, slots: Mapping[bytes | None, int], of_shard: Mapping[int, Sequence[int]]) -> Step:
+    """The step of a group of keys, whose state is that of each; `slots` has the place of each key, `of_shard` those of
+    the keys of a shard."""
+
+    def step(state: AnyState, event: Event) -> Sequence[New]:
+        group: Group = state  # type: ignore[assignment]
+        if event.kind == FLUSH:
+            new: list[State] = list(group)
+            for at in of_shard[event.shard]:
+                new[at] = states.step(group[at], event)[0]  # type: ignore[assignment]
+            return (group,) if all(one is other for one, other in zip(new, group)) else (tuple(new),)
+        at = slots[event.key]
+        found = states.step(group[at], event)
+        if len(found) == 1 and found[0] is group[at]:
+            return (group,)
+        return tuple([put(group, at, new) for new in found])
+
+    return step
+
+
+def put(group: Group, at: int, new: New) -> New:
+    """The states of a group with a new one at a place."""
+    if isinstance(new, Lost):
+        return Lost(reached(put(group, at, new.state)))
+    return group if new is group[at] else (*group[:at], new, *group[at + 1 :])  # type: ignore[arg-type]

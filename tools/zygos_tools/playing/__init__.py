@@ -1,0 +1,1 @@
+"""Captures that are played to a server."""

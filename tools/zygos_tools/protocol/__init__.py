@@ -1,0 +1,1 @@
+"""The text protocol of memcached: commands, answers, uniques, and the profile's plain model."""

@@ -1,0 +1,206 @@
+"""The profile, plainly: the commands of a stream, the calls of a command, the replies of a shard, and the texts.
+
+It is written from the tables of docs/PROFILE.md, and takes its time. The commands are in meaning.py.
+"""
+import functools
+import re
+from collections.abc import Callable, Iterable
+from typing import Any, NamedTuple
+
+from zygos_tools.files.formats import GETS, MOST_VALUE, SETS, Call, Reply
+from zygos_tools.protocol.meaning import LETTERS, TOO_LARGE, Command
+
+# the texts of replies
+TEXTS = {
+    "stored": b"STORED", "not stored": b"NOT_STORED", "exists": b"EXISTS", "not found": b"NOT_FOUND",
+    "deleted": b"DELETED", "too large": TOO_LARGE,
+    "no number": b"CLIENT_ERROR cannot increment or decrement non-numeric value",
+}
+
+# the lines of `stats`: the name of each number, and its field in a tally
+STATS = [(b"cmd_get", "gets"), (b"cmd_set", "sets"), (b"get_hits", "hits"), (b"get_misses", "misses"), (b"curr_items", "items")]
+
+# the codes of replies, and which replies the flag `q` hides
+CODES = {"stored": b"HD", "deleted": b"HD", "hit": b"HD", "not stored": b"NS", "exists": b"EX", "not found": b"NF"}
+HIDDEN = {"mg": ["miss"], "ms": ["stored"], "md": ["deleted", "not found"]}
+
+Made = list[tuple[Call, Reply]]
+
+
+class Item(NamedTuple):
+    """An item of a shard."""
+
+    flags: int
+    value: bytes
+    unique: int
+
+
+# ---- calls
+
+
+def hash_of(text: bytes) -> int:
+    """The 32-bit FNV-1a hash of bytes."""
+    hashed = 2166136261
+    for byte in text:
+        hashed = (hashed ^ byte) * 16777619 % (1 << 32)
+    return hashed
+
+
+@functools.lru_cache(1 << 16)
+def shard_of(key: bytes, shards: int) -> int:
+    """The shard of a key: its hash, modulo the number of shards."""
+    return hash_of(key) % shards
+
+
+def bucket_of(key: bytes) -> int:
+    """The bucket of a key in its shard: the first eight bits of its hash."""
+    return hash_of(key) >> 24
+
+
+def part_of(key: bytes) -> int:
+    """The part of its bucket that a key is in once the bucket has parts: the next five bits of its hash."""
+    return hash_of(key) >> 19 & 31
+
+
+def call_of(command: Command, key: bytes) -> Call:
+    """The call of a command on one of its keys."""
+    name = command.call or ("get" if command.verb == "gets" else command.verb)
+    field: Callable[[str], Any] = command.numbers.get
+    value: Any = command.value
+    flags: Any = None if name in ("append", "prepend") else field("flags")
+    return Call(name, key, flags, field("unique"), value, field("amount"))
+
+
+def calls(shards: int, command: Command) -> list[tuple[int, Call]]:
+    """The calls of a command, each after its shard."""
+    if command.verb in ("flush_all", "stats"):
+        return [(shard, Call("flush" if command.verb == "flush_all" else "tally")) for shard in range(shards)]
+    return [(shard_of(key, shards), call_of(command, key)) for key in command.keys]
+
+
+# ---- shards
+
+
+class Shard:
+    """A shard: its items, how many it stored, and its calls with their replies."""
+
+    def __init__(self, number: int, shards: int) -> None:
+        self.number, self.shards, self.stored = number, shards, 0
+        self.items: dict[bytes, Item] = {}
+        self.made: Made = []
+
+    def store(self, key: bytes, flags: int, value: bytes) -> Reply:
+        self.stored += 1
+        self.items[key] = Item(flags, value, self.shards * self.stored + self.number)
+        return Reply("stored")
+
+    def reply(self, call: Call) -> Reply:
+        """Makes a call, and gives its reply."""
+        reply = tally(self.made) if call.name == "tally" else self.answer(call)
+        self.made.append((call, reply))
+        return reply
+
+    def answer(self, call: Call) -> Reply:
+        """Makes a call other than a tally."""
+        item = self.items.get(call.key)
+        if call.name == "get":
+            return Reply("hit", item.flags, item.unique, item.value) if item else Reply("miss")
+        if call.name in ("append", "prepend"):
+            return self.join(item, call)
+        if call.name in ("incr", "decr"):
+            return self.count(item, call)
+        if call.name == "delete":
+            return Reply("deleted" if self.items.pop(call.key, None) else "not found")
+        if call.name == "flush":
+            self.items = {}
+            return Reply("flushed")
+        if call.name == "cas" and (not item or item.unique != call.unique):
+            return Reply("exists" if item else "not found")
+        if call.name == "add" and item or call.name == "replace" and not item:
+            return Reply("not stored")
+        return self.store(call.key, call.flags, call.value)
+
+    def join(self, item: Item | None, call: Call) -> Reply:
+        if not item:
+            return Reply("not stored")
+        value = item.value + call.value if call.name == "append" else call.value + item.value
+        return Reply("too large") if len(value) > MOST_VALUE else self.store(call.key, item.flags, value)
+
+    def count(self, item: Item | None, call: Call) -> Reply:
+        if not item:
+            return Reply("not found")
+        if not re.fullmatch(b"[0-9]{1,20}", item.value) or int(item.value) >= 1 << 64:
+            return Reply("no number")
+        old = int(item.value)
+        number = (old + call.number) % (1 << 64) if call.name == "incr" else max(0, old - call.number)
+        self.store(call.key, item.flags, b"%d" % number)
+        return Reply("number", number=number)
+
+
+def keys_after(made: Made) -> set[bytes]:
+    """The keys of items after these calls."""
+    keys: set[bytes] = set()
+    for call, reply in made:
+        if call.name == "flush":
+            keys = set()
+        elif call.key is not None and reply.name in ("stored", "number"):
+            keys.add(call.key)
+        elif call.key is not None and reply.name == "deleted":
+            keys.discard(call.key)
+    return keys
+
+
+def tally(made: Made) -> Reply:
+    """What is counted of these calls and their replies."""
+    gets = [reply.name for call, reply in made if call.name in GETS]
+    sets = [call for call, _ in made if call.name in SETS]
+    return Reply("tally", gets=len(gets), sets=len(sets), hits=gets.count("hit"), misses=gets.count("miss"),
+                 items=len(keys_after(made)))
+
+
+# ---- texts
+
+
+def value_text(verb: str, key: bytes, reply: Reply) -> bytes:
+    """The text of one key of a `get` or `gets`."""
+    if reply.name == "miss":
+        return b""
+    unique = b" %d" % reply.unique if verb == "gets" else b""
+    return b"VALUE %s %d %d%s\r\n%s\r\n" % (key, reply.flags, len(reply.value), unique, reply.value)
+
+
+def meta_text(command: Command, reply: Reply) -> bytes:
+    """The text that answers a meta command with a key."""
+    if "q" in command.letters and reply.name in HIDDEN[command.verb]:
+        return b""
+    if reply.name in ("miss", "too large"):
+        return (b"EN" if reply.name == "miss" else TOO_LARGE) + b"\r\n"
+    shown, code, value = {"k": command.keys[0]}, CODES[reply.name], b""
+    if reply.name == "hit":
+        shown.update({"f": b"%d" % reply.flags, "c": b"%d" % reply.unique, "s": b"%d" % len(reply.value)})
+        if "v" in command.letters:
+            code, value = b"VA %d" % len(reply.value), reply.value + b"\r\n"
+    marks = [b" %s%s" % (letter.encode(), shown[letter]) for letter in command.letters if letter in shown]
+    return code + b"".join(marks) + b"\r\n" + value
+
+
+def text_of(command: Command, replies: Iterable[Reply]) -> bytes:
+    """The text that answers a command with these replies."""
+    if command.quiet:
+        return b""
+    if command.error:
+        return command.error + b"\r\n"
+    if command.verb in ("get", "gets"):
+        return b"".join(value_text(command.verb, *one) for one in zip(command.keys, replies)) + b"END\r\n"
+    if command.verb == "stats":
+        return b"".join(b"STAT %s %d\r\n" % (name, sum(getattr(reply, field) for reply in replies)) for name, field in STATS) + b"END\r\n"
+    if command.verb == "version":
+        return b"VERSION zygos-1.0\r\n"
+    if command.verb in ("verbosity", "flush_all"):
+        return b"OK\r\n"
+    if command.verb == "mn":
+        return b"MN\r\n"
+    [reply] = replies
+    if command.verb in LETTERS:
+        return meta_text(command, reply)
+    return (b"%d" % reply.number if reply.name == "number" else TEXTS[reply.name]) + b"\r\n"

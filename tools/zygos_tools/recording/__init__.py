@@ -1,0 +1,1 @@
+"""Recordings of clients and servers: by a proxy, and of recorded packets."""

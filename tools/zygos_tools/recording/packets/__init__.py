@@ -1,0 +1,1 @@
+"""Captures made of recorded packets."""

@@ -1,0 +1,174 @@
+"""Reads what tcpdump recorded: says what is in it and what was lost, and makes a capture and a replies file of it.
+
+usage: tools/packets [--port N] [--resume] [--in-order CAPTURE [--ends]] [--replies REPLIES] [--over] [FILE]
+
+  tcpdump -i lo -B 65536 -w traffic.pcap port 11211
+  tools/packets --resume --in-order my.cap --ends --replies my.replies traffic.pcap
+
+FILE is standard input if it is left out or -. CAPTURE or REPLIES may be -, standard output; then the report goes to
+standard error.
+
+--port      the port to which requests go, 1 to 65535 (default 11211)
+--in-order  write a capture in the order of the packets' times. It has the streams of `zygos pcap`, which writes one
+            connection after another
+--ends      write into that capture when each answer was complete, as a segment without bytes; tools/judge needs it
+--replies   write what the server answered, with the same connections and sessions; if requests are left out, so are
+            the answers to them
+--resume    after a lost packet, begin the connection's next session as soon as client and server are in step again: at
+            a packet that begins with a command, once the client has had its answers
+--over      overwrite CAPTURE and REPLIES if there is something in them
+
+The report has for each flow the connection number, client and server, and the number of requests up to a `quit`. A
+lost packet cuts the stream of its session: the report says after which byte, what is left out, and, with --replies or
+--resume, how many requests have no whole answer. A connection that lives for days is cut at its first loss, so it
+needs --resume. If a client sends without waiting for answers, its session may begin late, and answers that fit none of
+its first requests are left out.
+
+If `zygos pcap` rejects the file, the report names the first error, its offset, and what to do, and nothing is written.
+The status is 1 if bytes were cut away, the file is rejected, or no packet goes to the port.
+"""
+import contextlib
+import sys
+from collections import Counter
+
+from zygos_tools.cli import ends
+from zygos_tools.files import inputs
+from zygos_tools.files.outputs import Beside, refuse_full, told_apart
+from zygos_tools.files.part import Fault
+from zygos_tools.protocol import pace
+from zygos_tools.recording.packets import recorded
+from zygos_tools.recording.packets.recorded import Flows, PacketFault, number_at
+from zygos_tools.recording.packets.report import Report, answered, refusal
+from zygos_tools.recording.packets.resuming import COMMAND, Resuming
+
+OPTIONS = {"--port": ends.number(1, 65535), "--in-order": ends.FILE, "--ends": None, "--resume": None,
+           "--replies": ends.FILE, "--over": None}
+
+
+class Reading:
+    """What is read of a file: its flows, the faults of its frames, and the ports to which other packets go."""
+
+    def __init__(self, port, with_answers=False, with_ends=False, resumes=False):
+        self.port, self.with_answers, self.with_ends = port, with_answers or with_ends or resumes, with_ends
+        self.flows, self.arrivals, self.number = Resuming() if resumes else Flows(), [], 0
+        self.first, self.refused = None, 0  # the first fault, after how many records, and how many frames are refused
+        self.early = self.answering = 0  # bytes of the server before a flow's first request, and its packets
+        self.ports, self.asking = Counter(), Counter()
+
+    def read(self, text):
+        try:
+            for record in recorded.records(text):
+                self.number += 1
+                try:
+                    self.take(record)
+                except PacketFault as fault:
+                    self.first = self.first or (fault, self.number)
+                    self.refused += 1
+        except PacketFault as fault:
+            self.first = self.first or (fault, self.number + 1)
+        self.flows.settle()
+
+    def take(self, record):
+        packet = recorded.judge(record.frame, record.at, self.port)
+        if packet:
+            self.flows.meet(packet, record.at)
+            self.flows.current(packet.flow).expects(packet.expected)
+            self.arrive(self.flows.arrival(packet.flow, record.time))
+        elif found := recorded.tcp_in(record.frame, record.at, self.port):
+            self.other(record, *found)
+
+    def arrive(self, arrival):
+        if not self.arrivals or arrival[1:] != self.arrivals[-1][1:]:
+            self.arrivals.append(arrival)
+
+    def other(self, record, begin, end):
+        """A packet with TCP that is no part of a request."""
+        frame = record.frame
+        if number_at(frame, begin + 2) == self.port:
+            self.bare(frame, begin)
+            return
+        try:
+            packet = recorded.packet_of(frame, record.at, begin, end)
+        except PacketFault:
+            return
+        if number_at(frame, begin) == self.port:
+            self.answering += 1
+            self.answer(packet, record)
+        elif packet.payload and not self.flows.sessions:
+            self.ports[number_at(frame, begin + 2)] += 1
+            if COMMAND.match(packet.payload):
+                self.asking[number_at(frame, begin + 2)] += 1
+
+    def bare(self, frame, begin):
+        """A packet to the port without bytes: its number shows how many the client has sent."""
+        session = self.flows.current(frame[26:34] + frame[begin : begin + 4])
+        if session and not frame[begin + 13] & 4:
+            session.is_expected(int.from_bytes(frame[begin + 4 : begin + 8], "big"))
+            session.expects(int.from_bytes(frame[begin + 8 : begin + 12], "big"))
+
+    def answer(self, packet, record):
+        """A packet of the server."""
+        flow = packet.flow[4:8] + packet.flow[:4] + packet.flow[10:12] + packet.flow[8:10]
+        session = self.flows.current(flow)
+        if session:
+            session.is_expected(packet.expected)
+        if not self.with_answers or not (packet.payload or packet.is_syn):
+            return
+        if not session:
+            self.early += len(packet.payload)
+            return
+        session.answer(packet, record.at)
+        if self.with_ends:
+            self.arrive(self.flows.arrival(flow, record.time, is_answer=True))
+
+
+# ---- what is written
+
+
+def ends_of(session):
+    """The places at which the answers of a session end."""
+    return [session.early + answer.end for answer in pace.Answers().feed(answered(session))]
+
+
+def write(files, is_over):
+    """Writes files, each of a name and its pieces: all of them, or none."""
+    with contextlib.ExitStack() as opened:
+        for name, pieces in files:
+            if name == "-":
+                sys.stdout.buffer.writelines(pieces)
+            else:
+                opened.enter_context(Beside(name, is_over)).write(pieces)
+
+
+def look(text, name, port, **how):
+    """What is read of a file, the report on it, and why it is refused or has nothing for the port."""
+    reading = Reading(port, **how)
+    reading.read(text)
+    return reading, Report(reading), refusal(reading, text[:4], name)
+
+
+def main(words):
+    found, files = ends.options(words, OPTIONS)
+    written = [found.get(option) for option in ("--in-order", "--replies")]
+    if len(files) > 1 or written == ["-", "-"]:
+        ends.stop("one file is read, and at most one is written to standard output; --help says more", 2)
+    if "--ends" in found and not written[0]:
+        ends.stop("--ends needs --in-order, the capture in which answers end", 2)
+    name = files[0] if files else "-"
+    names = [other for other in written if other not in (None, "-")]
+    told_apart(names, [name])
+    for other in () if "--over" in found else names:
+        refuse_full(other)
+    reading, report, why = look(
+        inputs.read(name), name, found.get("--port", 11211), with_answers=written[1] is not None,
+        with_ends="--ends" in found, resumes="--resume" in found)
+    for line in report.lines:
+        print(line, file=sys.stderr if "-" in written else sys.stdout)
+    if why:
+        raise Fault(f"{inputs.name_of(name)}: {why}")
+    in_order, replies = written
+    made = [(in_order, reading.flows.in_order(reading.arrivals, ends_of))] if in_order else []
+    made += [(replies, reading.flows.replies(answered))] if replies else []
+    write(made, "--over" in found)
+    if report.sums["cut"]:
+        ends.end(1)

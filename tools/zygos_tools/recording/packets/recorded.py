@@ -1,0 +1,395 @@
+"""Recorded packets, as docs/FORMATS.md says: the packets of a file to one port, their flows, and the captures of these.
+
+`made` gives the capture that `zygos pcap` makes of a file, or raises its first fault. `records`, `tcp_in`, `packet_of`
+and `Flows` are its steps. All take time in proportion to the file.
+"""
+import struct
+from bisect import bisect_right
+from collections import namedtuple
+from itertools import groupby
+from operator import itemgetter
+
+from zygos_tools.files.formats import END, capture, capture_start, close, output, pieces, replies_start, segment
+
+MOST_FILE = (1 << 32) - 1
+MOST_FRAME, GROUPS, MOST_OF_GROUP = 262144, 128, 32
+ETHERNET, IPV4, IPV6, VLAN, TCP = 1, b"\x08\x00", b"\x86\xdd", b"\x81\x00", 6
+# numbers of TCP are counted modulo NUMBERS; offsets from BEFORE on lie before a session
+NUMBERS, BEFORE, MOST_STREAM = 1 << 32, 1 << 31, 1 << 30
+
+# the numbers of faults
+(MAGIC, VERSION, LINK_TYPE, RECORD_LENGTH, IS_IPV6, HAS_VLAN, FRAGMENT, SHORT, MISSING, FLOW_COUNT, FLOW_LENGTH,
+ TRUNCATED, TOO_LONG) = range(9, 22)
+OF_RECORDS = range(RECORD_LENGTH, TRUNCATED)
+
+HASH_KEY = int("6d5a56da255b0ec24167253d43a38fb0d0ca2bcbae7b30b477cb2da38030f20c6a42b73bbeac01fa", 16)
+HASH_KEY_BITS = 320
+
+Record = namedtuple("Record", "at time frame")
+Packet = namedtuple("Packet", "flow sequence is_syn payload expected", defaults=[None])
+# how much of the requests of a session, or of its answers, had come with a packet
+Arrival = namedtuple("Arrival", "time connection session is_answer size")
+
+
+class PacketFault(Exception):
+    """A fault by its number, with the number that its row of the table has: mostly a place."""
+
+    def __init__(self, number, at=None):
+        super().__init__(number, at)
+        self.number, self.at = number, at
+
+
+# ---- records and frames
+
+
+def byte_order(text):
+    """The order of the numbers of a file, by its header."""
+    if len(text) < 4:
+        raise PacketFault(TRUNCATED, len(text))
+    order = {b"\xa1\xb2\xc3\xd4": ">", b"\xd4\xc3\xb2\xa1": "<"}.get(text[:4])
+    if order is None:
+        raise PacketFault(MAGIC, 0)
+    if len(text) < 8:
+        raise PacketFault(TRUNCATED, len(text))
+    if struct.unpack(order + "HH", text[4:8]) != (2, 4):
+        raise PacketFault(VERSION)
+    if len(text) < 24:
+        raise PacketFault(TRUNCATED, len(text))
+    link = struct.unpack(order + "I", text[20:24])[0]
+    if link != ETHERNET:
+        raise PacketFault(LINK_TYPE, link)
+    return order
+
+
+def records(text):
+    """The records of a file: the place, the time in microseconds and the frame of each."""
+    head = struct.Struct(byte_order(text) + "III")
+    at, end = 24, min(len(text), MOST_FILE)
+    while at < end:
+        size = 0
+        if end >= at + 12:
+            seconds, micros, size = head.unpack_from(text, at)
+            if size > MOST_FRAME:
+                raise PacketFault(RECORD_LENGTH, at)
+        if end < at + 16 + size:
+            break
+        yield Record(at, seconds * 1000000 + micros, text[at + 16 : at + 16 + size])
+        at += 16 + size
+    if len(text) > MOST_FILE:
+        raise PacketFault(TOO_LONG)
+    if at < end:
+        raise PacketFault(TRUNCATED, end)
+
+
+def number_at(frame, at):
+    """The number of two bytes at a place."""
+    return frame[at] << 8 | frame[at + 1]
+
+
+def tcp_in(frame, at, port):
+    """Where the TCP header begins in a frame, and where its IP packet ends; None where the frame is passed over."""
+    if len(frame) < 14:
+        raise PacketFault(SHORT, at)
+    kind = frame[12:14]
+    if kind == IPV6 and len(frame) >= 58 and frame[20] == TCP and number_at(frame, 56) == port:
+        raise PacketFault(IS_IPV6, at)
+    if kind == VLAN:
+        raise PacketFault(HAS_VLAN, at)
+    if kind != IPV4:
+        return None
+    if len(frame) < 34 or frame[14] >> 4 != 4 or frame[14] % 16 < 5:
+        raise PacketFault(SHORT, at)
+    if frame[23] != TCP:
+        return None
+    if number_at(frame, 20) & 0x3FFF:
+        raise PacketFault(FRAGMENT, at)
+    begin, end = 14 + frame[14] % 16 * 4, 14 + number_at(frame, 16)
+    if min(end, len(frame)) < begin + 20:
+        raise PacketFault(SHORT, at)
+    return begin, end
+
+
+def packet_of(frame, at, begin, end):
+    """The packet of a frame whose TCP header begins and whose IP packet ends there."""
+    payload = begin + (frame[begin + 12] >> 4) * 4
+    if payload < begin + 20 or payload > end:
+        raise PacketFault(SHORT, at)
+    if payload < end and len(frame) < end:
+        raise PacketFault(MISSING, at)
+    sequence = int.from_bytes(frame[begin + 4 : begin + 8], "big")
+    expected = int.from_bytes(frame[begin + 8 : begin + 12], "big")
+    flow = frame[26:34] + frame[begin : begin + 4]
+    return Packet(flow, sequence, frame[begin + 13] >> 1 & 1, frame[payload:end], expected)
+
+
+def judge(frame, at, port):
+    """The packet of a frame, if it goes to the port and has a SYN flag or a payload; else None."""
+    found = tcp_in(frame, at, port)
+    if not found or number_at(frame, found[0] + 2) != port:
+        return None
+    packet = packet_of(frame, at, *found)
+    return packet if packet.is_syn or packet.payload else None
+
+
+# ---- streams
+
+
+class Stream:
+    """The bytes of one direction of a session by their offsets; of two packets that have a byte, the first counts.
+
+    They are kept in spans, by rising offset, that do not overlap: the stream is those up to the first gap. Counted are
+    the packets that fill a gap and those without a new byte.
+    """
+
+    def __init__(self, packet):
+        self.syn = packet.sequence if packet.is_syn else None
+        self.base = (packet.sequence + packet.is_syn) % NUMBERS
+        self.begins, self.texts = [0], [bytearray()]
+        self.last = 0  # the span with which the stream ends
+        self.late = self.again = 0
+
+    def stop(self, span):
+        return self.begins[span] + len(self.texts[span])
+
+    def size(self):
+        """How many bytes the stream has."""
+        return self.stop(self.last)
+
+    def end(self):
+        """The offset after all bytes."""
+        return self.stop(len(self.begins) - 1)
+
+    def text(self, begin=0, end=None):
+        """The bytes of the stream, or those from one offset to another."""
+        end, found = self.size() if end is None else end, []
+        span = bisect_right(self.begins, begin) - 1
+        while begin < end:
+            first = self.begins[span]
+            found.append(self.texts[span][begin - first : end - first])
+            begin, span = self.stop(span), span + 1
+        return b"".join(found)
+
+    def reach(self, offset):
+        """Notes that there were bytes up to an offset."""
+        if offset > self.end():
+            self.begins.append(offset)
+            self.texts.append(bytearray())
+
+    def rest(self):
+        """What comes after the stream: the offset and the bytes of each run between two gaps."""
+        found = []
+        for begin, text in zip(self.begins[self.last + 1 :], self.texts[self.last + 1 :]):
+            if found and found[-1][0] + len(found[-1][1]) == begin:
+                found[-1][1].extend(text)
+            else:
+                found.append((begin, bytearray(text)))
+        return found
+
+    def offset(self, packet, at):
+        """The offset of a packet's payload, which is below 0 before the session."""
+        offset = (packet.sequence + packet.is_syn - self.base) % NUMBERS
+        if offset >= BEFORE:
+            return offset - NUMBERS
+        if packet.payload and offset + len(packet.payload) > MOST_STREAM:
+            raise PacketFault(FLOW_LENGTH, at)
+        return offset
+
+    def meet(self, packet, at):
+        """Takes a packet."""
+        offset, payload, end = self.offset(packet, at), packet.payload, self.end()
+        if offset < 0:
+            offset, payload = 0, payload[-offset:]
+        new = self.put(offset, payload)
+        self.late += new > self.end() - end
+        self.again += bool(packet.payload and not new)
+        while self.last + 1 < len(self.begins) and self.begins[self.last + 1] == self.size():
+            self.last += 1
+
+    def put(self, offset, payload):
+        """Puts a payload at an offset, where there is no byte, and says how many bytes were new."""
+        if offset == self.end():
+            self.texts[-1] += payload
+            return len(payload)
+        first, end, new = offset, offset + len(payload), 0
+        while offset < end:
+            span = bisect_right(self.begins, offset) - 1
+            stop = self.stop(span)
+            if offset < stop:
+                offset = stop
+                continue
+            limit = min(end, self.begins[span + 1]) if span + 1 < len(self.begins) else end
+            piece = payload[offset - first : limit - first]
+            if offset == stop:
+                self.texts[span] += piece
+            else:
+                self.begins.insert(span + 1, offset)
+                self.texts.insert(span + 1, bytearray(piece))
+            new += len(piece)
+            offset = limit
+        return new
+
+
+class Answers(Stream):
+    """What a server sends in a session: its length has no bound."""
+
+    def offset(self, packet, at):
+        return self.place(packet.sequence + packet.is_syn)
+
+    def place(self, number):
+        """The offset of the byte with a sequence number: the one that is nearest to the end of the stream."""
+        ahead = (number - self.base - self.size()) % NUMBERS
+        return self.size() + (ahead if ahead < BEFORE else ahead - NUMBERS)
+
+
+class Session:
+    """What a client sends, from its first packet on, and what the server answers."""
+
+    def __init__(self, packet):
+        self.requests, self.answers = Stream(packet), None
+        # how many bytes were sent, and how many came back, as the numbers of other packets show
+        self.sent = self.heard = 0
+        self.is_resumed = self.is_answered = False  # it began anew after a loss; what came last is of the server
+        self.early, self.is_misfit = 0, False  # how many bytes answer earlier requests; no answer fits its request
+
+    def ends_with(self, packet):
+        """Whether a packet begins the next session."""
+        return packet.is_syn and self.requests.syn != packet.sequence
+
+    def answer(self, packet, at):
+        """Takes a packet of the server; a SYN packet begins its stream."""
+        if self.answers is None or packet.is_syn and self.answers.syn != packet.sequence:
+            self.answers = Answers(packet)
+        self.answers.meet(packet, at)
+        self.is_answered |= bool(packet.payload)
+
+    def expects(self, number):
+        """Notes that the client has all bytes of the server up to the one with this sequence number."""
+        place = self.answers.place(number) if self.answers else 0
+        if place < self.heard + MOST_STREAM:
+            self.heard = max(self.heard, place)
+
+    def is_expected(self, number):
+        """Notes that the client has sent all bytes up to the one with this sequence number."""
+        offset = (number - self.requests.base) % NUMBERS
+        if offset < MOST_STREAM:
+            self.sent = max(self.sent, offset)
+
+
+# ---- flows
+
+
+def toeplitz(flow):
+    """The exclusive or of the key's 32 bits from each place at which the input has a 1."""
+    number = 0
+    for place in range(8 * len(flow)):
+        if flow[place // 8] >> (7 - place % 8) & 1:
+            number ^= HASH_KEY >> (HASH_KEY_BITS - 32 - place) & 0xFFFFFFFF
+    return number
+
+
+class Flows:
+    """The flows to a port: the connection number of each, and the sessions of each number."""
+
+    def __init__(self):
+        self.numbers, self.sessions = {}, {}
+
+    def number_of(self, flow, at):
+        if flow not in self.numbers:
+            group = toeplitz(flow) % GROUPS
+            free = [number for number in range(group, group + GROUPS * MOST_OF_GROUP, GROUPS)
+                    if number not in self.sessions]
+            if not free:
+                raise PacketFault(FLOW_COUNT, at)
+            self.numbers[flow] = free[0]
+            self.sessions[free[0]] = []
+        return self.numbers[flow]
+
+    def meet(self, packet, at):
+        """Takes a packet to the port."""
+        found = self.sessions[self.number_of(packet.flow, at)]
+        if not found or found[-1].ends_with(packet):
+            found.append(Session(packet))
+        found[-1].requests.meet(packet, at)
+
+    def current(self, flow):
+        """The current session of a flow; None before its first packet."""
+        return self.sessions[self.numbers[flow]][-1] if flow in self.numbers else None
+
+    def arrival(self, flow, time, is_answer=False):
+        """How much of the current session of a flow has come, at this time."""
+        number = self.numbers[flow]
+        last = len(self.sessions[number]) - 1
+        session = self.sessions[number][last]
+        return Arrival(time, number, last, is_answer, (session.answers if is_answer else session.requests).size())
+
+    def settle(self):
+        """All packets were met."""
+
+    def count(self):
+        return max(self.sessions, default=-1) + 1
+
+    def capture(self):
+        """The capture that has one flow after another."""
+        made = []
+        for number in sorted(self.sessions):
+            for at, session in enumerate(self.sessions[number]):
+                made += [close(number)] if at else []
+                made += pieces(number, session.requests.text())
+        return capture(self.count(), made, 2)
+
+    def in_order(self, arrivals, ends_of=None):
+        """The bytes of the capture with the same streams, cut where in time other connections come in between.
+
+        Where an answer is whole that arrived, there is a segment without bytes; `ends_of` gives the places at which the
+        answers of a session end.
+        """
+        yield capture_start(self.count(), 2)
+        last, written, ends = {}, {}, {}
+        for key, some in groupby(by_time(arrivals), itemgetter(1, 2, 3)):
+            number, at, is_answer = key
+            if at < last.setdefault(number, at):
+                continue
+            session = self.sessions[number][at]
+            if at > last[number]:
+                yield close(number)
+                last[number] = at
+            begin, end = written.get(key, 0), max(one.size for one in some)
+            written[key] = end
+            if not is_answer:
+                yield from pieces(number, session.requests.text(begin, end))
+                continue
+            if key not in ends:
+                ends[key] = ends_of(session)
+            yield segment(number, b"") * (bisect_right(ends[key], end) - bisect_right(ends[key], begin))
+        yield END
+
+    def replies(self, answered):
+        """The bytes of the replies file with what the server answered in each session, as `answered` says of it."""
+        yield replies_start(2)
+        for number in range(self.count()):
+            for at, session in enumerate(self.sessions.get(number, [None])):
+                yield output(2, number, at, answered(session) if session else b"")
+        yield END
+
+
+def by_time(arrivals):
+    """Arrivals by their time; requests of a connection stay in their order, and answers come after the requests that
+    were before them."""
+    latest, found = {}, []
+    for one in arrivals:
+        number, time = one.connection, max(one.time, latest.get((one.connection, one.is_answer), one.time))
+        latest[number, True] = max(time, latest.get((number, True), time))
+        if not one.is_answer:
+            latest[number, False] = time
+        found.append(one._replace(time=time))
+    return sorted(found, key=lambda one: one.time)
+
+
+def made(text, port):
+    """The capture of a file, or its first fault."""
+    flows = Flows()
+    for record in records(text):
+        packet = judge(record.frame, record.at, port)
+        if packet:
+            flows.meet(packet, record.at)
+    return flows.capture()
