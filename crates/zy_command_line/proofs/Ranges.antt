@@ -11,7 +11,7 @@ use Rattle.zy_command_line.specs.declared.request.Request.{Request}
 use Rattle.zy_command_line.specs.declared.request.Request.TheVariants as Requests
 use Rattle.zy_command_line.specs.declared.verb.Verb.{Verb}
 use Rattle.zy_command_line.specs.declared.verb.Verb.TheVariants as Verbs
-use Rattle.zy_command_line.specs.Request.{in_range, number_or, cores_of, threads_of, order_of, shards_of, idle_turns_of, port_of, out_of, run_on, run_of, traffic_of, traffic_within, seed_of, conns_of, commands_of, asked_by, asked_with, verb_named, names_of, request_of}
+use Rattle.zy_command_line.specs.Request.{in_range, number_or, cores_of, threads_of, order_of, shards_of, idle_turns_of, port_of, out_of, run_on, run_of, traffic_of, traffic_within, seed_of, conns_of, commands_of, asked_by, asked_with, verb_named, names_of, request_of, shards_asked}
 use Rattle.zy_command_line.specs.Range.{IsRunnable, AreShards, IsPort, IsMakeable}
 
 -- a number, if it is given, is in its range
@@ -172,6 +172,13 @@ runs_are_runnable words run out e = let fine : AsksFine (request_of words) = all
 
 pub checks_have_shards : (words : List Word) (shards : ℕ) → request_of words ≡ Some (Requests.Check shards) → AreShards shards
 checks_have_shards words shards e = let fine : AsksFine (request_of words) = all_fine words in rw e at fine
+
+all_shards : (options : Option Options) → IsFrom 1 256 (option_and_then shards_of options)
+all_shards None = tt
+all_shards (Some options) = given 1 256 16 (value_of (codes "shards") options) (omega arith) (omega arith)
+
+pub shards_are_shards : (words : List Word) (shards : ℕ) → shards_asked words ≡ Some shards → AreShards shards
+shards_are_shards words shards e = let fine : IsFrom 1 256 (shards_asked words) = all_shards (options_of (names_of Verbs.Check) words) in rw e at fine
 
 pub ports_are_ports : (words : List Word) (port : ℕ) → request_of words ≡ Some (Requests.Pcap port) → IsPort port
 ports_are_ports words port e = let fine : AsksFine (request_of words) = all_fine words in rw e at fine

@@ -157,6 +157,10 @@ asked_by Verbs.Report options = Some Requests.Report
 abbrev pub asked_with : List Word → Verb → Option Request
 asked_with words verb = option_and_then (asked_by verb) (options_of (names_of verb) words)
 
+-- the number of shards that the words ask for, if they are the options of a check
+abbrev pub shards_asked : List Word → Option ℕ
+shards_asked words = option_and_then shards_of (options_of (names_of Verbs.Check) words)
+
 -- what the words ask for: the first is the command, the others are its options; `None` if they are
 -- not lawful
 abbrev pub request_of : List Word → Option Request

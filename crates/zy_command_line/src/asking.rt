@@ -3,7 +3,7 @@ ghost use Rattle.std.specs.Prelude.{◌≡◌, true, false, map, IfOk, MatchOpti
 ghost use Rattle.std.specs.List.{list_all};
 ghost use Rattle.zy_command_line.specs.Grammar.{Options, is_plain};
 ghost use Rattle.zy_command_line.specs.Splitting.{HasOptions};
-ghost use Rattle.zy_command_line.specs.Request.{request_of, asked_with, asked_by, run_by, self_by};
+ghost use Rattle.zy_command_line.specs.Request.{request_of, shards_asked, asked_with, asked_by, run_by, self_by};
 
 use crate::given::{out, port, run, shards, traffic};
 use crate::plain::plain_text;
@@ -24,6 +24,16 @@ pub fn request_of(alloc: Global, words: &[Blob]) -> Result<Option<Request>, NoMe
     match verb_named(word.bytes()) {
         Some(verb) => asked_with(alloc, options, verb),
         None => Ok(None),
+    }
+}
+
+/// The number of shards that the words ask for, if they are the options of a check; `None` if they are not.
+pub fn shards_asked(alloc: Global, words: &[Blob]) -> Result<Option<u32>, NoMemory>
+    ensures value { IfOk result (λ shards. shards ≡ shards_asked words.now) }
+{
+    match asked_with(alloc, words, Verb::Check)? {
+        Some(Request::Check { shards }) => Ok(Some(shards)),
+        _ => Ok(None),
     }
 }
 

@@ -5,7 +5,7 @@ ghost use Rattle.zy_command_line.specs.Range.{IsRunnable, AreShards, IsPort, IsM
 ghost use Rattle.zy_command_line.specs.declared.request.Run.{Run};
 ghost use Rattle.zy_command_line.specs.declared.request.Traffic.{Traffic};
 ghost use Rattle.zy_command_line.specs.declared.request.Out.{Out};
-ghost use Rattle.zy_command_line.specs.Request.{request_of};
+ghost use Rattle.zy_command_line.specs.Request.{request_of, shards_asked};
 ghost use Rattle.zy_command_line.specs.declared.request.Request.TheVariants as Requests;
 
 /// A lawful run has 1 to 64 cores, 1 to as many threads, 1 to 256 shards, and rests after at most
@@ -17,6 +17,8 @@ pub fn requests_are_in_their_ranges()
         → request_of words ≡ Some (Requests.Run run out) → IsRunnable run }
     ensures check { (words : List Word) (shards : ℕ)
         → request_of words ≡ Some (Requests.Check shards) → AreShards shards }
+    ensures shards { (words : List Word) (shards : ℕ)
+        → shards_asked words ≡ Some shards → AreShards shards }
     ensures port { (words : List Word) (port : ℕ)
         → request_of words ≡ Some (Requests.Pcap port) → IsPort port }
     ensures traffic { (words : List Word) (traffic : Traffic)

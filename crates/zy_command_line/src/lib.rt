@@ -10,5 +10,5 @@ mod request;
 mod splitting;
 mod verb;
 
-pub use asking::request_of;
+pub use asking::{request_of, shards_asked};
 pub use request::{Out, Request, Run, Traffic};

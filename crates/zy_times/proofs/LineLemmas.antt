@@ -18,7 +18,7 @@ use Rattle.zy_frame.specs.Progress.{StandsFor}
 use Rattle.zy_run.specs.Commands.{streams_in, commands_over}
 use Rattle.zy_run.specs.Output.{commands_before}
 use Rattle.zy_run.proofs.StreamLemmas.{length-streams_in}
-use Rattle.zy_times.specs.Line.{conn_of}
+use Rattle.zy_input.specs.Parts.{conn_of}
 use Rattle.zy_check.proofs.ListLemmas.{get_append, get_behind}
 use Rattle.zy_times.specs.declared.line.Line.{Line}
 use Rattle.zy_times.specs.declared.session.Session.{Session}

@@ -2,7 +2,6 @@
 use Rattle.std.specs.Prelude.{◌≡◌, ℕ, ◌+◌, ◌≤◌, List, length, take, Some}
 use Rattle.std.specs.List.{slice_get}
 use Rattle.zy_capture.specs.declared.record.Record.{Record}
-use Rattle.zy_capture.specs.declared.record.Record.TheVariants as Kinds
 use Rattle.zy_capture.specs.Streams.{closes, stream}
 use Rattle.zy_frame.specs.Progress.{StandsFor}
 use Rattle.zy_run.specs.Commands.{streams_in, commands_in}
@@ -12,11 +11,6 @@ use Rattle.zy_times.specs.declared.session.Session.{Session}
 use Rattle.zy_times.specs.declared.times.Times.{Times}
 use Rattle.zy_times.specs.First.{AreRises}
 use Rattle.zy_times.specs.Times.{marks_in}
-
--- the connection of a record
-abbrev pub conn_of : Record → ℕ
-conn_of (Kinds.Segment s) = s.conn
-conn_of (Kinds.Close conn) = conn
 
 -- the first of a session's commands, and the moments of its marks
 pub record SessionHolds (records : List Record) (conn session : ℕ) (s : Session) : Type 0 where

@@ -8,6 +8,7 @@ mod late;
 mod laws;
 mod line;
 mod moments;
+mod notes;
 mod session;
 mod spans;
 mod times;

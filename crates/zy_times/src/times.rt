@@ -2,8 +2,8 @@
 ghost use Rattle.std.specs.Prelude.{◌≡◌, ◌+◌, ◌<◌, ℕ, List, [], ◌∷◌, ◌++◌, length, OnOk, IfOk};
 ghost use Rattle.zy_capture.specs.declared.record.Record.{Record};
 ghost use Rattle.zy_capture.specs.declared.record.Record.TheVariants as Kinds;
+ghost use Rattle.zy_input.specs.Parts.{conn_of};
 ghost use Rattle.zy_times.specs.Line.{TimesHold};
-ghost use Rattle.zy_times.specs.Line.{conn_of};
 
 use crate::line::Line;
 use std::alloc::Global;

@@ -40,7 +40,7 @@ fn write_piece<K: Sink>(sink: &mut K, piece: Piece) -> Result<(), Failed>
 }
 
 /// Writes a line with a number at its end.
-pub(crate) fn write_number<K: Sink>(
+pub fn write_number<K: Sink>(
     sink: &mut K,
     text: &'static [u8],
     number: u64,
@@ -52,7 +52,7 @@ pub(crate) fn write_number<K: Sink>(
 }
 
 /// Writes a line with two numbers.
-pub(crate) fn write_two<K: Sink>(
+pub fn write_two<K: Sink>(
     sink: &mut K,
     text: &'static [u8],
     number: u64,
@@ -73,7 +73,7 @@ pub(crate) fn write_two<K: Sink>(
 }
 
 /// Writes the line of a verdict.
-pub(crate) fn write_verdict<K: Sink>(sink: &mut K, verdict: Verdict) -> Result<(), Failed>
+pub fn write_verdict<K: Sink>(sink: &mut K, verdict: Verdict) -> Result<(), Failed>
     ensures writes { Writes K.holds K.faults K.finishes sink.old sink.new result (verdict_line verdict) }
 {
     match verdict {

@@ -12,7 +12,7 @@ use zy_input::Refusal;
 use zy_pcap::PcapFault;
 
 /// Writes the line of the answer. A failure here is ignored.
-pub(crate) fn say<E: Sink>(says: &mut E, answer: &Answer)
+pub fn say<E: Sink>(says: &mut E, answer: &Answer)
     ensures said { Said (E.holds says.old) (E.holds says.new) (E.faults says.old) (E.faults says.new)
         (answer_line answer.now) }
 {

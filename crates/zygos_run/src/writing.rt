@@ -14,7 +14,7 @@ pub(crate) fn write_last<K: Sink>(sink: &mut K, piece: &[u8]) -> Result<(), Fail
 }
 
 /// Finishes the sink, if all of a text was written to it.
-pub(crate) fn finish_written<K: Sink>(
+pub fn finish_written<K: Sink>(
     sink: &mut K,
     written: Result<(), Failed>,
 ) -> Result<(), Failed>

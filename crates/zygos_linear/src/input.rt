@@ -1,0 +1,57 @@
+//! Judging an input.
+ghost use Rattle.std.specs.Prelude.{◌≡◌, ◌≤◌, Some};
+ghost use Rattle.zy_command_line.specs.Range.{AreShards};
+ghost use Rattle.zy_serving.specs.Seen.{side, both_sides};
+ghost use Rattle.zygos_run.specs.Ends.{LeavesSink};
+ghost use Rattle.zygos_run.specs.Finish.{FinishesOnce};
+ghost use Rattle.zygos_linear.specs.Answers.{answer_of_check};
+ghost use Rattle.zygos_linear.specs.Ends.{EndsAs};
+ghost use Rattle.zygos_linear.specs.Input.{FindsIn};
+
+use crate::answer::Answer;
+use crate::finding::Finding;
+use crate::judging::judge_parts;
+use crate::writing::write_finding;
+use std::alloc::Global;
+use zy_base::{Failed, Sink, Source};
+use zy_input::{Stop, read_noted_parts};
+use zy_times::Times;
+
+/// Reads a capture, a journal and a replies file, and writes the line of what is found of them.
+pub(crate) fn judge_input<S: Source, K: Sink>(
+    alloc: Global,
+    shards: u32,
+    source: &mut S,
+    sink: &mut K,
+) -> Answer
+    requires shards { AreShards shards }
+    ensures reads { S.faults source.old ≤ S.faults source.new }
+    ensures writes { K.faults sink.old ≤ K.faults sink.new }
+    ensures ends { EndsAs (Some shards)
+        (both_sides (side S.rest S.faults source.old source.new) (side K.holds K.faults sink.old sink.new)) result }
+    ensures sink_kept { LeavesSink (answer_of_check result) → sink.new ≡ sink.old }
+    ensures finished { FinishesOnce (answer_of_check result) (K.finishes sink.old) (K.finishes sink.new)
+        (K.is_finished sink.new) }
+{
+    match find(alloc, shards, source) {
+        Ok(finding) => match write_finding(sink, finding) {
+            Ok(()) => Answer::Judged(finding),
+            Err(Failed) => Answer::WriteFault,
+        },
+        Err(Stop::Refused(refusal)) => Answer::Refused(refusal),
+        Err(Stop::ReadFault) => Answer::ReadFault,
+        Err(Stop::NoMemory) => Answer::OutOfMemory,
+    }
+}
+
+// Reads the three parts, and judges them.
+fn find<S: Source>(alloc: Global, shards: u32, source: &mut S) -> Result<Finding, Stop>
+    requires shards { AreShards shards }
+    ensures reads { S.faults source.old ≤ S.faults source.new }
+    ensures ends { FindsIn shards (side S.rest S.faults source.old source.new) result }
+{
+    let parts = read_noted_parts::<Times, S>(alloc, source)?;
+    let found = judge_parts(alloc, &parts, shards);
+    drop(parts);
+    Ok(found?)
+}

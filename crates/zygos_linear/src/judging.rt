@@ -1,0 +1,39 @@
+//! What is found of the parts of an input.
+ghost use Rattle.std.specs.Prelude.{ℕ, List, IfOk};
+ghost use Rattle.zy_capture.specs.declared.record.Record.{Record};
+ghost use Rattle.zy_command_line.specs.Range.{AreShards};
+ghost use Rattle.zy_check.specs.Given.{all_given};
+ghost use Rattle.zygos_linear.specs.Finding.{HasFinding, recording_of};
+ghost use Rattle.zygos_linear.specs.Input.{AreOfRecords};
+
+use crate::finding::Finding;
+use std::alloc::Global;
+use zy_base::NoMemory;
+use zy_check::{Checked, check_answered};
+use zy_input::NotedParts;
+use zy_times::{Times, judge};
+
+/// Judges the parts of an input.
+pub(crate) fn judge_parts(
+    alloc: Global,
+    parts: &NotedParts<Times>,
+    shards: u32,
+) -> Result<Finding, NoMemory>
+    requires shards { AreShards shards }
+    requires records { (count : ℕ) × (records : List Record)
+        × AreOfRecords parts.now.capture.streams parts.now.capture.notes count records }
+    ensures found { IfOk result (λ finding. (count : ℕ) (records : List Record)
+        → AreOfRecords parts.now.capture.streams parts.now.capture.notes count records
+        → HasFinding (all_given shards parts.now.capture.streams parts.now.journal parts.now.outputs)
+        (recording_of records parts.now.journal.entries) count finding) }
+{
+    let streams = &parts.capture.streams;
+    match check_answered(alloc, streams, &parts.journal, &parts.outputs, shards)? {
+        Checked::No(cause) => Ok(Finding::NoRun(cause)),
+        Checked::Yes(answered) => {
+            let timing = judge(alloc, &parts.capture.notes, &answered, &parts.journal);
+            drop(answered);
+            Ok(Finding::Run(timing?))
+        }
+    }
+}

@@ -1,0 +1,68 @@
+//! What a program does with its process: its words, and its end without memory.
+
+use crate::standard::StdSink;
+use std::alloc::Global;
+use std::env::{Env, FillError};
+use std::io::Write;
+use std::process::ExitCode;
+use zy_base::{Blob, NoMemory, write_whole};
+
+// The exit status if there is no memory, and its line.
+const OUT_OF_MEMORY: u8 = 6;
+
+const OUT_OF_MEMORY_LINE: &[u8] = b"zygos: out of memory\n";
+
+/// Writes to standard error that there is no memory for the words themselves, or for a buffer; the exit status.
+/// Takes no memory.
+pub fn without_memory<W: Write + Drop>(error: W) -> ExitCode {
+    let mut says = StdSink::new(error);
+    // The status is the same if the line cannot be written.
+    let _ = write_whole(&mut says, OUT_OF_MEMORY_LINE);
+    drop(says);
+    ExitCode::from(OUT_OF_MEMORY)
+}
+
+/// The words after the program's name, as bytes.
+pub fn words<R: Env>(rt: &R, alloc: Global) -> Result<Vec<Blob>, NoMemory> {
+    let mut words = Vec::new(alloc);
+    match add_words(rt, alloc, &mut words) {
+        Ok(()) => Ok(words),
+        Err(e) => {
+            drop(words);
+            Err(e)
+        }
+    }
+}
+
+fn add_words<R: Env>(rt: &R, alloc: Global, words: &mut Vec<Blob>) -> Result<(), NoMemory> {
+    for i in 1..usize::MAX {
+        match word(rt, alloc, i)? {
+            Some(word) => words.push(word)?,
+            None => break,
+        }
+    }
+    Ok(())
+}
+
+// One word, by a buffer that doubles until the word fits.
+fn word<R: Env>(rt: &R, alloc: Global, i: usize) -> Result<Option<Blob>, NoMemory> {
+    let mut size = 256usize;
+    for _ in 0..usize::BITS {
+        let mut buffer = vec![in alloc; 0u8; size]?;
+        match rt.arg(i, buffer.as_mut_slice()) {
+            Ok(length) => {
+                buffer.truncate(length);
+                return Ok(Some(Blob::from_vec(buffer)));
+            }
+            Err(FillError::NotPresent) => {
+                drop(buffer);
+                return Ok(None);
+            }
+            Err(FillError::TooLong) => {
+                drop(buffer);
+                size = size.saturating_add(size);
+            }
+        }
+    }
+    Err(NoMemory)
+}
