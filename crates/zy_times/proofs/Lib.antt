@@ -10,3 +10,4 @@ pub mod FitLemmas
 pub mod InTimeLemmas
 pub mod LateLemmas
 pub mod JudgeLemmas
+pub mod CheckedLemmas
