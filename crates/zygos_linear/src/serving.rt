@@ -1,5 +1,5 @@
 //! The top call.
-ghost use Rattle.std.specs.Prelude.{◌≡◌, ◌≤◌, ◌×◌, ℕ, None};
+ghost use Rattle.std.specs.Prelude.{◌≡◌, ◌≤◌, ℕ, None};
 ghost use Rattle.zy_base.specs.Outside.{Rose};
 ghost use Rattle.zy_command_line.specs.Request.{shards_asked};
 ghost use Rattle.zy_check.specs.declared.verdict.Verdict.TheVariants.{Yes, No};

@@ -19,7 +19,7 @@ mod writing;
 pub use answer::{Answer, status};
 pub use lines::{write_number, write_two, write_verdict};
 pub use process::{without_memory, words};
-pub use saying::say;
+pub use saying::say_line;
 pub use serving::serve;
 pub use standard::{StdSink, StdSource};
 pub use writing::finish_written;

@@ -12,14 +12,15 @@ use zy_input::Refusal;
 use zy_pcap::PcapFault;
 
 /// Writes the line of the answer. A failure here is ignored.
-pub fn say<E: Sink>(says: &mut E, answer: &Answer)
+pub(crate) fn say<E: Sink>(says: &mut E, answer: &Answer)
     ensures said { Said (E.holds says.old) (E.holds says.new) (E.faults says.old) (E.faults says.new)
         (answer_line answer.now) }
 {
     let _ = say_line(says, answer);
 }
 
-fn say_line<E: Sink>(says: &mut E, answer: &Answer) -> Result<(), Failed>
+/// Writes the line of the answer.
+pub fn say_line<E: Sink>(says: &mut E, answer: &Answer) -> Result<(), Failed>
     ensures writes { Writes E.holds E.faults E.finishes says.old says.new result (answer_line answer.now) }
 {
     match answer {
