@@ -31,4 +31,5 @@ module _ (shards count : ℕ) (streams : List (List (List ℕ))) (records : List
       let found = timed (recording_of records journal.entries) count recorded_run in
       record { run = checked.0; marks = found.0; in_time = found.1; commands_are = found.2; ended_are = found.3 }
   found_run (EarlyEnd at) timed = (checked.0, timed (recording_of records journal.entries) count recorded_run)
-  found_run (OutOfTime entry after) timed = (checked.0, timed (recording_of records journal.entries) count recorded_run)
+  found_run (OutOfTime entry after) timed =
+      let found = timed (recording_of records journal.entries) count recorded_run in (checked.0, found.0, found.1)
