@@ -1,5 +1,5 @@
 -- What is found of a run.
-use Rattle.std.proofs.Common.{◌≡◌, ℕ, List, Bool, subst}
+use Rattle.std.proofs.Common.{ℕ, List, Bool, subst}
 use Rattle.zy_capture.specs.declared.record.Record.{Record}
 use Rattle.zy_capture.specs.Outputs.{AllOutputs}
 use Rattle.zy_journal.specs.declared.journal.Journal.{Journal}

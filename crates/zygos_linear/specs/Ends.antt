@@ -40,10 +40,10 @@ EndsAs shards call OutOfMemory = ⊤
 
 -- ---- answers that must come
 
--- the answer is a finding
-abbrev pub IsJudged : Answer → Type 0
-IsJudged answer = (finding : Finding) × (answer ≡ Judged finding)
+-- the answer is this one, unless memory ran out
+abbrev pub IsThisOr : Answer → Answer → Type 0
+IsThisOr expected answer = (answer ≡ expected) ⊎ (answer ≡ OutOfMemory)
 
--- the same, unless memory ran out
+-- the answer is a finding, unless memory ran out
 abbrev pub IsJudgedOr : Answer → Type 0
-IsJudgedOr answer = IsJudged answer ⊎ (answer ≡ OutOfMemory)
+IsJudgedOr answer = ((finding : Finding) × (answer ≡ Judged finding)) ⊎ (answer ≡ OutOfMemory)

@@ -2,7 +2,6 @@
 use Rattle.std.specs.Prelude.{◌≡◌, ℕ, List, Result, Ok, Err}
 use Rattle.zy_capture.specs.declared.record.Record.{Record}
 use Rattle.zy_capture.specs.Streams.{no_bytes, with_records}
-use Rattle.zy_input.specs.declared.parts.NotedParts.{NotedParts}
 use Rattle.zy_input.specs.declared.stop.Refusal.{Refusal}
 use Rattle.zy_read.specs.declared.stop.Stop.{Stop}
 use Rattle.zy_serving.specs.Seen.{Side, OfGiven}

@@ -11,10 +11,10 @@ ghost use Rattle.zy_times.specs.declared.timing.Timing.TheVariants.{InTime, Earl
 ghost use Rattle.zygos_run.specs.Ends.{IsFaultOf, ReadsInput, LeavesSink};
 ghost use Rattle.zygos_run.specs.Finish.{FinishesOnce};
 ghost use Rattle.zygos_run.specs.Said.{Said};
-ghost use Rattle.zygos_run.specs.Served.{IsToldGood, IsToldBad, IsRefusedOr, IsUsageOr};
+ghost use Rattle.zygos_run.specs.Served.{IsToldGood, IsToldBad};
 ghost use Rattle.zygos_linear.specs.declared.finding.Finding.TheVariants.{NoRun, Run};
 ghost use Rattle.zygos_linear.specs.Answers.{answer_of_check};
-ghost use Rattle.zygos_linear.specs.Ends.{check_with, Finds, Judges, JudgesPart, IsJudgedOr};
+ghost use Rattle.zygos_linear.specs.Ends.{check_with, Finds, Judges, JudgesPart, IsThisOr, IsJudgedOr};
 ghost use Rattle.zygos_linear.specs.Finding.{IsLinearizable};
 ghost use Rattle.zygos_linear.specs.Lines.{finding_line, line_for};
 
@@ -66,7 +66,7 @@ pub fn serve_linear<S: Source, K: Sink, E: Sink>(
 
     // The other answers, each with its cause.
     ensures usage { result ≡ Answer.Usage → shards_asked words.now ≡ None }
-    ensures unlawful { shards_asked words.now ≡ None → IsUsageOr (answer_of_check result) }
+    ensures unlawful { shards_asked words.now ≡ None → IsThisOr Answer.Usage result }
     ensures refused { (r : _) → result ≡ Answer.Refused r
         → IsFaultOf (check_with (shards_asked words.now)) (S.rest source.old) r }
     ensures read_fault { result ≡ Answer.ReadFault
@@ -81,7 +81,7 @@ pub fn serve_linear<S: Source, K: Sink, E: Sink>(
         → IsJudgedOr result }
     ensures refuses { (r : _) → IsToldBad (check_with (shards_asked words.now)) (S.rest source.old) r
         → NoneRose (both_sides (side S.rest S.faults source.old source.new) (side K.holds K.faults sink.old sink.new))
-        → IsRefusedOr r (answer_of_check result) }
+        → IsThisOr (Answer.Refused r) result }
 
     // What stays.
     ensures sink_kept { LeavesSink (answer_of_check result) → sink.new ≡ sink.old }
