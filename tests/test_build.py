@@ -305,24 +305,24 @@ def answers_before_proofs(one):
 
 @in_repository
 def two_programs(one):
-    """When ./zygos builds linear: alone if it is asked for first, and else with zygos."""
+    """When ./zygos builds zygos and linear: whichever of them is not built, with the other."""
     one.furnish()
     for name in ("times", "linear"):
         one.write(f"crates/{name}/src/{'main' if name == 'linear' else 'lib'}.rt", "")
     one.write("crates.txt", "low: std\nhigh: low\ntimes: low\nlinear: times low\nzygos: high low\n")
     one.write("tools/repo/shares.txt", "low 30\nhigh 30\ntimes 30\nlinear 30\nzygos 30\n")
-    linear, zygos = "linear: times low times: low", "zygos: high low high: low"
-    alone = f"linear: low is proved, 1 of 3: 0 elapsed|--shards=2|summed|ci in a copy|crates: {linear} low: std|"
-    one.says("linear is proved with what it uses alone", alone, "zygos linear --shards=2 | tr '\\n' '|'")
-    one.says("then zygos without it", f"{LOW}check|summed|ci in a copy|crates: {zygos} low: std|", "zygos check | tr '\\n' '|'")
-    one.says("both start at once", "report|--shards=3|", "{ zygos report; zygos linear --shards=3; } | tr '\\n' '|'")
+    linear, zygos = "linear: times low times: low", "zygos: high low high: low low: std"
+    both = f"ci in a copy|crates: {zygos} {linear}|"
+    alone = "linear: low is proved, 1 of 3: 0 elapsed|--shards=2|summed|summed|ci in a copy|crates: linear: times low times: low low: std|"
+    one.says("both are proved together", f"linear: low is proved, 1 of 5: 0 elapsed|--shards=2|summed|summed|{both}",
+             "zygos linear --shards=2 | tr '\\n' '|'")
+    one.says("then both start at once", "report|--shards=3|", "{ zygos report; zygos linear --shards=3; } | tr '\\n' '|'")
     one.shell('rm "$made"/out/*.built')
-    one.says("what isn't built is built together", f"{LOW.replace('3', '5')}summed|summed|ci in a copy|crates: {zygos} low: std"
-             f" {linear}|", "zygos build | tr '\\n' '|'")
-    one.says("and both start at once again", "report|--shards=3|", "{ zygos report; zygos linear --shards=3; } | tr '\\n' '|'")
+    one.says("and so if zygos is built first", f"{LOW.replace('3', '5')}summed|summed|{both}", "zygos build | tr '\\n' '|'")
+    one.says("both start at once again", "report|--shards=3|", "{ zygos report; zygos linear --shards=3; } | tr '\\n' '|'")
     one.write("crates/times/src/new.rt", "")
-    one.says("a crate of linear alone is no cause to prove zygos", "check|summed|", "zygos check | tr '\\n' '|'")
-    one.says("but to prove linear", alone.replace("summed|", "summed|summed|"), "zygos linear --shards=2 | tr '\\n' '|'")
+    one.says("a crate that only linear uses is no cause to prove zygos", "check|summed|", "zygos check | tr '\\n' '|'")
+    one.says("but to prove linear", alone, "zygos linear --shards=2 | tr '\\n' '|'")
     one.says("with --keep each is proved in its folder", "all check in zygos|run in zygos|all check in linear|run in linear|",
              "zygos build --keep | sed '/summed/d' | tr '\\n' '|'")
     one.write("crates/times/src/new.rt", "//! another")
