@@ -122,10 +122,10 @@ def sources(top, name):
 
 
 def vain_laws(top):
-    """The laws of the programs' crates that no code of them calls, nor a law that it calls, as crate and name."""
+    """The laws of the crates of zygos that no code of them calls, nor a law that it calls, as crate and name."""
     needs = crates_in(top)
     laws, wanted = [], []
-    for crate in program_crates(needs):
+    for crate in [*below_of("zygos", needs), "zygos"]:
         for text in sources(top, crate):
             laws += [(crate, name, CALLED.findall(body)) for _, name, body in LAW.findall(text)]
             wanted += CALLED.findall(LAW.sub("", text))
