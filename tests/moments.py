@@ -1,4 +1,4 @@
-"""What `linear` has to answer to files that `zygos check` takes, of some thousand commands: a plain pass over them.
+"""What `linear` has to answer to files that `zygos check` takes, of thousands of commands: a plain pass over them.
 `times.py` has the definitions, for less.
 
 A command is sent with the record that completes it. A mark, a segment without bytes, ends the first command of its

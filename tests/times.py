@@ -4,7 +4,7 @@
 usage: tests/times.py [--shards N] < FILES     (a capture, a journal and a replies file, joined)
 
 Each definition is looked up as it reads, at each moment and for each pair of entries. A moment is a number of records:
-what had come after the first ones. It is for some hundred records; `moments.py` is for more.
+what had come after the first ones. It is for up to a few hundred records; `moments.py` is for more.
 """
 import argparse
 import functools
