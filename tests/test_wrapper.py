@@ -243,7 +243,7 @@ class Advice(unittest.TestCase):
     def test_each_line_of_the_program_that_says_no_has_advice(self):
         with open(f"{TOP}/docs/COMMANDS.md", encoding="utf-8") as file:
             page = file.read()
-        table = page.partition("## Messages of the program")[2].partition("\n## ")[0]
+        table = page.partition("## Messages of the programs")[2].partition("\n## ")[0]
         lines = [row.split("|")[1].split("`")[1].replace("\\", "") for row in table.split("\n") if row.startswith("| `")]
         self.assertGreater(len(lines), 15)
         for line in lines:
