@@ -1,5 +1,5 @@
-"""What `zygos linear` has to answer to files that `zygos check` takes, of some thousand commands: a plain pass over
-them.
+"""What `linear` has to answer to files that `zygos check` takes, of thousands of commands: a plain pass over them.
+`times.py` has the definitions, for less.
 
 A command is sent with the record that completes it. A mark, a segment without bytes, ends the first command of its
 session that has an answer and no mark yet, and all commands before that.
@@ -52,7 +52,7 @@ class Moments:
 
 
 def line_of(files):
-    """The line that `zygos linear` prints if `zygos check` says yes."""
+    """The line that `linear` prints if `zygos check` says yes."""
     parts = cut_all(files)
     capture, journal = read_capture(Part("capture", parts["capture"])), read_journal(Part("journal", parts["journal"]))
     replies = defaultdict(list)

@@ -162,21 +162,34 @@ def answer(text, shards=16):
 # ---- a run of its own
 
 
+def left_of(given):
+    """The calls that each connection has to make."""
+    return [[(connection, *due) for due in due_of(given, connection)] for connection in range(len(given.streams))]
+
+
+def make(given, shards, call):
+    """Makes a call: its entry, with the reply of its shard, comes after the others."""
+    connection, index, part, shard, asked = call
+    given.entries.append(Entry(len(given.entries) + 1, shard, connection, index, part, asked, shards[shard].reply(asked)))
+
+
+def end(given):
+    """Adds the holds and the outputs of a run that has made all calls."""
+    for connection, sessions in enumerate(given.streams):
+        count = len(commands_in(given, connection))
+        given.holds.extend(Hold(connection, 0, min(MOST_HOLD, count - at)) for at in range(0, count, MOST_HOLD))
+        given.outputs.extend(Output(connection, session, output_of(given, connection, session))
+                             for session in range(len(sessions)))
+    return given
+
+
 def run_of(capture, shards=16, draw=None):
     """A run that makes the next call of the first connection that has one, or of one that is drawn, again and again."""
     given = Given(shards, streams_of(capture), [], [], [])
-    left = [[(connection, *due) for due in due_of(given, connection)] for connection in range(capture.count)]
-    all_shards = [Shard(number, shards) for number in range(shards)]
+    left, all_shards = left_of(given), [Shard(number, shards) for number in range(shards)]
     while some := [calls_left for calls_left in left if calls_left]:
-        connection, index, part, shard, call = (draw.choice(some) if draw else some[0]).pop(0)
-        stamp = len(given.entries) + 1
-        given.entries.append(Entry(stamp, shard, connection, index, part, call, all_shards[shard].reply(call)))
-    for connection in range(capture.count):
-        count = len(commands_in(given, connection))
-        given.holds.extend(Hold(connection, 0, min(MOST_HOLD, count - at)) for at in range(0, count, MOST_HOLD))
-        for session in range(len(given.streams[connection])):
-            given.outputs.append(Output(connection, session, output_of(given, connection, session)))
-    return given
+        make(given, all_shards, (draw.choice(some) if draw else some[0]).pop(0))
+    return end(given)
 
 
 def main():

@@ -7,17 +7,19 @@ from zygos_tools.repository import TOP
 
 ONE = ["run", "--cores", "1", "--threads", "1"]
 BOTH = ["--out", "both"]
+# which program is run where the words of the script name none
+name = "zygos"
 failures = []
 
 
 def path():
     """Where the program is."""
-    return sys.argv[1] if len(sys.argv) > 1 else os.path.join(TOP, "crates/zygos/out/zygos")
+    return sys.argv[1] if len(sys.argv) > 1 else os.path.join(TOP, "crates", name, "out", name)
 
 
 def run(words, given, output=subprocess.PIPE, **how):
-    return subprocess.run([path(), *words], input=given, stdout=output, stderr=subprocess.PIPE, timeout=120, check=False,
-                          **how)
+    given = {} if given is None else {"input": given}
+    return subprocess.run([path(), *words], stdout=output, stderr=subprocess.PIPE, timeout=120, check=False, **given, **how)
 
 
 def answer(words, given):

@@ -13,11 +13,12 @@ from traffic import until
 # has heard the answer, or the tests have ended
 RT = """#!/usr/bin/env bash
 [ "$1" != version ] || { echo kit; exit; }
-printf '%s in %s\\n' "$*" "${PWD##*/}" | sed 's/zygos[.].*/a copy/' >>"$made/order"
-[ "$1" != ci ] || { printf 'crates: %s\\n' "$(paste -s -d ' ' crates.txt)" >>"$made/order"; cd crates/zygos && mkdir out; }
+make() { mkdir -p "$1/out"; printf '#!/bin/sh\\necho "$@"\\ncat\\n' >"$1/out/${1##*/}"; chmod +x "$1/out/${1##*/}"; }
+printf '%s in %s\\n' "$*" "${PWD##*/}" | sed 's/[a-z]*[.].*/a copy/' >>"$made/order"
+[ "$1" != ci ] || printf 'crates: %s\\n' "$(paste -s -d ' ' crates.txt)" >>"$made/order"
+[ "$1" != ci ] || for main in crates/*/src/main.rt; do make "${main%/src/*}"; done
 [ "$1" != all ] || mkdir -p out/incremental
-[ "$1" != run ] && [ "$1" != ci ] || printf '#!/bin/sh\\necho "$@"\\ncat\\n' >out/zygos
-[ "$1" != run ] && [ "$1" != ci ] || chmod +x out/zygos
+[ "$1" != run ] || make "$PWD"
 [ "$1" != ci ] || { printf '== low\\nlogic=proved functions=1\\nrt: low proved\\n'; sleep 1; }
 while [ "$1" = ci ] && [ -e "$made/hold" ] && [ ! -e "$made/heard" ] && kill -0 "$tests" 2>/dev/null; do
     sleep 0.1
@@ -202,7 +203,8 @@ def wrong_words(one):
     for words, line in (
         ("rnu", "rnu: no such command"), ("run --core 4", "run: unknown option --core"), ("gen -x", "gen: unknown option -x"),
         ("check --shards", "check: --shards has no value"), ("try rnu", "rnu: no such command"), ("try", "no such command"),
-        ("build all", "build: all: it takes --keep or --sum, or no word"),
+        ("build all", "build: all: it takes --keep or --sum, or no word"), ("linear --cores 2", "linear: unknown option --cores"),
+        ("linear my.cap", "linear: my.cap: files come on standard input, as in ./zygos linear < FILE"),
         ("run --cores 1 my.cap", "run: my.cap: files come on standard input, as in ./zygos run < FILE"),
         ("run --cores 65", "run: --cores is a number from 1 to 64, not 65"),
         ("run --threads=abc", "run: --threads is a number from 1 to 64, not abc"),
@@ -301,6 +303,34 @@ def answers_before_proofs(one):
     os.unlink(one.path("hold"))
 
 
+@in_repository
+def two_programs(one):
+    """When ./zygos builds zygos and linear: whichever of them is not built, with the other."""
+    one.furnish()
+    for name in ("times", "linear"):
+        one.write(f"crates/{name}/src/{'main' if name == 'linear' else 'lib'}.rt", "")
+    one.write("crates.txt", "low: std\nhigh: low\ntimes: low\nlinear: times low\nzygos: high low\n")
+    one.write("tools/repo/shares.txt", "low 30\nhigh 30\ntimes 30\nlinear 30\nzygos 30\n")
+    linear, zygos = "linear: times low times: low", "zygos: high low high: low low: std"
+    both = f"ci in a copy|crates: {zygos} {linear}|"
+    alone = "linear: low is proved, 1 of 3: 0 elapsed|--shards=2|summed|summed|ci in a copy|crates: linear: times low times: low low: std|"
+    one.says("both are proved together", f"linear: low is proved, 1 of 5: 0 elapsed|--shards=2|summed|summed|{both}",
+             "zygos linear --shards=2 | tr '\\n' '|'")
+    one.says("then both start at once", "report|--shards=3|", "{ zygos report; zygos linear --shards=3; } | tr '\\n' '|'")
+    one.shell('rm "$made"/out/*.built')
+    one.says("and so if zygos is built first", f"{LOW.replace('3', '5')}summed|summed|{both}", "zygos build | tr '\\n' '|'")
+    one.says("both start at once again", "report|--shards=3|", "{ zygos report; zygos linear --shards=3; } | tr '\\n' '|'")
+    one.write("crates/times/src/new.rt", "")
+    one.says("a crate that only linear uses is no cause to prove zygos", "check|summed|", "zygos check | tr '\\n' '|'")
+    one.says("but to prove linear", alone, "zygos linear --shards=2 | tr '\\n' '|'")
+    one.says("with --keep each is proved in its folder", "all check in zygos|run in zygos|all check in linear|run in linear|",
+             "zygos build --keep | sed '/summed/d' | tr '\\n' '|'")
+    one.write("crates/times/src/new.rt", "//! another")
+    one.says("and then so again", "all check in linear|run in linear|", "zygos build | sed '/summed/d' | tr '\\n' '|'")
+    one.says("without a proof, in its own folder", "zygos: running the program without any proof|said|--shards 5|try -- --shards 5 in linear|",
+             "zygos try linear --shards 5 | sed '/summed/d' | tr '\\n' '|'")
+
+
 def failing(one):
     """Where a proof fails, its faults are printed, and no other proof is awaited."""
     one.write("bin/rt", FAILING, 0o755)
@@ -314,7 +344,7 @@ def failing(one):
              "zygos_on '' run | tr '|' '\\n' | grep 'NOT PROVED:'")
 
 
-Tests = cases(costs, watched, measured, wrong_words, benches, builds)
+Tests = cases(costs, watched, measured, wrong_words, benches, builds, two_programs)
 
 if __name__ == "__main__":
     unittest.main()

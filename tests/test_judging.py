@@ -10,8 +10,8 @@ from lies import Liar, outputs_of, verdict
 import moments
 import plain
 from thought import USUAL, WIDE, Draw, Memcached, in_sessions
-from zygos_tools.files.formats import (Call, Part, capture, cut_all, journal, pieces, read_capture, read_journal,
-                                       replies, replies_file, segment)
+from zygos_tools.files.formats import (Call, Part, Segment, capture, close, cut_all, journal, pieces, read_capture,
+                                       read_journal, replies, replies_file, segment)
 from zygos_tools.judging.judge import Clock, Judge
 from zygos_tools.protocol.pace import Pace
 from zygos_tools.repository import TOP
@@ -80,15 +80,18 @@ def added_connections_keep_times():
 
 
 def lies_about_time(name):
-    """A journal with two entries swapped across an end, a mark before its command, and a mark of another connection."""
-    parts = cut_all(files_of(recorded(name)))
+    """A journal with two entries swapped across an end, a mark before its command, and a mark of another connection or, in a
+    recording of sessions, of another session."""
+    has_sessions = name == "sessions"
+    parts = cut_all(files_of(in_sessions(3, 4, 20, 4, 2) if has_sessions else recorded(name)))
     for what, changed in (("two entries", swapped_entries(parts)), ("an early mark", early_mark(parts)),
+                          ("a mark of another session", later_mark(parts)) if has_sessions else
                           ("a mark of another connection", other_mark(parts))):
         yield what, changed["capture"] + changed["journal"] + changed["replies"]
 
 
 def lies_about_time_are_refused():
-    for name in ("fleet", "counting"):
+    for name in ("fleet", "counting", "sessions"):
         for what, files in lies_about_time(name):
             same(f"the check of {name} with {what}", 0, plain.answer(files, 16)[0])
             same(f"the times of {name} with {what}", "no", moments.line_of(files).split()[0])
@@ -111,25 +114,40 @@ def swapped_entries(parts):
     return fail("two entries across an end", "there are none") or parts
 
 
-def with_records(parts, records, count):
-    return {**parts, "capture": capture(count, [segment(*record) for record in records])}
+def with_records(parts, records, whole):
+    spelled = [segment(*record) if isinstance(record, Segment) else close(*record) for record in records]
+    return {**parts, "capture": capture(whole.count, spelled, whole.version)}
+
+
+def first_mark(parts):
+    """The capture, and the place of its first mark."""
+    whole = read_capture(Part("capture", parts["capture"]))
+    return whole, next(at for at, record in enumerate(whole.records) if isinstance(record, Segment) and not record.text)
 
 
 def early_mark(parts):
     """The first mark is moved before all commands."""
-    whole = read_capture(Part("capture", parts["capture"]))
-    at = next(at for at, record in enumerate(whole.records) if not record.text)
-    return with_records(parts, [whole.records[at], *whole.records[:at], *whole.records[at + 1 :]], whole.count)
+    whole, at = first_mark(parts)
+    return with_records(parts, [whole.records[at], *whole.records[:at], *whole.records[at + 1 :]], whole)
+
+
+def later_mark(parts):
+    """The first mark becomes that of the next session of its connection, before the commands of that."""
+    whole, at = first_mark(parts)
+    records = list(whole.records)
+    mark = records.pop(at)
+    ends = [place for place, record in enumerate(records)
+            if record.connection == mark.connection and not isinstance(record, Segment)]
+    records.insert(ends[0] + 1, mark)
+    return with_records(parts, records, whole)
 
 
 def other_mark(parts):
     """A mark becomes that of a connection that has no answer to come."""
-    whole = read_capture(Part("capture", parts["capture"]))
-    at = next(at for at, record in enumerate(whole.records) if not record.text)
-    other = next(one.connection for one in whole.records if one.connection != whole.records[at].connection)
-    records = [record for place, record in enumerate(whole.records) if place != at]
-    records.insert(0, whole.records[at]._replace(connection=other))
-    return with_records(parts, records, whole.count)
+    whole, at = first_mark(parts)
+    mark, records = whole.records[at], [record for place, record in enumerate(whole.records) if place != at]
+    other = next(one.connection for one in whole.records if one.connection != mark.connection)
+    return with_records(parts, [mark._replace(connection=other), *records], whole)
 
 
 # ---- a verdict on every key

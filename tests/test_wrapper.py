@@ -46,6 +46,11 @@ self) kill -TERM $$ ;;
 esac
 ZYGOS
 chmod +x crates/zygos/out/zygos
+if [ -d crates/linear ]; then
+    mkdir -p crates/linear/out
+    printf '#!/bin/bash\\necho "no early-end record $# $*"; exit 1\\n' >crates/linear/out/linear
+    chmod +x crates/linear/out/linear
+fi
 printf '== low\\nlogic=proved functions=1\\nrt: low proved\\n'
 """
 PROGRAM, TOOLS = ("zygos", "HANDLES"), ("build",)
@@ -207,6 +212,18 @@ class Said(Wrapper):
                 self.assertEqual(line + advice, said[: len(line + advice)])
                 self.assertEqual(bool(advice) + bool(line), said.count("\n"))
 
+    def test_another_program_gets_its_words_and_advice(self):
+        self.stand_in(MAKING)
+        os.makedirs(f"{self.made}/crates/linear/src")
+        self.write("repository/crates/linear/src/main.rt", "")
+        self.write("repository/crates.txt", "low: std\nzygos: low\nlinear: low\n")
+        self.assertEqual(0, self.run_it("zygos", "build")[0])
+        for words, line in ((("linear",), b"no early-end record 0 \n"), (("linear", "--shards", "7"), b"no early-end record 2 --shards 7\n")):
+            with self.subTest(words):
+                self.assertEqual((1, line, ""), self.run_it("zygos", *words))
+                status, output, said = self.at_terminal("zygos", *words)
+                self.assertEqual((1, line, "zygos: was the capture recorded"), (status, output, said[:31]))
+
     def test_a_signal_that_ends_the_program_ends_the_script(self):
         self.stand_in(MAKING)
         self.assertEqual(0, self.run_it("zygos", "build")[0])
@@ -226,7 +243,7 @@ class Advice(unittest.TestCase):
     def test_each_line_of_the_program_that_says_no_has_advice(self):
         with open(f"{TOP}/docs/COMMANDS.md", encoding="utf-8") as file:
             page = file.read()
-        table = page.partition("## Messages of the program")[2].partition("\n## ")[0]
+        table = page.partition("## Messages of the programs")[2].partition("\n## ")[0]
         lines = [row.split("|")[1].split("`")[1].replace("\\", "") for row in table.split("\n") if row.startswith("| `")]
         self.assertGreater(len(lines), 15)
         for line in lines:

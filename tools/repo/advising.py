@@ -1,7 +1,8 @@
 """Runs zygos for a person at a terminal: after the program's own line comes one on standard error that says what to do.
 
-The arguments are PROGRAM COMMAND .., from ./zygos. Standard input and output are the program's, and so are its lines and
-its status. With --said COMMAND, only the advice on the lines of standard input is printed.
+The arguments are PROGRAM COMMAND .., from ./zygos, or a program that is one command with its options. Standard input and
+output are the program's, and so are its lines and its status. With --said COMMAND, only the advice on the lines of standard
+input is printed.
 """
 import os
 import re
@@ -52,9 +53,14 @@ def advice_on(command, line):
     return next((advice for pattern, advice in ADVICE if re.match(pattern, line)), None)
 
 
-def advise(words, output, said):
+def command_of(program, words):
+    """The command that is run: the first word after zygos; any other program is a command itself."""
+    name = os.path.basename(program)
+    return words[0] if name == "zygos" and words else name
+
+
+def advise(command, words, output, said):
     """Prints the advice on what the program wrote to standard output, at its beginning, and said on standard error."""
-    command = words[0]
     lines = [*said.decode(errors="replace").splitlines(), *output.decode(errors="replace").splitlines()[:1]]
     found = next(filter(None, (advice_on(command, line) for line in lines)), None)
     if command == "pcap" and output == NOTHING:
@@ -81,7 +87,7 @@ def pass_on(source):
 def run(program, words):
     """Runs the program; gives its status, the beginning of its output, and what it said."""
     with tempfile.TemporaryFile() as said:
-        output = subprocess.PIPE if words[0] in HEADED else None
+        output = subprocess.PIPE if command_of(program, words) in HEADED else None
         with subprocess.Popen([program, *words], stdout=output, stderr=said) as ran:
             for number in FORWARDED:
                 signal.signal(number, lambda got, _: ran.send_signal(got))
@@ -99,13 +105,13 @@ def run(program, words):
 
 def main(program, *words):
     if program == "--said":
-        advise(words, b"", sys.stdin.buffer.read())
+        advise(words[0], words, b"", sys.stdin.buffer.read())
         return 0
     status, head, said = run(program, words)
     if status < 0:
         signal.signal(-status, signal.SIG_DFL)
         os.kill(os.getpid(), -status)
-    advise(words, head, said)
+    advise(command_of(program, words), words, head, said)
     return status
 
 

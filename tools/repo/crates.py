@@ -13,6 +13,7 @@ CALLED = re.compile(r"\b(\w+)(?:::<[^>]*>)?\(\);")
 FUNCTION = re.compile(r"^(?P<indent> *)(?P<pub>pub )?(?:pub\(\w+\) )?(?:const |unsafe )*fn (?P<name>\w+)", re.M)
 CLAUSES = re.compile(r"^\s*(?:requires|ensures|ghost|let ghost)\b.*?\}\s*$", re.M | re.S)
 NAMES = re.compile(r"\b(\w+)(?:::<[^>]*>)?(?=\s*\()|(?:::|\()(\w+)(?=\)|,)")
+PROGRAMS = "zygos", "linear"
 # what the language and the library's traits call
 ROOTS = "main", "drop", "read", "write", "finish", "eq", "clone", "cmp", "hash", "next", "from"
 
@@ -46,6 +47,12 @@ def below_of(name, needs, seen=None):
             below_of(lower, needs, seen)
             seen.append(lower)
     return seen
+
+
+def program_crates(needs):
+    """The crates of the programs, lowest first."""
+    wanted = {name for program in PROGRAMS if program in needs for name in [*below_of(program, needs), program]}
+    return [name for name in needs if name in wanted]
 
 
 # ---- what a build takes
@@ -115,7 +122,7 @@ def sources(top, name):
 
 
 def vain_laws(top):
-    """The laws of the program's crates that no code of them calls, nor a law that it calls, as crate and name."""
+    """The laws of the crates of zygos that no code of them calls, nor a law that it calls, as crate and name."""
     needs = crates_in(top)
     laws, wanted = [], []
     for crate in [*below_of("zygos", needs), "zygos"]:
@@ -132,13 +139,13 @@ def vain_laws(top):
 
 
 def spare_calls(top):
-    """The public functions of the program's crates that no run of the program reaches, as crate and name.
+    """The public functions of the programs' crates that no run of a program reaches, as crate and name.
 
     Functions are told apart by their names alone, so one that shares its name with a function in use is not found.
     """
     needs = crates_in(top)
     public, calls = [], {}
-    for crate in [*below_of("zygos", needs), "zygos"]:
+    for crate in program_crates(needs):
         for text in sources(top, crate):
             text = re.sub(r"(?m)^\s*//.*$", "", LAW.sub("", text))
             for head in FUNCTION.finditer(text):

@@ -61,7 +61,10 @@ class Progress:
 
     def __init__(self, program, processors, taken):
         self.needs = crates_in(TOP)
-        names = [name for name in self.needs if name in {program, *below_of(program, self.needs)}]
+        # a copy has the crates of the programs that are built together, and no others
+        is_copy = taken.folder not in ("", TOP)
+        wanted = crates_in(taken.folder) if is_copy else {program, *below_of(program, self.needs)}
+        names = [name for name in self.needs if name in wanted]
         self.program, self.processors, self.taken = program, processors, taken
         self.begin, self.gone, self.shares = time.monotonic(), [], shares(names)
 

@@ -15,6 +15,6 @@
 | `fitting`, `mending` | fits the orders of the keys in a circle to each other |
 | `numbering` | an order in which stores get the numbers that the server gave them |
 | `reasons` | the few calls that no order explains |
-| `certificate` | the capture, the journal and the replies that `zygos check` takes, with what is translated |
+| `certificate` | the capture, the journal and the replies that `linear` and `zygos check` take, with what is translated |
 | `judge` | all this, one after the other |
 """

@@ -1,4 +1,4 @@
-"""The files for `zygos check` and `zygos linear`: the capture, the journal of an order of all calls, and the replies.
+"""The files for `zygos check` and `linear`: the capture, the journal of an order of all calls, and the replies.
 
 The capture has the recorded records in the recorded order, so that it keeps what is known of times. A command that is
 translated stands in the segments in which it came. A segment without bytes, the mark of an answer, is left out only

@@ -256,8 +256,7 @@ class Judging:
     def check(self, file: IO[bytes]) -> int:
         """Runs a proved checker on the files. Gives its status."""
         assert self.judge
-        is_timed = self.judge.kind == ENDS and os.path.isdir(os.path.join(TOP, "crates", "linear"))
-        words = ["linear" if is_timed else "check", "--shards", str(self.given.get("--shards", 16))]
+        words = ["linear" if self.judge.kind == ENDS else "check", "--shards", str(self.given.get("--shards", 16))]
         sys.stdout.flush()
         ran = subprocess.run([ZYGOS, *words], stdin=file, check=False, stdout=subprocess.PIPE)
         self.checked = ran.stdout.decode("ascii", "replace").strip()
