@@ -15,7 +15,7 @@ pub fn meaning(alloc: Global, frame: Frame) -> Result<Command, (Frame, NoMemory)
 {
     let Frame { kind, parsed } = frame;
     match kind {
-        FrameKind::Line { line } => match parse_read(alloc, line.bytes(), &parsed) {
+        FrameKind::Line { line } => match parse_read(alloc, &line, &parsed) {
             Ok(command) => {
                 drop(line);
                 Ok(command)
@@ -30,7 +30,7 @@ pub fn meaning(alloc: Global, frame: Frame) -> Result<Command, (Frame, NoMemory)
         },
         FrameKind::Block { line, block } => match parse_read_block(
             alloc,
-            line.bytes(),
+            &line,
             &parsed,
             block,
         ) {
