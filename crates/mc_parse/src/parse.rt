@@ -7,9 +7,9 @@ ghost use Rattle.mc_parse.specs.declared.command.Command.{Command};
 ghost use Rattle.mc_parse.specs.Words.{words, line_limit};
 ghost use Rattle.mc_parse.specs.Need.{need};
 ghost use Rattle.mc_parse.specs.declared.name.Name.TheVariants as Names;
-ghost use Rattle.mc_parse.specs.Form.{is_key, form_after, ask_seen, asks};
+ghost use Rattle.mc_parse.specs.Form.{is_key, form_after, line_form, ask_seen};
 ghost use Rattle.mc_parse.specs.Line.{form_seen, retrieval};
-ghost use Rattle.mc_parse.specs.Parsed.{IsParsed, stored_ask};
+ghost use Rattle.mc_parse.specs.Parsed.{IsParsed, IsStoring, stored_ask};
 ghost use Rattle.mc_parse.specs.Meaning.{line_command, block_command, large_command, IsBlockFor, IsTooLarge};
 ghost use Rattle.mc_parse.specs.Meaning.{alone_command, value_command, command_for, block_command_for};
 ghost use Rattle.mc_parse.specs.Meaning.{large_command_for, fault, is_ended, value_of};
@@ -89,10 +89,7 @@ pub fn parse_read_block(
     ensures returned { IfErr result (λ e. e.0 ≡ block) }
 {
     match parsed.name {
-        Some(name) => match parsed.key(line) {
-            Ok(key) => storage_command(name, parsed, key, block),
-            Err(e) => Err((block, e)),
-        },
+        Some(name) => storage_command(name, line, parsed, block),
         None => meta_block_command(alloc, line.bytes(), block),
     }
 }
@@ -112,12 +109,7 @@ pub fn parse_large(line: &[u8]) -> Command
 }
 
 // The command of a name with the text after it, with which its line ends.
-fn named_command(
-    alloc: Global,
-    name: Name,
-    line: &Blob,
-    text: &[u8],
-) -> Result<Command, NoMemory>
+fn named_command(alloc: Global, name: Name, line: &Blob, text: &[u8]) -> Result<Command, NoMemory>
     requires rest { IsRestOf text.now line.now }
     ensures value { IfOk result (λ command. command ≡ command_for (form_after name (words text.now))) }
 {
@@ -155,12 +147,7 @@ fn alone_command(alloc: Global, ask: Ask<'_>, quiet: bool) -> Result<Command, No
 // A retrieval, whose keys are the words of a text with which its line ends, one at least. A word that is too long for
 // a key is found while the words are taken.
 #[tactic(auto, using(crate::proofs::GetLemmas::gets_keys, crate::proofs::GetLemmas::gets_long))]
-fn get_command(
-    alloc: Global,
-    line: &Blob,
-    text: &[u8],
-    unique: bool,
-) -> Result<Command, NoMemory>
+fn get_command(alloc: Global, line: &Blob, text: &[u8], unique: bool) -> Result<Command, NoMemory>
     requires rest { IsRestOf text.now line.now }
     ensures value { IfOk result (λ command. command
         ≡ command_for (form_after (Names.Get unique) (words text.now))) }
@@ -219,29 +206,29 @@ fn count_command(
     })
 }
 
-// The storage command that this was read of, with its key and its block. The copies of the value share the block's
+// The storage command of a line, of which this was read, with its block. The copies of the value share the block's
 // bytes.
 fn storage_command(
     name: Name,
+    line: &Blob,
     parsed: &Parsed,
-    key: Blob,
     mut block: Blob,
 ) -> Result<Command, (Blob, NoMemory)>
-    ensures value { IfOk result (λ command. (bytes : ℕ) → command ≡ block_command_for block
-        (asks (stored_ask name key parsed.now.flags bytes parsed.now.unique) parsed.now.quiet)) }
+    requires storing { IsStoring line.now parsed.now name }
+    ensures value { IfOk result (λ command. command ≡ block_command_for block (line_form line.now)) }
     ensures returned { IfErr result (λ e. e.0 ≡ block) }
 {
     if !is_ended(&block) {
-        drop(key);
         drop(block);
         return Ok(block_fault(ErrorLine::BadChunk, parsed.quiet));
     }
     if let Err(e) = block.share() {
-        drop(key);
         return Err((block, e));
     }
-    let value = value_of(block);
-    Ok(stored_command(name, parsed, key, value))
+    match parsed.key(line) {
+        Ok(key) => Ok(stored_command(name, parsed, key, value_of(block))),
+        Err(e) => Err((block, e)),
+    }
 }
 
 // The storage command that this was read of, with its key and its value.
@@ -309,7 +296,6 @@ pub(crate) fn value_of(mut block: Blob) -> Blob
 }
 
 // Appends the words of a text with which a line ends, up to one that is too long for a key; `false` if there is one.
-#[tactic(auto, using(crate::proofs::ParsedLemmas::parts_rest, zy_base::proofs::RestLemmas::rest_on))]
 fn take_keys(line: &Blob, keys: &mut Keys, text: &[u8]) -> Result<bool, NoMemory>
     requires rest { IsRestOf text.now line.now }
     ensures value { IfOk result (λ are. are ≡ list_all is_key (words text.now)) }
@@ -330,7 +316,7 @@ fn take_keys(line: &Blob, keys: &mut Keys, text: &[u8]) -> Result<bool, NoMemory
 #[tactic(auto, using(crate::proofs::ParsedLemmas::word_within, zy_base::proofs::RestLemmas::rest_word))]
 fn take_key(line: &Blob, keys: &mut Keys, split: Split<'_>) -> Result<(), NoMemory>
     requires rest { IsRestOf (split.word.now ++ split.rest.now) line.now }
-    ensures ok { OnOk result (keys.new ≡ keys.old ++ split.word.now ∷ []) }
+    ensures ok { OnOk result (keys.new ≡ keys.old ++ split.entry.word.now ∷ []) }
 {
     let end = line.bytes().len() - split.rest.len();
     let key = line.part(end - split.word.len(), end)?;

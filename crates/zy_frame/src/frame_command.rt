@@ -28,12 +28,7 @@ pub fn meaning(alloc: Global, frame: Frame) -> Result<Command, (Frame, NoMemory)
                 e,
             )),
         },
-        FrameKind::Block { line, block } => match parse_read_block(
-            alloc,
-            &line,
-            &parsed,
-            block,
-        ) {
+        FrameKind::Block { line, block } => match parse_read_block(alloc, &line, &parsed, block) {
             Ok(command) => {
                 drop(line);
                 Ok(command)
