@@ -6,6 +6,7 @@ use crate::sure::sure;
 use mc_store::{Root, StoreTable};
 use std::alloc::Global;
 use std::process::Abort;
+use zy_base::Blob;
 use zy_conn::{Block, EventInlet};
 use zy_frame::{Framer, Frames};
 
@@ -42,7 +43,9 @@ pub(crate) fn offer_text(rt: &impl Abort, alloc: Global, inlet: &mut EventInlet,
 {
     let mut framer = Framer::new(alloc);
     let mut frames = Frames::new(alloc);
-    sure(rt, framer.feed(text, &mut frames));
+    let piece = sure(rt, Blob::copy_of(alloc, text));
+    sure(rt, framer.feed(&piece, &mut frames));
+    drop(piece);
     drop(framer);
     while let Some(frame) = frames.next() {
         let refused = inlet.offer(frame);

@@ -11,7 +11,7 @@ use Rattle.mc_parse.specs.declared.need.Need.TheVariants.{Nothing}
 use Rattle.mc_parse.specs.Form.{gets, asks, is_key, check, find, form_with, form_after, line_form}
 use Rattle.mc_parse.specs.Arity.{following}
 use Rattle.mc_parse.specs.Need.{need, need_for}
-use Rattle.mc_parse.specs.Meaning.{command_for, fault, IsBlockFor, IsTooLarge}
+use Rattle.mc_parse.specs.Meaning.{command_for, fault, IsTooLarge}
 use Rattle.mc_parse.specs.Line.{IsLimited, retrieval}
 
 found_by : (b unique : Bool) (ws : List (List ℕ)) → b ≡ true
@@ -47,13 +47,7 @@ few_by : (name : Name) → ((unique : Bool) → name ≡ Get unique → ⊥) →
 few_by (Get unique) other = other unique refl
 few_by name other = tt
 
--- a line that needs a block is no retrieval
-pub block_few : (line : List ℕ) (name : Name) (ws : List (List ℕ)) (block : List ℕ) → line_form line ≡ form_after name ws → IsBlockFor (need line) block → IsLimited name
-unfolding need
-block_few line name ws block is fits =
-    few_by name (λ unique get. subst (λ n. IsBlockFor n block) (ap need_for is ∙ ap (λ n. need_for (form_after n ws)) get ∙ got_nothing unique ws) fits)
-
--- so is one whose value is too large
+-- a line whose value is too large is no retrieval
 pub large_few : (line : List ℕ) (name : Name) (ws : List (List ℕ)) → line_form line ≡ form_after name ws → IsTooLarge (need line) → IsLimited name
 unfolding need
 large_few line name ws is large =

@@ -1,14 +1,15 @@
 //! The command of a line, and of a line with its block.
-ghost use Rattle.std.specs.Prelude.{◌≡◌, ◌≤◌, true, [], ◌∷◌, ◌++◌, length, IfOk, IfErr, OnOk};
+ghost use Rattle.std.specs.Prelude.{◌≡◌, ◌≤◌, ℕ, true, [], ◌∷◌, ◌++◌, length, IfOk, IfErr, OnOk};
 ghost use Rattle.std.specs.List.{list_all};
+ghost use Rattle.zy_base.specs.Rest.{IsRestOf};
 ghost use Rattle.mc_parse.specs.declared.need.Need.{Need};
 ghost use Rattle.mc_parse.specs.declared.command.Command.{Command};
 ghost use Rattle.mc_parse.specs.Words.{words, line_limit};
 ghost use Rattle.mc_parse.specs.Need.{need};
 ghost use Rattle.mc_parse.specs.declared.name.Name.TheVariants as Names;
-ghost use Rattle.mc_parse.specs.Form.{is_key, form_after, ask_seen};
+ghost use Rattle.mc_parse.specs.Form.{is_key, form_after, line_form, ask_seen};
 ghost use Rattle.mc_parse.specs.Line.{form_seen, retrieval};
-ghost use Rattle.mc_parse.specs.Parsed.{IsParsed};
+ghost use Rattle.mc_parse.specs.Parsed.{IsParsed, IsStoring, stored_ask};
 ghost use Rattle.mc_parse.specs.Meaning.{line_command, block_command, large_command, IsBlockFor, IsTooLarge};
 ghost use Rattle.mc_parse.specs.Meaning.{alone_command, value_command, command_for, block_command_for};
 ghost use Rattle.mc_parse.specs.Meaning.{large_command_for, fault, is_ended, value_of};
@@ -19,9 +20,10 @@ use crate::error_line::ErrorLine;
 use crate::line::Line;
 use crate::meta_command::{meta_block_command, meta_command, meta_large_command};
 use crate::name::Name;
+use crate::need::read_need;
 use crate::parsed::Parsed;
 use crate::reading::{name_in, read_after};
-use crate::word::next_word;
+use crate::word::{Split, next_word};
 use mc_meta::is_key;
 use std::alloc::Global;
 use zy_base::{Blob, NoMemory};
@@ -34,53 +36,49 @@ const WORD_ROOM: usize = 128;
 
 /// The command of a line that needs nothing. The line is given without the bytes that end it.
 /// A fault of the client is a command.
-#[tactic(auto, unfolding(crate::specs::Meaning::line_command))]
-pub fn parse_line(alloc: Global, line: &[u8]) -> Result<Command, NoMemory>
+pub fn parse_line(alloc: Global, line: &Blob) -> Result<Command, NoMemory>
     requires within { length line.now ≤ line_limit }
     requires alone { need line.now ≡ Need.Nothing }
     ensures value { IfOk result (λ command. command ≡ line_command line.now) }
 {
-    match name_in(line) {
-        Some(found) => named_command(alloc, found.name, found.rest),
-        None => meta_command(alloc, line),
-    }
+    let mut parsed = Parsed::nothing();
+    read_need(line.bytes(), &mut parsed);
+    parse_read(alloc, line, &parsed)
 }
 
 /// The command of a line that needs a block, with its block: the value, and the two bytes that must
 /// end it. The value is moved and not copied. After a refusal the block is handed back.
-#[tactic(auto, unfolding(crate::specs::Meaning::block_command))]
-pub fn parse_block(alloc: Global, line: &[u8], block: Blob) -> Result<Command, (Blob, NoMemory)>
+pub fn parse_block(alloc: Global, line: &Blob, block: Blob) -> Result<Command, (Blob, NoMemory)>
     requires within { length line.now ≤ line_limit }
     requires fits { IsBlockFor (need line.now) block }
     ensures value { IfOk result (λ command. command ≡ block_command line.now block) }
     ensures returned { IfErr result (λ e. e.0 ≡ block) }
 {
-    match name_in(line) {
-        Some(found) => block_command_for(alloc, read_after(found.name, found.rest), block),
-        None => meta_block_command(alloc, line, block),
-    }
+    let mut parsed = Parsed::nothing();
+    read_need(line.bytes(), &mut parsed);
+    parse_read_block(alloc, line, &parsed, block)
 }
 
-/// The command of a line that needs nothing, of which this was read.
-#[tactic(auto, unfolding(crate::specs::Meaning::line_command, crate::specs::Parsed::IsParsed))]
-pub fn parse_read(alloc: Global, line: &[u8], parsed: &Parsed) -> Result<Command, NoMemory>
+/// The command of a line that needs nothing, of which this was read. The keys of a retrieval are parts of the line.
+#[tactic(auto, unfolding(crate::specs::Meaning::line_command, crate::specs::Parsed::IsParsed), using(zy_base::proofs::RestLemmas::rest_after))]
+pub fn parse_read(alloc: Global, line: &Blob, parsed: &Parsed) -> Result<Command, NoMemory>
     requires within { length line.now ≤ line_limit }
     requires parsed { IsParsed line.now parsed.now }
     requires alone { need line.now ≡ Need.Nothing }
     ensures value { IfOk result (λ command. command ≡ line_command line.now) }
 {
     match parsed.name {
-        Some(name) => named_command(alloc, name, parsed.text(line)),
-        None => meta_command(alloc, line),
+        Some(name) => named_command(alloc, name, line, parsed.text(line.bytes())),
+        None => meta_command(alloc, line.bytes()),
     }
 }
 
-/// The command of a line that needs a block, of which this was read, with its block. After a refusal the block is
-/// handed back.
+/// The command of a line that needs a block, of which this was read, with its block. The key is a part of the line.
+/// After a refusal the block is handed back.
 #[tactic(auto, unfolding(crate::specs::Meaning::block_command, crate::specs::Parsed::IsParsed))]
 pub fn parse_read_block(
     alloc: Global,
-    line: &[u8],
+    line: &Blob,
     parsed: &Parsed,
     block: Blob,
 ) -> Result<Command, (Blob, NoMemory)>
@@ -91,8 +89,8 @@ pub fn parse_read_block(
     ensures returned { IfErr result (λ e. e.0 ≡ block) }
 {
     match parsed.name {
-        Some(name) => block_command_for(alloc, parsed.storing(name, line), block),
-        None => meta_block_command(alloc, line, block),
+        Some(name) => storage_command(name, line, parsed, block),
+        None => meta_block_command(alloc, line.bytes(), block),
     }
 }
 
@@ -110,12 +108,13 @@ pub fn parse_large(line: &[u8]) -> Command
     }
 }
 
-// The command of a name with the text after it.
-fn named_command(alloc: Global, name: Name, text: &[u8]) -> Result<Command, NoMemory>
+// The command of a name with the text after it, with which its line ends.
+fn named_command(alloc: Global, name: Name, line: &Blob, text: &[u8]) -> Result<Command, NoMemory>
+    requires rest { IsRestOf text.now line.now }
     ensures value { IfOk result (λ command. command ≡ command_for (form_after name (words text.now))) }
 {
     match name {
-        Name::Get { unique } => get_command(alloc, text, unique),
+        Name::Get { unique } => get_command(alloc, line, text, unique),
         _ => command_for(alloc, read_after(name, text)),
     }
 }
@@ -145,15 +144,16 @@ fn alone_command(alloc: Global, ask: Ask<'_>, quiet: bool) -> Result<Command, No
     }
 }
 
-// A retrieval, whose keys are the words of a text, one at least. A word that is too long for a key is found while
-// the words are copied.
+// A retrieval, whose keys are the words of a text with which its line ends, one at least. A word that is too long for
+// a key is found while the words are taken.
 #[tactic(auto, using(crate::proofs::GetLemmas::gets_keys, crate::proofs::GetLemmas::gets_long))]
-fn get_command(alloc: Global, text: &[u8], unique: bool) -> Result<Command, NoMemory>
+fn get_command(alloc: Global, line: &Blob, text: &[u8], unique: bool) -> Result<Command, NoMemory>
+    requires rest { IsRestOf text.now line.now }
     ensures value { IfOk result (λ command. command
         ≡ command_for (form_after (Names.Get unique) (words text.now))) }
 {
     let mut keys = Keys::with_capacity(alloc, (text.len() / WORD_LENGTH + 1).min(WORD_ROOM))?;
-    match copy_keys(alloc, &mut keys, text) {
+    match take_keys(line, &mut keys, text) {
         Ok(true) => Ok(retrieval(keys, unique)),
         Ok(false) => {
             drop(keys);
@@ -183,7 +183,7 @@ fn retrieval(keys: Keys, unique: bool) -> Command
 fn delete_command(alloc: Global, key: &[u8], quiet: bool) -> Result<Command, NoMemory>
     ensures value { IfOk result (λ command. command ≡ Command.Delete key.now quiet) }
 {
-    let key = shared_copy(alloc, key)?;
+    let key = Blob::shared_copy_of(alloc, key)?;
     Ok(Command::Delete { key, quiet })
 }
 
@@ -197,7 +197,7 @@ fn count_command(
 ) -> Result<Command, NoMemory>
     ensures value { IfOk result (λ command. command ≡ Command.Count key.now up amount quiet) }
 {
-    let key = shared_copy(alloc, key)?;
+    let key = Blob::shared_copy_of(alloc, key)?;
     Ok(Command::Count {
         key,
         up,
@@ -206,95 +206,51 @@ fn count_command(
     })
 }
 
-// The command of a parsed line with its block. The copies of the value share the block's bytes.
-fn block_command_for(
-    alloc: Global,
-    line: Line<'_>,
+// The storage command of a line, of which this was read, with its block. The copies of the value share the block's
+// bytes.
+fn storage_command(
+    name: Name,
+    line: &Blob,
+    parsed: &Parsed,
     mut block: Blob,
 ) -> Result<Command, (Blob, NoMemory)>
-    ensures value { IfOk result (λ command. command
-        ≡ block_command_for block (form_seen line.entry)) }
+    requires storing { IsStoring line.now parsed.now name }
+    ensures value { IfOk result (λ command. command ≡ block_command_for block (line_form line.now)) }
     ensures returned { IfErr result (λ e. e.0 ≡ block) }
 {
-    match line {
-        Line::Fault(line) => {
-            drop(block);
-            Ok(fault(line))
-        }
-        Line::Asks { ask, quiet } => {
-            if !is_ended(&block) {
-                drop(block);
-                return Ok(block_fault(ErrorLine::BadChunk, quiet));
-            }
-            if let Err(e) = block.share() {
-                return Err((block, e));
-            }
-            value_command(alloc, ask, quiet, block)
-        }
+    if !is_ended(&block) {
+        drop(block);
+        return Ok(block_fault(ErrorLine::BadChunk, parsed.quiet));
+    }
+    if let Err(e) = block.share() {
+        return Err((block, e));
+    }
+    match parsed.key(line) {
+        Ok(key) => Ok(stored_command(name, parsed, key, value_of(block))),
+        Err(e) => Err((block, e)),
     }
 }
 
-// The command that asks for this with the value of a block.
-fn value_command(
-    alloc: Global,
-    ask: Ask<'_>,
-    quiet: bool,
-    block: Blob,
-) -> Result<Command, (Blob, NoMemory)>
-    ensures value { IfOk result (λ command. command
-        ≡ value_command (ask_seen ask.entry) quiet (value_of block)) }
-    ensures returned { IfErr result (λ e. e.0 ≡ block) }
+// The storage command that this was read of, with its key and its value.
+fn stored_command(name: Name, parsed: &Parsed, key: Blob, value: Blob) -> Command
+    ensures value { (bytes : ℕ) → result ≡ value_command
+        (stored_ask name key parsed.now.flags bytes parsed.now.unique) parsed.now.quiet value }
 {
-    match ask {
-        Ask::Store {
+    match name {
+        Name::Store { verb } => Command::Store {
             verb,
             key,
-            flags,
-            ..
-        } => match shared_copy(alloc, key) {
-            Ok(key) => Ok(Command::Store {
-                verb,
-                key,
-                flags,
-                value: value_of(block),
-                quiet,
-            }),
-            Err(e) => Err((block, e)),
+            flags: parsed.flags,
+            value,
+            quiet: parsed.quiet,
         },
-        Ask::Cas {
+        _ => Command::Cas {
             key,
-            flags,
-            unique,
-            ..
-        } => match shared_copy(alloc, key) {
-            Ok(key) => Ok(Command::Cas {
-                key,
-                flags,
-                unique,
-                value: value_of(block),
-                quiet,
-            }),
-            Err(e) => Err((block, e)),
+            flags: parsed.flags,
+            unique: parsed.unique,
+            value,
+            quiet: parsed.quiet,
         },
-        _ => {
-            drop(block);
-            Ok(fault(ErrorLine::Unknown))
-        }
-    }
-}
-
-// A copy of a key, whose copies share its bytes: the call of a command and the item that it makes have one each.
-#[inline(always)]
-fn shared_copy(alloc: Global, key: &[u8]) -> Result<Blob, NoMemory>
-    ensures value { IfOk result (λ copy. copy ≡ key.now) }
-{
-    let mut copy = Blob::copy_of(alloc, key)?;
-    match copy.share() {
-        Ok(()) => Ok(copy),
-        Err(e) => {
-            drop(copy);
-            Err(e)
-        }
     }
 }
 
@@ -339,8 +295,9 @@ pub(crate) fn value_of(mut block: Blob) -> Blob
     block
 }
 
-// Appends copies of the words of a text, up to one that is too long for a key; `false` if there is one.
-fn copy_keys(alloc: Global, keys: &mut Keys, text: &[u8]) -> Result<bool, NoMemory>
+// Appends the words of a text with which a line ends, up to one that is too long for a key; `false` if there is one.
+fn take_keys(line: &Blob, keys: &mut Keys, text: &[u8]) -> Result<bool, NoMemory>
+    requires rest { IsRestOf text.now line.now }
     ensures value { IfOk result (λ are. are ≡ list_all is_key (words text.now)) }
     ensures ok { IfOk result (λ are. are ≡ true → keys.new ≡ keys.old ++ words text.now) }
 {
@@ -349,17 +306,20 @@ fn copy_keys(alloc: Global, keys: &mut Keys, text: &[u8]) -> Result<bool, NoMemo
         if !is_key(split.word) {
             return Ok(false);
         }
-        push_copy(alloc, keys, split.word)?;
+        take_key(line, keys, split)?;
         rest = split.rest;
     }
     Ok(true)
 }
 
-// Appends a copy of a word.
-fn push_copy(alloc: Global, keys: &mut Keys, word: &[u8]) -> Result<(), NoMemory>
-    ensures ok { OnOk result (keys.new ≡ keys.old ++ word.now ∷ []) }
+// Appends a word of a line as a key, which is a part of the line.
+#[tactic(auto, using(crate::proofs::ParsedLemmas::word_within, zy_base::proofs::RestLemmas::rest_word))]
+fn take_key(line: &Blob, keys: &mut Keys, split: Split<'_>) -> Result<(), NoMemory>
+    requires rest { IsRestOf (split.word.now ++ split.rest.now) line.now }
+    ensures ok { OnOk result (keys.new ≡ keys.old ++ split.entry.word.now ∷ []) }
 {
-    let key = Blob::copy_of(alloc, word)?;
+    let end = line.bytes().len() - split.rest.len();
+    let key = line.part(end - split.word.len(), end)?;
     match keys.push(key) {
         Ok(()) => Ok(()),
         Err((key, e)) => {

@@ -1,13 +1,9 @@
 //! What was read of a line.
-ghost use Rattle.std.specs.Prelude.{◌≡◌, ◌≤◌, ℕ, List, length, drop};
-ghost use Rattle.mc_parse.specs.Form.{line_form};
-ghost use Rattle.mc_parse.specs.Line.{form_seen};
-ghost use Rattle.mc_parse.specs.Meaning.{block_command_for};
-ghost use Rattle.mc_parse.specs.Parsed.{IsStoring, line_key, nothing_parsed};
+ghost use Rattle.std.specs.Prelude.{◌≡◌, ◌≤◌, length, drop, IfOk};
+ghost use Rattle.mc_parse.specs.Parsed.{line_key, nothing_parsed};
 
-use crate::asking::stored_ask;
-use crate::line::Line;
 use crate::name::Name;
+use zy_base::{Blob, NoMemory};
 
 /// What was read of a line when its need was asked for, so that it isn't read again. Of a storage line with its
 /// block it is what the line says, with the place of the key; of any other line it is the name with the place of
@@ -41,28 +37,16 @@ impl Parsed {
         }
     }
 
-    // What the line says, but for the number of bytes, if it stores in the way of this name.
-    pub(crate) fn storing<'a>(&self, name: Name, line: &'a [u8]) -> Line<'a>
-        requires storing { IsStoring line.now self.now name }
-        ensures value { (block : List ℕ) → block_command_for block (form_seen result)
-            ≡ block_command_for block (line_form line.now) }
-    {
-        Line::Asks {
-            ask: stored_ask(name, self.key(line), self.flags, 0, self.unique),
-            quiet: self.quiet,
-        }
-    }
-
-    // The key.
-    fn key<'a>(&self, line: &'a [u8]) -> &'a [u8]
+    // The key of a storage line, which is a part of the line.
+    pub(crate) fn key(&self, line: &Blob) -> Result<Blob, NoMemory>
         requires order { self.now.from ≤ self.now.to }
         requires within { self.now.to ≤ length line.now }
-        ensures value { result.now ≡ line_key line.now self.now }
+        ensures value { IfOk result (λ key. key ≡ line_key line.now self.now) }
     {
-        &line[self.from as usize..self.to as usize]
+        line.part(self.from as usize, self.to as usize)
     }
 
-    // The text after the name.
+    // The text after the name, with which the line ends.
     pub(crate) fn text<'a>(&self, line: &'a [u8]) -> &'a [u8]
         requires within { self.now.from ≤ length line.now }
         ensures value { result.now ≡ drop self.now.from line.now }

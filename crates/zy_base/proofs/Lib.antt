@@ -13,3 +13,5 @@ pub mod SameLemmas
 pub mod CodeLemmas
 pub mod TableLemmas
 pub mod CountedLemmas
+pub mod BlobLemmas
+pub mod RestLemmas

@@ -15,6 +15,7 @@ pub mod Bounds
 pub mod Told
 pub mod Replies
 pub mod History
+pub mod Rest
 pub mod Reserved
 pub mod Filling
 pub mod Held

@@ -1,5 +1,5 @@
 //! Byte strings.
-ghost use Rattle.std.specs.Prelude.{◌≡◌, [], ◌++◌, ◌≤◌, take, IfOk, OnOk, OnErr, Some, refl};
+ghost use Rattle.std.specs.Prelude.{◌≡◌, [], ◌++◌, ◌-◌, ◌≤◌, length, take, drop, IfOk, IsOk, OnOk, OnErr, Some, refl};
 ghost use Rattle.std.specs.Ordering.{nat_cmp};
 ghost use Rattle.std.specs.Prelude.{nat_eq};
 ghost use Rattle.std.specs.Cmp.{partial_equiv_from_equiv};
@@ -54,6 +54,21 @@ impl Blob {
     {
         let storage = copied(alloc, bytes)?;
         Ok(Blob { alloc, storage })
+    }
+
+    /// The same bytes, which copies and parts share.
+    #[inline(always)]
+    pub fn shared_copy_of(alloc: Global, bytes: &[u8]) -> Result<Blob, NoMemory>
+        ensures value { IfOk result (λ copy. copy ≡ bytes.now) }
+    {
+        let mut copy = Blob::copy_of(alloc, bytes)?;
+        match copy.share() {
+            Ok(()) => Ok(copy),
+            Err(refused) => {
+                drop(copy);
+                Err(refused)
+            }
+        }
     }
 
     /// The bytes of a vector, which is moved and not copied. Takes no memory.
@@ -150,6 +165,37 @@ impl Blob {
         ensures err { OnErr result (self.new ≡ self.old) }
     {
         let storage = joined(self.alloc, self.storage.bytes(), bytes)?;
+        self.put(storage);
+        Ok(())
+    }
+
+    /// The bytes from `from` up to `end`. Up to 16 are copied into place and never refused. More are
+    /// shared if these bytes are shared, which takes no memory, and else copied.
+    pub fn part(&self, from: usize, end: usize) -> Result<Blob, NoMemory>
+        requires order { from ≤ end }
+        requires within { end ≤ length self.now }
+        ensures value { IfOk result (λ part. part ≡ take (end - from) (drop from self.now)) }
+        ensures few { end - from ≤ 16 → IsOk result }
+    {
+        let storage = self.storage.part(self.alloc, from, end)?;
+        Ok(Blob {
+            alloc: self.alloc,
+            storage,
+        })
+    }
+
+    /// Appends the bytes of another byte string from `from` up to `end`. The first bytes are shared with
+    /// it, if its bytes are shared.
+    pub fn append_part(&mut self, other: &Blob, from: usize, end: usize) -> Result<(), NoMemory>
+        requires order { from ≤ end }
+        requires within { end ≤ length other.now }
+        ensures ok { OnOk result (self.new ≡ self.old ++ take (end - from) (drop from other.now)) }
+        ensures err { OnErr result (self.new ≡ self.old) }
+    {
+        if !self.bytes().is_empty() {
+            return self.append(&other.bytes()[from..end]);
+        }
+        let storage = other.storage.part(self.alloc, from, end)?;
         self.put(storage);
         Ok(())
     }

@@ -49,6 +49,25 @@ impl Storage {
         }
     }
 
+    // The bytes from `from` up to `end`: in place where they fit, else shared if these are, and else copied.
+    pub(crate) fn part(&self, alloc: Global, from: usize, end: usize) -> Result<Storage, NoMemory>
+        requires kept { IsWithin self.now }
+        requires order { from ≤ end }
+        requires within { end ≤ length (bytes_of self.now) }
+        ensures value { IfOk result (λ part. bytes_of part ≡ take (end - from) (drop from (bytes_of self.now))) }
+        ensures within { IfOk result (λ part. IsWithin part) }
+        ensures few { end - from ≤ 16 → IsOk result }
+    {
+        match self {
+            Storage::Shared {
+                block,
+                from: start,
+                ..
+            } => part(block, *start + from, *start + end),
+            _ => copied(alloc, &self.bytes()[from..end]),
+        }
+    }
+
     // Cuts the end off, so that at most `len` bytes are left.
     pub(crate) fn truncate(&mut self, len: usize)
         requires within { IsWithin self.old }
@@ -71,6 +90,7 @@ impl Storage {
 pub(crate) fn copied(alloc: Global, bytes: &[u8]) -> Result<Storage, NoMemory>
     ensures value { IfOk result (λ copy. bytes_of copy ≡ bytes.now) }
     ensures within { IfOk result (λ copy. IsWithin copy) }
+    ensures few { length bytes.now ≤ 16 → IsOk result }
 {
     if bytes.len() <= ROOM {
         return Ok(in_place(bytes));

@@ -6,7 +6,7 @@ ghost use Rattle.zy_check.specs.Cursor.{HasGivenCommands, GaveNext};
 use mc_parse::Command;
 use std::alloc::Global;
 use std::marker::Model;
-use zy_base::NoMemory;
+use zy_base::{Blob, NoMemory};
 use zy_frame::{Framer, Frames, meaning};
 
 // How many bytes are cut at a time. The commands that begin and end in a piece wait with its cursor,
@@ -72,7 +72,10 @@ impl Cursor {
             → HasGivenCommands self.new stream.now given) }
     {
         let end = piece_end(self.at, stream.len());
-        self.framer.feed(&stream[self.at..end], &mut self.frames)?;
+        let piece = Blob::shared_copy_of(self.alloc, &stream[self.at..end])?;
+        let fed = self.framer.feed(&piece, &mut self.frames);
+        drop(piece);
+        fed?;
         self.at = end;
         Ok(())
     }

@@ -15,7 +15,7 @@ pub fn meaning(alloc: Global, frame: Frame) -> Result<Command, (Frame, NoMemory)
 {
     let Frame { kind, parsed } = frame;
     match kind {
-        FrameKind::Line { line } => match parse_read(alloc, line.bytes(), &parsed) {
+        FrameKind::Line { line } => match parse_read(alloc, &line, &parsed) {
             Ok(command) => {
                 drop(line);
                 Ok(command)
@@ -28,12 +28,7 @@ pub fn meaning(alloc: Global, frame: Frame) -> Result<Command, (Frame, NoMemory)
                 e,
             )),
         },
-        FrameKind::Block { line, block } => match parse_read_block(
-            alloc,
-            line.bytes(),
-            &parsed,
-            block,
-        ) {
+        FrameKind::Block { line, block } => match parse_read_block(alloc, &line, &parsed, block) {
             Ok(command) => {
                 drop(line);
                 Ok(command)

@@ -1,5 +1,5 @@
 //! Cutting a stream as its pieces come.
-ghost use Rattle.std.specs.Prelude.{◌≡◌, ◌<◌, ◌≤◌, ℕ, List, [], ◌++◌, length, Ok, IsErr, OnOk, OnErr};
+ghost use Rattle.std.specs.Prelude.{◌≡◌, ◌<◌, ◌≤◌, ℕ, List, [], ◌++◌, length, drop, Ok, IsErr, OnOk, OnErr};
 ghost use Rattle.zy_frame.specs.Cut.{frames_of, meets_quit};
 ghost use Rattle.zy_frame.specs.Progress.{StandsFor, IsQuit, IsRefused, kept_by, is_quit};
 ghost use Rattle.zy_frame.specs.Feed.{Appends, AppendsFirst};
@@ -50,10 +50,10 @@ impl Framer {
     }
 
     /// Takes the next piece of the stream, and appends the frames by which the stream has grown.
-    ///
     /// May answer `NoMemory`. Then the first of those frames were appended, and every later call
     /// answers `NoMemory` too and appends nothing.
-    pub fn feed(&mut self, piece: &[u8], frames: &mut Frames) -> Result<(), NoMemory>
+    /// The bytes of frames that lie whole in the piece share its bytes, if it shares them.
+    pub fn feed(&mut self, piece: &Blob, frames: &mut Frames) -> Result<(), NoMemory>
         // For every stream that may have brought the framer here.
         ensures fed { OnOk result ((fed : List ℕ) → StandsFor self.old fed
             → StandsFor self.new (fed ++ piece.now)) }
@@ -78,8 +78,8 @@ impl Framer {
             _ => {}
         }
         let mut at = 0;
-        while at < piece.len() {
-            match self.advance(&piece[at..], frames) {
+        while at < piece.bytes().len() {
+            match self.advance(piece, at, frames) {
                 Ok(taken) => at += taken,
                 Err(e) => return Err(e),
             }
@@ -87,12 +87,21 @@ impl Framer {
         Ok(())
     }
 
-    // Takes some first bytes, at least one. If allocation fails, every later call is refused.
-    fn advance(&mut self, bytes: &[u8], frames: &mut Frames) -> Result<usize, NoMemory>
-        requires some { 0 < length bytes.now }
-        ensures value { Advances self.old self.new frames.old frames.new bytes.now result }
+    // Takes some bytes of a piece from a place on, at least one. If allocation fails, every later call is refused.
+    #[tactic(auto, using(zy_base::proofs::RestLemmas::rest_after))]
+    fn advance(&mut self, piece: &Blob, at: usize, frames: &mut Frames) -> Result<usize, NoMemory>
+        requires some { at < length piece.now }
+        ensures value { Advances self.old self.new frames.old frames.new (drop at piece.now) result }
     {
-        match step(self.alloc, &mut self.state, &mut self.parsed, bytes, frames) {
+        let bytes = &piece.bytes()[at..];
+        match step(
+            self.alloc,
+            &mut self.state,
+            &mut self.parsed,
+            piece,
+            bytes,
+            frames,
+        ) {
             Ok(taken) => Ok(taken),
             Err(e) => {
                 put(&mut self.state, State::Refused);

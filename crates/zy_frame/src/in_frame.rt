@@ -1,5 +1,6 @@
 //! In blocks.
 ghost use Rattle.std.specs.Prelude.{◌≡◌, ◌<◌, ◌++◌, length, IfOk, OnOk, OnErr};
+ghost use Rattle.zy_base.specs.Rest.{IsRestOf};
 ghost use Rattle.zy_frame.specs.declared.state.State.TheVariants.{Block, Large};
 ghost use Rattle.zy_frame.specs.Progress.{IsKeptBlock, IsLargeBlock};
 ghost use Rattle.mc_parse.specs.Parsed.{IsParsed};
@@ -8,6 +9,7 @@ ghost use Rattle.zy_frame.specs.Steps.{awaited, after_block, IsParsedFor, Moves}
 
 use crate::frame_kind::FrameKind;
 use crate::frames::{Frames, append};
+use crate::keeping::keep;
 use crate::line_end::chomp_kept;
 use crate::wanted::Wanted;
 use mc_parse::Parsed;
@@ -18,17 +20,19 @@ use zy_base::{Blob, NoMemory};
 // The most room that is taken for a block before its bytes have come.
 const BLOCK_ROOM: usize = 1_024;
 
-// Takes bytes of a block. Its frame is appended once none is still to come.
+// Takes bytes of a block, with which a piece ends. Its frame is appended once none is still to come.
 pub(crate) fn take_block(
     alloc: Global,
     wanted: &mut Wanted,
     block: &mut Blob,
     parsed: &Parsed,
+    piece: &Blob,
     bytes: &[u8],
     frames: &mut Frames,
 ) -> Result<usize, NoMemory>
     requires keeps { IsKeptBlock (awaited wanted.old) block.old }
     requires parsed { IsParsed (chomped wanted.old.line) parsed.now }
+    requires rest { IsRestOf bytes.now piece.now }
     requires some { 0 < length bytes.now }
     ensures value { IfOk result (λ taken. Moves (Block wanted.old block.old)
         (after_block (Block wanted.new block.new)) frames.old frames.new bytes.now taken) }
@@ -41,7 +45,7 @@ pub(crate) fn take_block(
         wanted.left = left - bytes.len();
         return Ok(bytes.len());
     }
-    block.append(&bytes[..left])?;
+    keep(block, piece, bytes, left)?;
     wanted.left = 0;
     let line = chomp_kept(mem::replace(&mut wanted.line, Blob::new(alloc)));
     let block = mem::replace(block, Blob::new(alloc));

@@ -1,11 +1,13 @@
 //! In a line.
-ghost use Rattle.std.specs.Prelude.{◌≡◌, ◌<◌, ◌++◌, None, [], length, IfOk, OnErr};
+ghost use Rattle.std.specs.Prelude.{◌≡◌, ◌<◌, ◌≤◌, ◌++◌, None, [], length, take, IfOk, OnErr};
+ghost use Rattle.zy_base.specs.Rest.{IsRestOf};
 ghost use Rattle.zy_frame.specs.declared.state.State.TheVariants.{Line};
 ghost use Rattle.zy_frame.specs.Line.{first_line, IsShort};
 ghost use Rattle.zy_frame.specs.Steps.{Goes, ClosesTo, after_line, grown_to, IsParsedFor};
 
 use crate::frame_kind::FrameKind;
 use crate::frames::{Frames, append};
+use crate::keeping::keep;
 use crate::line_end::{chomp, chomp_kept};
 use mc_parse::{Need, Parsed, read_need};
 use std::alloc::Global;
@@ -27,28 +29,32 @@ pub(crate) fn grow_line(kept: &mut Blob, bytes: &[u8]) -> Result<bool, NoMemory>
     Ok(false)
 }
 
-// The line ends after these bytes, which are before its line feed. Returns what it needs; if that is
-// nothing, its frame is appended.
+// The line ends at this place of the bytes with which a piece ends, where its line feed is. Returns what it needs; if
+// that is nothing, its frame is appended.
 pub(crate) fn end_line(
     alloc: Global,
     kept: &mut Blob,
+    piece: &Blob,
     bytes: &[u8],
+    at: usize,
     parsed: &mut Parsed,
     frames: &mut Frames,
 ) -> Result<Need, NoMemory>
     requires short { IsShort kept.old }
-    requires none { first_line bytes.now ≡ None }
+    requires rest { IsRestOf bytes.now piece.now }
+    requires within { at ≤ length bytes.now }
+    requires none { first_line (take at bytes.now) ≡ None }
     ensures value { IfOk result (λ need.
-        ClosesTo (kept.old ++ bytes.now) (after_line need (Line kept.new)) frames.old frames.new) }
+        ClosesTo (kept.old ++ take at bytes.now) (after_line need (Line kept.new)) frames.old frames.new) }
     ensures parsed { IfOk result (λ need. IsParsedFor (after_line need (Line kept.new)) parsed.new) }
     ensures err { OnErr result (frames.new ≡ frames.old) }
 {
-    if kept.bytes().len() + bytes.len() > LINE_LIMIT {
+    if kept.bytes().len() + at > LINE_LIMIT {
         append(frames, FrameKind::Long, &Parsed::nothing())?;
         kept.truncate(0);
         return Ok(Need::Nothing);
     }
-    kept.append(bytes)?;
+    keep(kept, piece, bytes, at)?;
     close_line(alloc, kept, parsed, frames)
 }
 

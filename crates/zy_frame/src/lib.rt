@@ -8,6 +8,7 @@ mod framer;
 mod frames;
 mod in_frame;
 mod in_line;
+mod keeping;
 mod line_end;
 mod state;
 mod stepping;

@@ -1,5 +1,6 @@
 //! Steps in every state.
 ghost use Rattle.std.specs.Prelude.{◌≡◌, ◌<◌, length, IfOk, OnErr};
+ghost use Rattle.zy_base.specs.Rest.{IsRestOf};
 ghost use Rattle.zy_frame.specs.Progress.{Keeps};
 ghost use Rattle.zy_frame.specs.Steps.{progress_of, IsParsedFor, Moves};
 
@@ -11,19 +12,21 @@ use crate::line_end::line_end;
 use crate::state::{State, begin_line, end_block, put, take_line};
 use mc_parse::Parsed;
 use std::alloc::Global;
-use zy_base::NoMemory;
+use zy_base::{Blob, NoMemory};
 
-// Takes some first bytes, at least one, and appends the frame that they end. If allocation fails, the state
-// may be any.
+// Takes some first bytes of those with which a piece ends, at least one, and appends the frame that they end. If
+// allocation fails, the state may be any.
 pub(crate) fn step(
     alloc: Global,
     state: &mut State,
     parsed: &mut Parsed,
+    piece: &Blob,
     bytes: &[u8],
     frames: &mut Frames,
 ) -> Result<usize, NoMemory>
     requires keeps { Keeps (progress_of state.old) }
     requires parsed { IsParsedFor state.old parsed.old }
+    requires rest { IsRestOf bytes.now piece.now }
     requires some { 0 < length bytes.now }
     ensures value { IfOk result (λ taken. Moves state.old state.new frames.old frames.new bytes.now taken) }
     ensures parsed { IfOk result (λ taken. IsParsedFor state.new parsed.new) }
@@ -32,7 +35,7 @@ pub(crate) fn step(
     match state {
         State::Line { kept } => match line_end(bytes) {
             Some(at) => {
-                let need = end_line(alloc, kept, &bytes[..at], parsed, frames)?;
+                let need = end_line(alloc, kept, piece, bytes, at, parsed, frames)?;
                 take_line(alloc, state, need);
                 Ok(at + 1)
             }
@@ -52,7 +55,7 @@ pub(crate) fn step(
             None => Ok(bytes.len()),
         },
         State::Block { wanted, block } => {
-            let taken = take_block(alloc, wanted, block, parsed, bytes, frames)?;
+            let taken = take_block(alloc, wanted, block, parsed, piece, bytes, frames)?;
             end_block(alloc, state);
             Ok(taken)
         }

@@ -11,7 +11,7 @@ ghost use Rattle.zy_home.specs.Place.{MeetsInlet, KnowsAll};
 use std::alloc::Global;
 use std::marker::Model;
 use std::mem;
-use zy_base::NoMemory;
+use zy_base::{Blob, NoMemory};
 use zy_calls::Output;
 use zy_conn::{Block, EventInlet};
 use zy_frame::{Frame, Framer, Frames};
@@ -88,7 +88,7 @@ impl Link {
         ensures kept { (self.new.inlet ≡ self.old.inlet) × (self.new.output ≡ self.old.output) }
     {
         match item {
-            Rx::Segment { conn: _, bytes } => self.segment(bytes.bytes()),
+            Rx::Segment { conn: _, bytes } => self.segment(bytes),
             Rx::Close { conn: _ } => self.close(),
             Rx::End => Ok(()),
         }
@@ -97,7 +97,7 @@ impl Link {
 
 impl Link {
     // Cuts the next bytes of the session.
-    fn segment(&mut self, bytes: &[u8]) -> Result<(), NoMemory>
+    fn segment(&mut self, bytes: &Blob) -> Result<(), NoMemory>
         ensures stands { OnOk result ((s : Sessions) → LinkStands self.old s
             → LinkStands self.new (with_bytes bytes.now s)) }
         ensures kept { (self.new.inlet ≡ self.old.inlet) × (self.new.output ≡ self.old.output) }

@@ -65,7 +65,7 @@ impl Line {
             → LineHolds (records ++ Kinds.Segment segment.now ∷ []) segment.now.conn self.new) }
     {
         let mut frames = Frames::new(alloc);
-        let fed = self.framer.feed(segment.bytes.bytes(), &mut frames);
+        let fed = self.framer.feed(&segment.bytes, &mut frames);
         let number = frames.len();
         drop(frames);
         fed?;

@@ -18,7 +18,7 @@ pub(crate) fn measured<R: CpuClock>(
 ) -> Result<Done, NoMemory> {
     let traffic = traffic(alloc)?;
     let start = nanos(rt);
-    let counted = count_frames(alloc, traffic.bytes(), bytes, piece);
+    let counted = count_frames(alloc, &traffic, bytes, piece);
     let spent = nanos(rt).saturating_sub(start);
     drop(traffic);
     match counted {
@@ -42,7 +42,7 @@ pub(crate) fn traffic(alloc: Global) -> Result<Blob, NoMemory> {
     }
 }
 
-// Appends them.
+// Appends them. The parts of the text then share its bytes.
 fn append_all(text: &mut Blob) -> Result<(), NoMemory> {
     for _ in 0..ROUNDS {
         text.append(b"get connection:1234:key:5678\r\n")?;
@@ -52,12 +52,12 @@ fn append_all(text: &mut Blob) -> Result<(), NoMemory> {
         text.append(b"gets connection:1234:key:1 connection:1234:key:2 connection:1234:key:3\r\n")?;
         text.append(b"delete connection:1234:key:5678 noreply\r\n")?;
     }
-    Ok(())
+    text.share()
 }
 
 // The number of frames in `bytes` bytes of the traffic, which begins again at its end, in pieces of
 // this length.
-fn count_frames(alloc: Global, traffic: &[u8], bytes: u64, piece: u64) -> Result<u64, NoMemory> {
+fn count_frames(alloc: Global, traffic: &Blob, bytes: u64, piece: u64) -> Result<u64, NoMemory> {
     let mut framer = Framer::new(alloc);
     let mut frames = Frames::new(alloc);
     let counted = feed_pieces(&mut framer, &mut frames, traffic, bytes, piece);
@@ -70,7 +70,7 @@ fn count_frames(alloc: Global, traffic: &[u8], bytes: u64, piece: u64) -> Result
 fn feed_pieces(
     framer: &mut Framer,
     frames: &mut Frames,
-    traffic: &[u8],
+    traffic: &Blob,
     bytes: u64,
     piece: u64,
 ) -> Result<u64, NoMemory> {
@@ -78,14 +78,17 @@ fn feed_pieces(
     let mut left = bytes as usize;
     let mut at = 0;
     while left > 0 {
-        if at >= traffic.len() {
+        if at >= traffic.bytes().len() {
             at = 0;
         }
-        let taken = (piece as usize).min(traffic.len() - at).min(left);
+        let taken = (piece as usize).min(traffic.bytes().len() - at).min(left);
         if taken == 0 {
             break;
         }
-        framer.feed(&traffic[at..][..taken], frames)?;
+        let fresh = traffic.part(at, at + taken)?;
+        let fed = framer.feed(&fresh, frames);
+        drop(fresh);
+        fed?;
         count = count.wrapping_add(drained(frames));
         at += taken;
         left -= taken;

@@ -36,7 +36,7 @@ fn read_rounds(alloc: Global, traffic: &Blob, rounds: u64) -> Result<u64, NoMemo
     let mut frames = Frames::new(alloc);
     let mut counted = Ok(0u64);
     for _ in 0..rounds {
-        counted = read_pieces(alloc, &mut framer, &mut frames, traffic.bytes());
+        counted = read_pieces(alloc, &mut framer, &mut frames, traffic);
     }
     drop(framer);
     drop(frames);
@@ -51,13 +51,16 @@ fn read_pieces(
     alloc: Global,
     framer: &mut Framer,
     frames: &mut Frames,
-    traffic: &[u8],
+    traffic: &Blob,
 ) -> Result<u64, NoMemory> {
     let mut count = 0u64;
     let mut at = 0;
-    while at < traffic.len() {
-        let taken = PIECE.min(traffic.len() - at);
-        framer.feed(&traffic[at..][..taken], frames)?;
+    while at < traffic.bytes().len() {
+        let taken = PIECE.min(traffic.bytes().len() - at);
+        let piece = traffic.part(at, at + taken)?;
+        let fed = framer.feed(&piece, frames);
+        drop(piece);
+        fed?;
         count = count.wrapping_add(read_all(alloc, frames)?);
         at += taken;
     }

@@ -78,7 +78,7 @@ fn offer(alloc: Global, inlet: &mut EventInlet, first: u64, size: u64) -> Result
     let text = text_of(alloc, first, size)?;
     let mut framer = Framer::new(alloc);
     let mut frames = Frames::new(alloc);
-    let fed = framer.feed(text.bytes(), &mut frames);
+    let fed = framer.feed(&text, &mut frames);
     drop(text);
     drop(framer);
     let offered = offer_all(inlet, &mut frames);

@@ -9,14 +9,14 @@ returns-then-bytes-left-clause-value c =
     rw c.in_ok-grow_block.ensures.ok (block_moves c.args.wanted.now.line c.args.block.now c.args.bytes.now c.args.wanted.now.size c.args.wanted.now.left c.args.frames.now
     c.requires.keeps c.requires.some c.if-bytes-left.true)
 
-pub append-requires-2-clause-frame : goal.append-requires-2-clause-frame
-append-requires-2-clause-frame c =
+pub append-requires-clause-frame : goal.append-requires-clause-frame
+append-requires-clause-frame c =
     let keeps = c.requires.keeps in
-    rw (c.chomp_kept-line.ensures.value ∙ ap chomped c.replace.ensures.value, c.replace-block.ensures.value ∙ c.in_ok-append.ensures.ok)
+    rw (c.chomp_kept-line.ensures.value ∙ ap chomped c.replace.ensures.value, c.replace-block.ensures.value ∙ c.in_ok-keep.ensures.ok)
     (is_block_frame c.args.wanted.now.line _ c.args.wanted.now.size keeps.awaits.short keeps.awaits.sized keeps.small
     (block_length c.args.wanted.now.line c.args.block.now c.args.bytes.now c.args.wanted.now.size c.args.wanted.now.left keeps c.if-bytes-left.false))
 
 pub returns-clause-value : goal.returns-clause-value
 returns-clause-value c =
-    block_ends c.args.wanted.now.line c.args.block.now c.args.bytes.now c.chomp_kept-line.result c.replace-block.result c.args.wanted.now.size c.args.wanted.now.left c.args.frames.now c.append-2.new.frames
-    c.requires.keeps c.if-bytes-left.false (c.chomp_kept-line.ensures.value ∙ ap chomped c.replace.ensures.value) (c.replace-block.ensures.value ∙ c.in_ok-append.ensures.ok) c.in_ok-append-2.ensures.ok
+    block_ends c.args.wanted.now.line c.args.block.now c.args.bytes.now c.chomp_kept-line.result c.replace-block.result c.args.wanted.now.size c.args.wanted.now.left c.args.frames.now c.append.new.frames
+    c.requires.keeps c.if-bytes-left.false (c.chomp_kept-line.ensures.value ∙ ap chomped c.replace.ensures.value) (c.replace-block.ensures.value ∙ c.in_ok-keep.ensures.ok) c.in_ok-append.ensures.ok
