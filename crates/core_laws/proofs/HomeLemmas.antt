@@ -4,7 +4,7 @@ use Rattle.std.proofs.Common.{◌≡◌, ℕ, ◌+◌, ◌-◌, List, [], ◌∷
 use Rattle.std.proofs.Common.{append-nil, suc, Bool, true, false, Option, Some, None, slice_get, refl, subst}
 use Rattle.std.proofs.lemmas.List.{length-map}
 use Rattle.std.proofs.Math.Seq.{take-append_seam, drop-append_seam}
-use Rattle.zy_base.specs.declared.entry.Entry.{Entry}
+use Rattle.mc_calls.specs.declared.entry.Entry.{Entry}
 use Rattle.mc_reply.specs.Texts.{texts_from}
 use Rattle.mc_reply.proofs.TextLemmas.{texts_from-append, length-texts_from}
 use Rattle.zy_frame.specs.Frame.{command_of}

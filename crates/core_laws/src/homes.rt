@@ -1,6 +1,6 @@
 //! Laws of homes and their connections, most of them of the end.
 ghost use Rattle.std.specs.Prelude.{◌≡◌, ◌≢◌, ℕ, ◌+◌, List, [], ◌∷◌, ◌++◌, map, true, false, Some, None, slice_get};
-ghost use Rattle.zy_base.specs.declared.entry.Entry.{Entry};
+ghost use Rattle.mc_calls.specs.declared.entry.Entry.{Entry};
 ghost use Rattle.mc_reply.specs.Texts.{texts_of};
 ghost use Rattle.zy_rx.specs.declared.rx.Rx.{Rx};
 ghost use Rattle.zy_rx.specs.Flow.{home_of};

@@ -3,7 +3,7 @@ ghost use Rattle.std.specs.Prelude.{◌≡◌, ℕ, true, false, List, [], ◌�
 ghost use Rattle.zy_capture.specs.declared.record.Record.{Record};
 ghost use Rattle.zy_rx.specs.declared.rx.Rx.{Rx};
 ghost use Rattle.zy_rx.specs.Session.{received_by};
-ghost use Rattle.zy_rx.specs.Routing.{offered_item, is_for, items_for, offered_to};
+ghost use Rattle.zy_feed.specs.Routing.{offered_item, is_for, items_for, offered_to};
 
 /// The item of another record is offered last, and only to the home of its connection.
 pub fn items_are_offered_one_by_one()

@@ -1,12 +1,12 @@
 //! Laws of the result when all is served.
 ghost use Rattle.std.specs.Prelude.{◌≡◌, ℕ, ◌<◌, ◌≤◌, true, List, ◌++◌, length, take, drop, None};
 ghost use Rattle.std.specs.List.{concat};
-ghost use Rattle.zy_base.specs.declared.entry.Entry.{Entry};
-ghost use Rattle.zy_base.specs.Order.{of_connection, IsOrdered};
+ghost use Rattle.mc_calls.specs.declared.entry.Entry.{Entry};
+ghost use Rattle.mc_calls.specs.Order.{of_connection, IsOrdered};
 ghost use Rattle.zy_capture.specs.declared.record.Record.{Record};
 ghost use Rattle.zy_rx.specs.Flow.{home_of};
 ghost use Rattle.zy_rx.specs.Session.{received_by, streams_of};
-ghost use Rattle.zy_rx.specs.Routing.{offered_to};
+ghost use Rattle.zy_feed.specs.Routing.{offered_to};
 ghost use Rattle.mc_store.specs.Joined.{Joined, calls_of};
 ghost use Rattle.mc_reply.specs.Texts.{texts_of};
 ghost use Rattle.zy_run.specs.Commands.{streams_in, commands_in, commands_over};

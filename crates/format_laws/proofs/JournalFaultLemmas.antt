@@ -7,20 +7,20 @@ use Rattle.std.specs.List.{slice_index, concat}
 use Rattle.std.specs.Int.{to_be_bytes, from_be_bytes, w32, w64}
 use Rattle.std.proofs.lemmas.List.{append-nil}
 use Rattle.std.proofs.lemmas.Bool.Decides.{nat_tests}
-use Rattle.zy_base.specs.declared.call.Call.{Call}
-use Rattle.zy_base.specs.declared.call.Call.TheVariants as Calls
-use Rattle.zy_base.specs.declared.call_kind.CallKind.{CallKind}
-use Rattle.zy_base.specs.declared.call_reply.CallReply.TheVariants as Replies
-use Rattle.zy_base.specs.declared.entry.Entry.{Entry}
-use Rattle.zy_base.specs.declared.hold.Hold.{Hold}
+use Rattle.mc_calls.specs.declared.call.Call.{Call}
+use Rattle.mc_calls.specs.declared.call.Call.TheVariants as Calls
+use Rattle.mc_calls.specs.declared.call_kind.CallKind.{CallKind}
+use Rattle.mc_calls.specs.declared.call_reply.CallReply.TheVariants as Replies
+use Rattle.mc_calls.specs.declared.entry.Entry.{Entry}
+use Rattle.mc_calls.specs.declared.hold.Hold.{Hold}
 use Rattle.zy_base.specs.declared.file_fault.FileFault.{FileFault}
 use Rattle.zy_base.specs.declared.file_fault.FileFault.TheVariants.{Form}
-use Rattle.zy_base.specs.Call.{key_of}
-use Rattle.zy_base.specs.Code.{code_of, call_of, call_code, call_flags, call_number, call_value, hit_code}
-use Rattle.zy_base.specs.Code.{last_call_code, last_reply_code}
-use Rattle.zy_base.specs.Bounds.{IsKey, IsValue}
-use Rattle.zy_base.specs.Shard.{value_limit}
-use Rattle.zy_base.proofs.CodeLemmas.{call_has}
+use Rattle.mc_calls.specs.Call.{key_of}
+use Rattle.mc_calls.specs.Code.{code_of, call_of, call_code, call_flags, call_number, call_value, hit_code}
+use Rattle.mc_calls.specs.Code.{last_call_code, last_reply_code}
+use Rattle.mc_calls.specs.Bounds.{IsKey, IsValue}
+use Rattle.mc_calls.specs.Shard.{value_limit}
+use Rattle.mc_calls.proofs.CodeLemmas.{call_has}
 use Rattle.zy_read.specs.Fields.Judged.{Then, Gives, Wrong}
 use Rattle.zy_read.specs.FieldReading.{width_of}
 use Rattle.zy_read.specs.Runs.{HasRoom, IsMisjudged}

@@ -7,11 +7,11 @@ use Rattle.std.specs.Int.{to_be_bytes, w32}
 use Rattle.std.proofs.lemmas.List.{take_at}
 use Rattle.std.proofs.lemmas.Bool.{eqb-true}
 use Rattle.std.proofs.lemmas.Bool.Decides.{nat_tests}
-use Rattle.zy_base.specs.declared.entry.Entry.{Entry}
-use Rattle.zy_base.specs.declared.hold.Hold.{Hold}
+use Rattle.mc_calls.specs.declared.entry.Entry.{Entry}
+use Rattle.mc_calls.specs.declared.hold.Hold.{Hold}
 use Rattle.zy_base.specs.declared.file_fault.FileFault.TheVariants.{Form}
-use Rattle.zy_base.specs.Code.{call_code, last_call_code, last_reply_code}
-use Rattle.zy_base.specs.Shard.{value_limit}
+use Rattle.mc_calls.specs.Code.{call_code, last_call_code, last_reply_code}
+use Rattle.mc_calls.specs.Shard.{value_limit}
 use Rattle.zy_read.specs.Fields.Judged.{Wrong}
 use Rattle.zy_read.specs.FieldReading.{width_of}
 use Rattle.zy_read.proofs.OverLemmas.{over_join}

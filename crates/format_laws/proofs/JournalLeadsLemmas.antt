@@ -4,16 +4,16 @@ use Rattle.std.proofs.Common.{refl, sym, ◌∙◌, ap, subst, arith, append_ass
 use Rattle.std.specs.Prelude.{◌==◌, if◌then◌else◌, Option, None, IsSome, is_some}
 use Rattle.std.specs.Int.{to_be_bytes, w32, w64}
 use Rattle.std.proofs.lemmas.List.{append-nil}
-use Rattle.zy_base.specs.declared.call.Call.{Call}
-use Rattle.zy_base.specs.declared.call_kind.CallKind.{CallKind}
-use Rattle.zy_base.specs.declared.call_reply.CallReply.{CallReply}
-use Rattle.zy_base.specs.declared.entry.Entry.{Entry}
-use Rattle.zy_base.specs.declared.hold.Hold.{Hold}
-use Rattle.zy_base.specs.Call.{key_of}
-use Rattle.zy_base.specs.Code.{code_of, fields_of, call_of, call_code, call_flags, call_number, call_value}
-use Rattle.zy_base.specs.Code.{reply_code, reply_flags, reply_number, reply_value, hit_code, plain_reply}
-use Rattle.zy_base.specs.Bounds.{IsCall, FitsCall, FitsReply, FitsEntry}
-use Rattle.zy_base.proofs.CodeLemmas.{there, call_has, of_kinds, of_forms, plain_is}
+use Rattle.mc_calls.specs.declared.call.Call.{Call}
+use Rattle.mc_calls.specs.declared.call_kind.CallKind.{CallKind}
+use Rattle.mc_calls.specs.declared.call_reply.CallReply.{CallReply}
+use Rattle.mc_calls.specs.declared.entry.Entry.{Entry}
+use Rattle.mc_calls.specs.declared.hold.Hold.{Hold}
+use Rattle.mc_calls.specs.Call.{key_of}
+use Rattle.mc_calls.specs.Code.{code_of, fields_of, call_of, call_code, call_flags, call_number, call_value}
+use Rattle.mc_calls.specs.Code.{reply_code, reply_flags, reply_number, reply_value, hit_code, plain_reply}
+use Rattle.mc_calls.specs.Bounds.{IsCall, FitsCall, FitsReply, FitsEntry}
+use Rattle.mc_calls.proofs.CodeLemmas.{there, call_has, of_kinds, of_forms, plain_is}
 use Rattle.zy_journal.specs.Journal.{key_text, field_text, fields_text, call_text, entry_head, IsEntry}
 use Rattle.zy_journal_reader.specs.declared.draft.Draft.{Draft}
 use Rattle.zy_journal_reader.specs.declared.due.Due.{Due}

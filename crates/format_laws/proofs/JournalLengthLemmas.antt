@@ -4,17 +4,17 @@ use Rattle.std.proofs.Common.{arith}
 use Rattle.std.specs.Prelude.{Option, None, Some, IfSome, flat_map}
 use Rattle.std.specs.List.{AllByRecursion}
 use Rattle.std.specs.Int.{to_be_bytes, w32, w64}
-use Rattle.zy_base.specs.declared.call.Call.{Call}
-use Rattle.zy_base.specs.declared.call_reply.CallReply.{CallReply}
-use Rattle.zy_base.specs.declared.entry.Entry.{Entry}
-use Rattle.zy_base.specs.declared.hold.Hold.{Hold}
-use Rattle.zy_base.specs.declared.tallied.Tallied.{Tallied}
-use Rattle.zy_base.specs.Call.{key_of}
-use Rattle.zy_base.specs.Code.{call_flags, call_number, call_value, reply_flags, reply_number, reply_value}
-use Rattle.zy_base.specs.Code.{reply_counts}
-use Rattle.zy_base.specs.Bounds.{IsKey, IsValue, IsCall, IsReply}
-use Rattle.zy_base.proofs.CodeLemmas.{key_within, value_within}
-use Rattle.zy_base.specs.declared.call_reply.CallReply.TheVariants as Replies
+use Rattle.mc_calls.specs.declared.call.Call.{Call}
+use Rattle.mc_calls.specs.declared.call_reply.CallReply.{CallReply}
+use Rattle.mc_calls.specs.declared.entry.Entry.{Entry}
+use Rattle.mc_calls.specs.declared.hold.Hold.{Hold}
+use Rattle.mc_calls.specs.declared.tallied.Tallied.{Tallied}
+use Rattle.mc_calls.specs.Call.{key_of}
+use Rattle.mc_calls.specs.Code.{call_flags, call_number, call_value, reply_flags, reply_number, reply_value}
+use Rattle.mc_calls.specs.Code.{reply_counts}
+use Rattle.mc_calls.specs.Bounds.{IsKey, IsValue, IsCall, IsReply}
+use Rattle.mc_calls.proofs.CodeLemmas.{key_within, value_within}
+use Rattle.mc_calls.specs.declared.call_reply.CallReply.TheVariants as Replies
 use Rattle.zy_journal.specs.declared.journal.Journal.{Journal}
 use Rattle.zy_journal.specs.Journal.{magic, key_text, value_text, counts_text, field_text, fields_text, call_text}
 use Rattle.zy_journal.specs.Journal.{reply_text, entry_head, entry_text, hold_text, journal_bytes, IsEntry}

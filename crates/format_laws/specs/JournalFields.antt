@@ -2,15 +2,15 @@
 -- and which numbers are valid there.
 use Rattle.std.specs.Prelude.{ℕ, ◌^◌, ◌<◌, ◌≤◌, List, [], ◌∷◌, ◌++◌, Option, None, Some, IsSome, ⊤}
 use Rattle.std.specs.Int.{to_be_bytes, w32, w64}
-use Rattle.zy_base.specs.declared.entry.Entry.{Entry}
-use Rattle.zy_base.specs.declared.hold.Hold.{Hold}
-use Rattle.zy_base.specs.Call.{key_of}
-use Rattle.zy_base.specs.Code.{call_code, call_flags, call_number, call_value, last_call_code, reply_code}
-use Rattle.zy_base.specs.Code.{reply_flags, reply_number, reply_value, last_reply_code}
-use Rattle.zy_base.specs.Bounds.{FitsEntry}
+use Rattle.mc_calls.specs.declared.entry.Entry.{Entry}
+use Rattle.mc_calls.specs.declared.hold.Hold.{Hold}
+use Rattle.mc_calls.specs.Call.{key_of}
+use Rattle.mc_calls.specs.Code.{call_code, call_flags, call_number, call_value, last_call_code, reply_code}
+use Rattle.mc_calls.specs.Code.{reply_flags, reply_number, reply_value, last_reply_code}
+use Rattle.mc_calls.specs.Bounds.{FitsEntry}
 use Rattle.zy_base.specs.Limits.{key_limit, value_limit, connection_limit, shard_limit, core_limit, hold_limit}
 use Rattle.zy_base.specs.Limits.{command_limit, stamp_limit}
-use Rattle.zy_base.specs.Order.{IsBehind}
+use Rattle.mc_calls.specs.Order.{IsBehind}
 use Rattle.zy_journal.specs.Journal.{key_text, field_text, fields_text, call_text, entry_head, IsEntry}
 
 -- ---- fields

@@ -1,7 +1,7 @@
 -- An example journal, docs/FORMATS.md, "Journal".
 use Rattle.std.specs.Prelude.{ℕ, List, [], ◌∷◌}
-use Rattle.zy_base.specs.declared.call.Call.TheVariants as Calls
-use Rattle.zy_base.specs.declared.call_reply.CallReply.TheVariants as Answers
+use Rattle.mc_calls.specs.declared.call.Call.TheVariants as Calls
+use Rattle.mc_calls.specs.declared.call_reply.CallReply.TheVariants as Answers
 use Rattle.zy_journal.specs.declared.journal.Journal.{Journal}
 
 -- "set a 0 0 1", "x", at stamp 1, and "gets a" at stamp 2, both finished in one hold

@@ -2,9 +2,9 @@
 ghost use Rattle.std.specs.Prelude.{◌≡◌, ℕ, ◌+◌, ◌-◌, ◌*◌, ◌^◌, ◌<◌, ◌≤◌, List, [], ◌∷◌, length};
 ghost use Rattle.std.specs.Prelude.{◌↔◌, ◌++◌, codes, Some, ⊤};
 ghost use Rattle.std.specs.List.{AllByRecursion, concat};
-ghost use Rattle.zy_base.specs.Code.{last_call_code, last_reply_code};
-ghost use Rattle.zy_base.specs.declared.entry.Entry.{Entry};
-ghost use Rattle.zy_base.specs.declared.hold.Hold.{Hold};
+ghost use Rattle.mc_calls.specs.Code.{last_call_code, last_reply_code};
+ghost use Rattle.mc_calls.specs.declared.entry.Entry.{Entry};
+ghost use Rattle.mc_calls.specs.declared.hold.Hold.{Hold};
 ghost use Rattle.zy_journal.specs.declared.journal.Journal.{Journal};
 ghost use Rattle.zy_journal.specs.Journal.{IsEntry, entry_text, hold_text, journal_bytes};
 ghost use Rattle.format_laws.specs.WorkedJournal.{worked, worked_bytes};

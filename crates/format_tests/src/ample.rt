@@ -1,6 +1,6 @@
 //! Calls that may answer `NoMemory` and that no run of the program makes, with ample memory.
+use mc_calls::{Entries, Histories};
 use std::alloc::Global;
-use zy_base::{Entries, Histories};
 use zy_capture::RepliesReader;
 use zy_journal_reader::JournalReader;
 

@@ -3,6 +3,7 @@ ghost use Rattle.std.specs.Prelude.{◌≡◌};
 
 use crate::block_parts::{BlockParts, block_parts, offer_text};
 use crate::sure::{must, sure};
+use mc_calls::{Call, Tag, shard_of};
 use mc_store::{Pass, StoreTable};
 use std::alloc::Global;
 use std::process::Abort;
@@ -10,7 +11,7 @@ use std::sync::Wait;
 use std::sync::atomic::{AtomicBool, Ordering};
 use std::thread;
 use std::thread::Threads;
-use zy_base::{Blob, Call, Tag, Ungated, shard_of};
+use zy_base::{Blob, Ungated};
 use zy_calls::Output;
 use zy_conn::{Block, EventInlet, HoldEnd};
 

@@ -1,10 +1,10 @@
 -- What the calls of a command are, and the shards that they are on.
 use Rattle.std.proofs.Common.{◌≡◌, ℕ, ◌<◌, List, [], ◌∷◌, map, refl, ap, sym, subst}
 use Rattle.std.specs.Prelude.{All, Option, None, Some, IfSome}
-use Rattle.zy_base.specs.Key.{shard_of}
-use Rattle.zy_base.specs.Call.{key_of}
-use Rattle.zy_base.specs.declared.call.Call.{Call}
-use Rattle.zy_base.specs.declared.call.Call.TheVariants.{Get as GetCall}
+use Rattle.mc_calls.specs.Key.{shard_of}
+use Rattle.mc_calls.specs.Call.{key_of}
+use Rattle.mc_calls.specs.declared.call.Call.{Call}
+use Rattle.mc_calls.specs.declared.call.Call.TheVariants.{Get as GetCall}
 use Rattle.mc_parse.specs.declared.command.Command.{Command}
 use Rattle.mc_parse.specs.Calls.{calls_of, at_key, get_at, on_shard}
 use Rattle.mc_parse.proofs.CallLemmas.{all_calls}

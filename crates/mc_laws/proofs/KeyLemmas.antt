@@ -2,8 +2,8 @@
 use Rattle.std.proofs.Common.{◌≡◌, ℕ, zero, suc, ◌+◌, List, [], ◌∷◌, map, refl, ap}
 use Rattle.std.specs.Prelude.{Option, None, Some}
 use Rattle.std.specs.List.{filter_map, range_with_len}
-use Rattle.zy_base.specs.Call.{key_of}
-use Rattle.zy_base.specs.declared.call.Call.{Call}
+use Rattle.mc_calls.specs.Call.{key_of}
+use Rattle.mc_calls.specs.declared.call.Call.{Call}
 use Rattle.mc_parse.specs.declared.command.Command.{Command}
 use Rattle.mc_parse.specs.OnAll.{made_by}
 use Rattle.mc_parse.specs.Deed.{Deed, does_nothing, makes_one, gets_each, makes_on_all, deed_of}

@@ -13,7 +13,7 @@ use Rattle.mc_parse.specs.declared.need.Need.TheVariants.{Nothing}
 use Rattle.mc_parse.specs.declared.command.Command.{Command}
 use Rattle.mc_parse.specs.declared.command.Command.TheVariants.{Store as StoreCommand, Cas as CasCommand, Fault, Meta}
 use Rattle.mc_parse.specs.declared.meta.Meta.TheVariants.{Set as SetMeta}
-use Rattle.zy_base.specs.declared.call.Call.TheVariants.{Cas as CasCall}
+use Rattle.mc_calls.specs.declared.call.Call.TheVariants.{Cas as CasCall}
 use Rattle.mc_parse.specs.Deed.{stored_by}
 use Rattle.mc_parse.specs.MetaAsk.{noops, meta_gets, meta_stores, meta_exchanges, meta_deletes}
 use Rattle.mc_parse.specs.declared.verb.Verb.{Verb}

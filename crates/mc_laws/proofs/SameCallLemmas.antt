@@ -12,7 +12,7 @@ use Rattle.mc_laws.proofs.SaidLemmas.{SaysOf, stored_at, exchanged_at, get_said,
 use Rattle.mc_parse.specs.declared.command.Command.{Command}
 use Rattle.mc_parse.specs.declared.command.Command.TheVariants.{Store, Cas, Fault, Meta}
 use Rattle.mc_parse.specs.declared.meta.Meta.TheVariants as Commands
-use Rattle.zy_base.specs.declared.call.Call.TheVariants as Calls
+use Rattle.mc_calls.specs.declared.call.Call.TheVariants as Calls
 use Rattle.mc_parse.specs.declared.error_line.ErrorLine.TheVariants.{Unknown, BadLine, BadChunk}
 use Rattle.mc_parse.specs.declared.verb.Verb.TheVariants.{Set}
 use Rattle.mc_parse.specs.Words.{words, is_word, has_byte}

@@ -2,8 +2,8 @@
 use Rattle.std.proofs.Common.{ℕ, refl}
 use mathlib.Core.HLevel.{×_discrete}
 use native.Mathlib.Decide.{ℕ_discrete}
-use Rattle.zy_base.specs.declared.call.Call.{Call}
-use Rattle.zy_base.proofs.SameLemmas.{told_by, call_told}
+use Rattle.mc_calls.specs.declared.call.Call.{Call}
+use Rattle.mc_calls.proofs.SameLemmas.{told_by, call_told}
 use Rattle.mc_parse.specs.Calls.{Due}
 
 abbrev DueCode : Type 0

@@ -1,8 +1,8 @@
 -- What laws say of the calls of a command, and of the expected calls of a connection.
 use Rattle.std.specs.Prelude.{◌≡◌, ℕ, length, List, [], ◌∷◌, ◌++◌, map, IfSome}
-use Rattle.zy_base.specs.declared.call.Call.{Call}
-use Rattle.zy_base.specs.Call.{key_of}
-use Rattle.zy_base.specs.Key.{shard_of}
+use Rattle.mc_calls.specs.declared.call.Call.{Call}
+use Rattle.mc_calls.specs.Call.{key_of}
+use Rattle.mc_calls.specs.Key.{shard_of}
 use Rattle.mc_parse.specs.declared.shard_call.ShardCall.{ShardCall}
 use Rattle.mc_parse.specs.declared.command.Command.{Command}
 use Rattle.mc_parse.specs.Calls.{due, due_at, due_from}

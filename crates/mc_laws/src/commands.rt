@@ -2,11 +2,11 @@
 //! the laws.
 ghost use Rattle.std.specs.Prelude.{◌≡◌, ℕ, ◌≤◌, Bool, true, false, List, [], ◌∷◌, ◌++◌, map, All, codes};
 ghost use Rattle.std.specs.List.{filter_map, AllByRecursion};
-ghost use Rattle.zy_base.specs.declared.call.Call.{Call};
-ghost use Rattle.zy_base.specs.declared.call.Call.TheVariants as Calls;
-ghost use Rattle.zy_base.specs.declared.entry.Entry.{Entry};
-ghost use Rattle.zy_base.specs.Bounds.{IsValue};
-ghost use Rattle.zy_base.specs.Call.{key_of};
+ghost use Rattle.mc_calls.specs.declared.call.Call.{Call};
+ghost use Rattle.mc_calls.specs.declared.call.Call.TheVariants as Calls;
+ghost use Rattle.mc_calls.specs.declared.entry.Entry.{Entry};
+ghost use Rattle.mc_calls.specs.Bounds.{IsValue};
+ghost use Rattle.mc_calls.specs.Call.{key_of};
 ghost use Rattle.mc_parse.specs.declared.command.Command.{Command};
 ghost use Rattle.mc_parse.specs.declared.error_line.ErrorLine.{ErrorLine};
 ghost use Rattle.mc_parse.specs.declared.error_line.ErrorLine.TheVariants as Errors;

@@ -1,15 +1,15 @@
 //! Laws of texts: the functions do nothing, and their contracts are the laws.
 ghost use Rattle.std.specs.Prelude.{◌≡◌, ◌≤◌, ◌+◌, ℕ, true, false, List, [], ◌∷◌, ◌++◌, length, take, map, codes};
-ghost use Rattle.zy_base.specs.declared.call_reply.CallReply.{CallReply};
-ghost use Rattle.zy_base.specs.declared.call_reply.CallReply.TheVariants as Replies;
-ghost use Rattle.zy_base.specs.declared.entry.Entry.{Entry};
-ghost use Rattle.zy_base.specs.Replies.{replies_at};
+ghost use Rattle.mc_calls.specs.declared.call_reply.CallReply.{CallReply};
+ghost use Rattle.mc_calls.specs.declared.call_reply.CallReply.TheVariants as Replies;
+ghost use Rattle.mc_calls.specs.declared.entry.Entry.{Entry};
+ghost use Rattle.mc_calls.specs.Replies.{replies_at};
 ghost use Rattle.mc_parse.specs.declared.command.Command.{Command};
 ghost use Rattle.mc_parse.specs.declared.meta.Meta.TheVariants as Metas;
-ghost use Rattle.zy_base.specs.declared.call.Call.TheVariants as Calls;
+ghost use Rattle.mc_calls.specs.declared.call.Call.TheVariants as Calls;
 ghost use Rattle.mc_parse.specs.declared.verb.Verb.TheVariants as Verbs;
 ghost use Rattle.mc_parse.specs.declared.error_line.ErrorLine.TheVariants as Errors;
-ghost use Rattle.zy_base.specs.Told.{told};
+ghost use Rattle.mc_calls.specs.Told.{told};
 ghost use Rattle.mc_parse.specs.Plain.{IsPlain};
 ghost use Rattle.mc_reply.specs.declared.stats.Stat.TheVariants as Stats;
 ghost use Rattle.mc_reply.specs.StatsText.{sum_in, stat_line};

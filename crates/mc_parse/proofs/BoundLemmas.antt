@@ -5,9 +5,9 @@ use Rattle.std.proofs.Common.{◌≡◌, ℕ, zero, suc, ◌+◌, ◌<◌, ◌�
 use Rattle.std.specs.Prelude.{IfSome}
 use Rattle.std.proofs.lemmas.List.{length-drop}
 use borrow.Author.Tests.{leb-true}
-use Rattle.zy_base.specs.declared.call.Call.{Call}
-use Rattle.zy_base.specs.Call.{key_of}
-use Rattle.zy_base.specs.Bounds.{IsKey, IsValue, IsCall}
+use Rattle.mc_calls.specs.declared.call.Call.{Call}
+use Rattle.mc_calls.specs.Call.{key_of}
+use Rattle.mc_calls.specs.Bounds.{IsKey, IsValue, IsCall}
 use Rattle.mc_parse.specs.declared.command.Command.{Command}
 use Rattle.mc_parse.specs.declared.command.Command.TheVariants.{Fault}
 use Rattle.mc_meta.specs.declared.meta_line.Span.{Span}
@@ -29,8 +29,8 @@ use Rattle.mc_parse.specs.Meaning.{is_ended, value_of, alone_meta, value_meta, a
 use Rattle.mc_parse.specs.OnAll.{made_by}
 use Rattle.mc_parse.specs.Deed.{Deed, does_nothing, makes_one, gets_each, makes_on_all, deed_of}
 use Rattle.mc_parse.specs.Calls.{calls_of, calls_by, get_calls, call_alone, on_shard, tagged, due_at, due_from}
-use Rattle.zy_base.specs.Code.{call_value}
-use Rattle.zy_base.proofs.CodeLemmas.{call_within}
+use Rattle.mc_calls.specs.Code.{call_value}
+use Rattle.mc_calls.proofs.CodeLemmas.{call_within}
 use Rattle.mc_parse.specs.Plain.{key_list, deed_keys}
 use Rattle.mc_parse.specs.Bounds.{IsDeed, IsCommand, IsShardCall, IsDueWithin}
 use Rattle.mc_parse.proofs.AskLemmas.{Reads, reads, keys_by_name}

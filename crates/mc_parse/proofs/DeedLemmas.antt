@@ -1,9 +1,9 @@
 -- What the calls of commands are: their keys, that they are steady, and their bounds.
 use Rattle.std.proofs.Common.{◌≡◌, ℕ, Bool, true, false, List, refl}
 use Rattle.std.specs.Prelude.{None, Some}
-use Rattle.zy_base.specs.Call.{key_of}
-use Rattle.zy_base.specs.Told.{IsSteady}
-use Rattle.zy_base.specs.Bounds.{IsKey, IsValue, IsCall}
+use Rattle.mc_calls.specs.Call.{key_of}
+use Rattle.mc_calls.specs.Told.{IsSteady}
+use Rattle.mc_calls.specs.Bounds.{IsKey, IsValue, IsCall}
 use Rattle.mc_parse.specs.declared.verb.Verb.{Verb}
 use Rattle.mc_parse.specs.declared.verb.Verb.TheVariants.{Set, Add, Replace, Append, Prepend}
 use Rattle.mc_parse.specs.declared.on_all.OnAll.{OnAll}

@@ -5,9 +5,9 @@ use Rattle.std.specs.Prelude.{map, All, Bool, if◌then◌else◌, Option, None,
 use Rattle.std.specs.List.{AllByRecursion, Contains}
 use Rattle.std.proofs.lemmas.List.{map-append}
 use Rattle.std.proofs.lemmas.List.Elements.{recursion_from_All, Contains-append_left, Contains-append_right}
-use Rattle.zy_base.specs.declared.call.Call.{Call}
-use Rattle.zy_base.specs.declared.call.Call.TheVariants.{Get as GetCall}
-use Rattle.zy_base.specs.Call.{key_of}
+use Rattle.mc_calls.specs.declared.call.Call.{Call}
+use Rattle.mc_calls.specs.declared.call.Call.TheVariants.{Get as GetCall}
+use Rattle.mc_calls.specs.Call.{key_of}
 use Rattle.mc_parse.specs.declared.command.Command.{Command}
 use Rattle.mc_parse.specs.declared.command.Command.TheVariants.{Fault}
 use Rattle.mc_parse.specs.declared.verb.Verb.{Verb}

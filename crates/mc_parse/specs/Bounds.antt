@@ -1,7 +1,7 @@
 -- Which commands, and which expected calls, are within their bounds.
 use Rattle.std.specs.Prelude.{ℕ, ◌<◌}
 use Rattle.std.specs.List.{AllByRecursion}
-use Rattle.zy_base.specs.Bounds.{IsKey, IsCall}
+use Rattle.mc_calls.specs.Bounds.{IsKey, IsCall}
 use Rattle.mc_parse.specs.declared.command.Command.{Command}
 use Rattle.mc_parse.specs.declared.shard_call.ShardCall.{ShardCall}
 use Rattle.mc_parse.specs.Deed.{Deed, makes_one, gets_each, deed_of}

@@ -2,12 +2,12 @@
 use Rattle.std.specs.Prelude.{ℕ, ◌+◌, ◌<◌, List}
 use Rattle.std.specs.Prelude.{[], ◌∷◌, ◌++◌, map, Option, None, Some}
 use Rattle.std.specs.List.{range_with_len}
-use Rattle.zy_base.specs.declared.call.Call.{Call}
-use Rattle.zy_base.specs.declared.call.Call.TheVariants.{Get as GetCall}
-use Rattle.zy_base.specs.declared.entry.Tag.{Tag}
-use Rattle.zy_base.specs.declared.entry.Entry.{Entry}
-use Rattle.zy_base.specs.Call.{key_of}
-use Rattle.zy_base.specs.Key.{shard_of}
+use Rattle.mc_calls.specs.declared.call.Call.{Call}
+use Rattle.mc_calls.specs.declared.call.Call.TheVariants.{Get as GetCall}
+use Rattle.mc_calls.specs.declared.entry.Tag.{Tag}
+use Rattle.mc_calls.specs.declared.entry.Entry.{Entry}
+use Rattle.mc_calls.specs.Call.{key_of}
+use Rattle.mc_calls.specs.Key.{shard_of}
 use Rattle.mc_parse.specs.declared.shard_call.ShardCall.{ShardCall}
 use Rattle.mc_parse.specs.declared.command.Command.{Command}
 use Rattle.mc_parse.specs.OnAll.{made_by}

@@ -1,11 +1,11 @@
 -- What a command does on the shards, and what answers it (docs/PROFILE.md, "Calls" and "Answers"). Its calls, its keys,
 -- their bounds and their number go by the first alone, and its text, the size of it and what it shows by the second.
 use Rattle.std.specs.Prelude.{ℕ, Bool, true, false, List}
-use Rattle.zy_base.specs.declared.call.Call.{Call}
-use Rattle.zy_base.specs.declared.call.Call.TheVariants.{Get as GetCall, Set as SetCall, Add as AddCall}
-use Rattle.zy_base.specs.declared.call.Call.TheVariants.{Replace as ReplaceCall, Append as AppendCall}
-use Rattle.zy_base.specs.declared.call.Call.TheVariants.{Prepend as PrependCall, Cas as CasCall, Incr, Decr}
-use Rattle.zy_base.specs.declared.call.Call.TheVariants.{Delete as DeleteCall}
+use Rattle.mc_calls.specs.declared.call.Call.{Call}
+use Rattle.mc_calls.specs.declared.call.Call.TheVariants.{Get as GetCall, Set as SetCall, Add as AddCall}
+use Rattle.mc_calls.specs.declared.call.Call.TheVariants.{Replace as ReplaceCall, Append as AppendCall}
+use Rattle.mc_calls.specs.declared.call.Call.TheVariants.{Prepend as PrependCall, Cas as CasCall, Incr, Decr}
+use Rattle.mc_calls.specs.declared.call.Call.TheVariants.{Delete as DeleteCall}
 use Rattle.mc_parse.specs.declared.verb.Verb.{Verb}
 use Rattle.mc_parse.specs.declared.verb.Verb.TheVariants.{Set, Add, Replace, Append, Prepend}
 use Rattle.mc_parse.specs.declared.on_all.OnAll.{OnAll}

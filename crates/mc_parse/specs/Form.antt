@@ -19,7 +19,7 @@ use Rattle.mc_meta.specs.Key.{bytes_in}
 use Rattle.mc_parse.specs.declared.command.Command.{Command}
 use Rattle.mc_parse.specs.declared.command.Command.TheVariants as Commands
 use Rattle.mc_parse.specs.declared.meta.Meta.TheVariants as MetaCommands
-use Rattle.zy_base.specs.declared.call.Call.TheVariants as Calls
+use Rattle.mc_calls.specs.declared.call.Call.TheVariants as Calls
 use Rattle.mc_parse.specs.Deed.{stored_by}
 use Rattle.mc_parse.specs.MetaAsk.{MetaAsk, noops, meta_gets, meta_stores, meta_exchanges, meta_deletes, storing_ask}
 use Rattle.mc_parse.specs.Words.{words}

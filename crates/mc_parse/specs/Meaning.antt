@@ -5,7 +5,7 @@ use Rattle.std.specs.Str.{bytes_eq}
 use Rattle.mc_parse.specs.declared.command.Command.{Command}
 use Rattle.mc_parse.specs.declared.command.Command.TheVariants.{Fault}
 use Rattle.mc_parse.specs.declared.error_line.ErrorLine.TheVariants.{LongLine, BadChunk, TooLarge}
-use Rattle.zy_base.specs.Shard.{value_limit}
+use Rattle.mc_calls.specs.Shard.{value_limit}
 use Rattle.mc_parse.specs.declared.need.Need.{Need}
 use Rattle.mc_parse.specs.declared.need.Need.TheVariants.{Nothing, Block, Quit}
 use Rattle.mc_parse.specs.Form.{Form, line_form, faulty, asks}

@@ -2,9 +2,9 @@
 -- compare no unique.
 use Rattle.std.specs.Prelude.{◌≡◌, ℕ, ◌<◌, true, false, List, [], ◌∷◌, flat_map, Option, None, Some}
 use Rattle.std.specs.List.{AllByRecursion, Contains}
-use Rattle.zy_base.specs.Call.{key_of}
-use Rattle.zy_base.specs.Key.{shard_of}
-use Rattle.zy_base.specs.Told.{IsSteady}
+use Rattle.mc_calls.specs.Call.{key_of}
+use Rattle.mc_calls.specs.Key.{shard_of}
+use Rattle.mc_calls.specs.Told.{IsSteady}
 use Rattle.mc_parse.specs.declared.command.Command.{Command}
 use Rattle.mc_meta.specs.Flags.{is_among}
 use Rattle.mc_parse.specs.declared.shard_call.ShardCall.{ShardCall}

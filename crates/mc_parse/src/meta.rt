@@ -1,6 +1,7 @@
 //! Meta commands.
+use mc_calls::Call;
 use mc_meta::Letters;
-use zy_base::{Blob, Call};
+use zy_base::Blob;
 
 /// What a meta command asks for.
 #[derive(Drop)]

@@ -15,9 +15,10 @@ use crate::meta::Meta;
 use crate::meta_ask::{MetaAsk, read_meta_ask};
 use crate::one_call::storing;
 use crate::parse::{fault, is_ended, value_of};
+use mc_calls::Call;
 use mc_meta::Letters;
 use std::alloc::Global;
-use zy_base::{Blob, Call, NoMemory};
+use zy_base::{Blob, NoMemory};
 
 /// The command of a line that is read as a meta command.
 pub(crate) fn meta_command(alloc: Global, line: &[u8]) -> Result<Command, NoMemory>

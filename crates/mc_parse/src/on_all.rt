@@ -2,7 +2,7 @@
 ghost use Rattle.std.specs.Prelude.{◌≡◌};
 ghost use Rattle.mc_parse.specs.OnAll.{made_by};
 
-use zy_base::Call;
+use mc_calls::Call;
 
 /// A call without a key.
 #[derive(Clone, Copy)]

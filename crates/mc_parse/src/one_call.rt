@@ -1,7 +1,7 @@
 //! One call of a command, and how it is made.
 ghost use Rattle.std.specs.Prelude.{◌≡◌, ◌≤◌, IfOk, IfErr, IfSome, Some, Err, slice_get};
 ghost use Rattle.mc_parse.specs.OnAll.{made_by};
-ghost use Rattle.zy_base.specs.declared.call.Call.{Call};
+ghost use Rattle.mc_calls.specs.declared.call.Call.{Call};
 ghost use Rattle.mc_parse.specs.Deed.{stored_by, counted_by, deed_of, meta_deed, IsOnce};
 ghost use Rattle.mc_parse.specs.Calls.{calls_of, calls_by, get_calls, calls_on_all, at_key, IsOnShard};
 
@@ -10,7 +10,8 @@ use crate::meta::Meta;
 use crate::on_all::OnAll;
 use crate::shard_call::ShardCall;
 use crate::verb::Verb;
-use zy_base::{Blob, Call, NoMemory, shard_of};
+use mc_calls::{Call, shard_of};
+use zy_base::{Blob, NoMemory};
 
 /// The call of a command on `shards` shards that has this number in the list `calls`; `None` exactly where
 /// the list has no such call. It has copies of key and value.

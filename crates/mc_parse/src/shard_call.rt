@@ -1,5 +1,6 @@
 //! Calls with the shards that they are made on.
-use zy_base::{Call, Items};
+use mc_calls::Call;
+use zy_base::Items;
 
 /// A call on a shard.
 #[derive(Drop)]

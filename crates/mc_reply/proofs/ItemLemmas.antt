@@ -1,6 +1,6 @@
 -- Keys, each with its reply.
 use Rattle.std.proofs.Common.{◌≡◌, ℕ, suc, List, [], ◌∷◌, length, refl, ap}
-use Rattle.zy_base.specs.declared.call_reply.CallReply.{CallReply}
+use Rattle.mc_calls.specs.declared.call_reply.CallReply.{CallReply}
 use Rattle.mc_parse.specs.Calls.{get_calls}
 use Rattle.mc_reply.specs.Answers.{AnswerEach}
 

@@ -2,7 +2,7 @@
 use Rattle.std.specs.Prelude.{codes, decimal}
 use Rattle.std.proofs.Common.{◌≡◌, ℕ, ◌+◌, ◌^◌, ◌<◌, ◌≤◌, Bool, true, false, List, ◌++◌, length, arith, length-append}
 use Rattle.std.proofs.lemmas.Fmt.{length-decimal-le}
-use Rattle.zy_base.specs.declared.call_reply.CallReply.TheVariants.{Hit}
+use Rattle.mc_calls.specs.declared.call_reply.CallReply.TheVariants.{Hit}
 use Rattle.mc_reply.specs.Line.{line, line_end}
 use Rattle.mc_reply.specs.Text.{head_text, unique_text, item_line, item_text}
 

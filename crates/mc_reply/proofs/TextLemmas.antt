@@ -1,9 +1,9 @@
 -- The texts of further commands, and of further entries.
 use Rattle.std.proofs.Common.{◌≡◌, ◌≢◌, ℕ, zero, suc, ◌+◌, ◌≤◌, List, [], ◌∷◌, ◌++◌, length, take, refl, ap, ◌∙◌, arith}
-use Rattle.zy_base.specs.declared.call_reply.CallReply.{CallReply}
-use Rattle.zy_base.specs.declared.entry.Entry.{Entry}
-use Rattle.zy_base.specs.Replies.{replies_at}
-use Rattle.zy_base.proofs.EntryLemmas.{replies_at-push_other}
+use Rattle.mc_calls.specs.declared.call_reply.CallReply.{CallReply}
+use Rattle.mc_calls.specs.declared.entry.Entry.{Entry}
+use Rattle.mc_calls.specs.Replies.{replies_at}
+use Rattle.mc_calls.proofs.EntryLemmas.{replies_at-push_other}
 use Rattle.mc_parse.specs.declared.command.Command.{Command}
 use Rattle.mc_reply.specs.Text.{text}
 use Rattle.mc_reply.specs.Texts.{texts_from, texts_of}

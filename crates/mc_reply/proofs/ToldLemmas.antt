@@ -3,10 +3,10 @@ use Rattle.std.proofs.Common.{◌≡◌, ℕ, ◌+◌, Bool, true, false, cond, 
 use Rattle.std.specs.Prelude.{◌==◌, ◌||◌, filter, codes, decimal, if◌then◌else◌, Some}
 use Rattle.std.specs.List.{AllByRecursion}
 use Rattle.std.proofs.lemmas.List.Sums.{sum_by-cons}
-use Rattle.zy_base.specs.declared.call_reply.CallReply.{CallReply}
-use Rattle.zy_base.specs.declared.call_reply.CallReply.TheVariants.{Hit}
-use Rattle.zy_base.specs.declared.entry.Entry.{Entry}
-use Rattle.zy_base.specs.Replies.{replies_at}
+use Rattle.mc_calls.specs.declared.call_reply.CallReply.{CallReply}
+use Rattle.mc_calls.specs.declared.call_reply.CallReply.TheVariants.{Hit}
+use Rattle.mc_calls.specs.declared.entry.Entry.{Entry}
+use Rattle.mc_calls.specs.Replies.{replies_at}
 use Rattle.mc_parse.specs.declared.command.Command.{Command}
 use Rattle.mc_parse.specs.Saying.{About, a_found, a_stored, a_removed}
 use Rattle.mc_parse.specs.Saying.{Saying, says_reply, says_items, says_counts, says_line, says_marks}
@@ -19,7 +19,7 @@ use Rattle.mc_reply.specs.Texts.{texts_from}
 use Rattle.mc_reply.specs.MetaText.{found_of, mark_text, marks_text, marked, hit_text, get_text, set_text, delete_text, about_text, marks_answer}
 use Rattle.mc_meta.specs.Flags.{is_among}
 use Rattle.mc_parse.specs.Plain.{IsPlain, HidesUniques}
-use Rattle.zy_base.specs.Told.{told, told_of, all_told}
+use Rattle.mc_calls.specs.Told.{told, told_of, all_told}
 
 -- ---- one command
 

@@ -1,8 +1,8 @@
 -- The text that answers `stats`: memcached's protocol.txt, "General-purpose statistics". It has five of its numbers,
 -- which are sums over all shards.
 use Rattle.std.specs.Prelude.{ℕ, List, ◌++◌, codes, decimal, sum_by}
-use Rattle.zy_base.specs.declared.call_reply.CallReply.{CallReply}
-use Rattle.zy_base.specs.declared.call_reply.CallReply.TheVariants.{Tally}
+use Rattle.mc_calls.specs.declared.call_reply.CallReply.{CallReply}
+use Rattle.mc_calls.specs.declared.call_reply.CallReply.TheVariants.{Tally}
 use Rattle.mc_reply.specs.declared.stats.Stat.{Stat}
 use Rattle.mc_reply.specs.declared.stats.Stat.TheVariants.{Gets, Sets, Hits, Misses, Items}
 use Rattle.mc_reply.specs.Line.{line}

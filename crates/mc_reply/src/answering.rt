@@ -5,8 +5,8 @@ ghost use Rattle.mc_reply.specs.Shape.{answer_text};
 
 use crate::answer::Answer;
 use crate::lines;
+use mc_calls::CallReply;
 use mc_parse::ErrorLine;
-use zy_base::CallReply;
 
 /// Nothing, if no answer is requested.
 pub(crate) fn unless(quiet: bool, answer: Answer) -> Answer

@@ -5,7 +5,8 @@ ghost use Rattle.mc_reply.specs.Shape.{numbers_text, spaced_number};
 
 use crate::lines::LINE_END;
 use itoa::write_digits;
-use zy_base::{Blob, CallReply, Reserved};
+use mc_calls::CallReply;
+use zy_base::{Blob, Reserved};
 
 // The room for three numbers of up to 20 digits, each after a space, and for the end of a line.
 const NUMBERS_ROOM: usize = 72;

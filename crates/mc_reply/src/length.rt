@@ -2,7 +2,8 @@
 ghost use Rattle.std.specs.Prelude.{◌≡◌, ◌≤◌, ◌+◌, Bool, length, IfSome};
 ghost use Rattle.mc_reply.specs.Text.{item_text, items_text};
 
-use zy_base::{Blob, CallReply};
+use mc_calls::CallReply;
+use zy_base::Blob;
 
 /// A number of bytes that the texts of the keys do not exceed; `None` if it does not fit in a `usize`.
 pub(crate) fn items_room(keys: &[Blob], replies: &[CallReply]) -> Option<usize>

@@ -7,10 +7,11 @@ ghost use Rattle.mc_reply.specs.Text.{says_text};
 
 use crate::lines::{LINE_END, MISS, NOOP, TOO_LARGE};
 use crate::marks::{Found, marks_length, put_marks};
+use mc_calls::CallReply;
 use mc_meta::Letters;
 use mc_parse::Meta;
 use std::mem;
-use zy_base::{Blob, CallReply, NoMemory, digits_of};
+use zy_base::{Blob, NoMemory, digits_of};
 
 /// Appends the text that answers a meta command with its reply. May answer `NoMemory`.
 pub(crate) fn append_meta(

@@ -3,8 +3,9 @@ ghost use Rattle.std.specs.Prelude.{◌≡◌, ◌≤◌, ◌+◌, ◌++◌, len
 ghost use Rattle.mc_reply.specs.StatsText.{stat_name, stat_in, sum_in, stat_line, sum_line, stats_text};
 
 use crate::lines::{END, LINE_END};
+use mc_calls::CallReply;
 use std::mem;
-use zy_base::{Blob, CallReply, NoMemory, Reserved};
+use zy_base::{Blob, NoMemory, Reserved};
 
 // The most bytes of a number's line: "STAT ", a name of up to 10 bytes, a blank, up to 39 digits,
 // and the end of the line.

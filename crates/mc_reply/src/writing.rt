@@ -11,9 +11,10 @@ use crate::length::items_room;
 use crate::lines::{self, END, LINE_END};
 use crate::meta_answer::append_meta;
 use crate::stats::append_stats;
+use mc_calls::{CallReply, Replies};
 use mc_parse::Command;
 use std::mem;
-use zy_base::{Blob, CallReply, NoMemory, Replies, Reserved, number_text};
+use zy_base::{Blob, NoMemory, Reserved, number_text};
 
 /// Appends the text that answers a command with these replies: nothing if it asks for no answer.
 /// May answer `NoMemory`.

@@ -8,7 +8,7 @@ use Rattle.std.proofs.lemmas.List.{length-set}
 use Rattle.std.specs.FinMap.{get, insert, remove}
 use Rattle.std.specs.Map.{lookup}
 use Rattle.std.specs.BTreeMap.{is_at}
-use Rattle.zy_base.specs.declared.item.Item.{Item}
+use Rattle.mc_calls.specs.declared.item.Item.{Item}
 use Rattle.mc_shard.specs.Contents.{hashed_cmp, items_in}
 use Rattle.mc_shard.specs.Buckets.{Keyed, item_in, entries_among, items_among, HasOwnKeys, HaveOwnKeys, AreBuckets, IsWith}
 use Rattle.mc_shard.proofs.MapLemmas.{get-items_in, items_in-stored, items_in-removed, same_at}

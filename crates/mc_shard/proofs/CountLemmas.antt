@@ -5,13 +5,13 @@ use Rattle.std.proofs.Math.Nat.{eq-zero-or-pos}
 use Rattle.std.specs.Ordering.{nat_cmp}
 use Rattle.std.specs.Cmp.Lexicographic.{slice_cmp, nat_list_cmp_total}
 use Rattle.std.specs.FinMap.{get, empty, insert, remove, contains_key, len, get-empty, empty_of_len, len-empty, len-insert, len-remove}
-use Rattle.zy_base.specs.declared.item.Item.{Item}
-use Rattle.zy_base.specs.declared.entry.Entry.{Entry}
-use Rattle.zy_base.specs.Shard.{Items, State, empty_state}
-use Rattle.zy_base.specs.History.{replayed}
-use Rattle.zy_base.specs.Order.{last_stamp}
-use Rattle.zy_base.proofs.EntryLemmas.{StampsRise-length}
-use Rattle.zy_base.proofs.CountedLemmas.{gets_within, sets_within}
+use Rattle.mc_calls.specs.declared.item.Item.{Item}
+use Rattle.mc_calls.specs.declared.entry.Entry.{Entry}
+use Rattle.mc_calls.specs.Shard.{Items, State, empty_state}
+use Rattle.mc_calls.specs.History.{replayed}
+use Rattle.mc_calls.specs.Order.{last_stamp}
+use Rattle.mc_calls.proofs.EntryLemmas.{StampsRise-length}
+use Rattle.mc_calls.proofs.CountedLemmas.{gets_within, sets_within}
 use Rattle.mc_stats.specs.declared.counts.Counts.{Counts}
 use Rattle.mc_stats.specs.Counts.{no_counts, with_item, without_item, without_items}
 use Rattle.mc_shard.specs.Contents.{call_counts_in, AreCounts, IsSound}

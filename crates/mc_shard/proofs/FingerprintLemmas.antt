@@ -4,7 +4,7 @@ use Rattle.std.specs.Prelude.{Some, false}
 use Rattle.std.specs.BTreeMap.{is_at}
 use Rattle.std.specs.List.{remove, copy_within}
 use Rattle.std.proofs.lemmas.Option.{same_Some}
-use Rattle.zy_base.specs.declared.item.Item.{Item}
+use Rattle.mc_calls.specs.declared.item.Item.{Item}
 use Rattle.mc_shard.specs.Buckets.{Keyed, fingerprint_of, AreFingerprints, NoneBefore}
 use Rattle.mc_shard.specs.Contents.{hashed_cmp}
 use Rattle.mc_shard.proofs.BucketLemmas.{apart}

@@ -5,7 +5,7 @@ use Rattle.std.specs.List.{remove}
 use Rattle.std.specs.Cmp.{eq_by_cmp_equiv}
 use Rattle.std.specs.BTreeMap.{is_at}
 use Rattle.std.proofs.lemmas.Option.{same_Some}
-use Rattle.zy_base.specs.declared.item.Item.{Item}
+use Rattle.mc_calls.specs.declared.item.Item.{Item}
 use Rattle.mc_shard.specs.Contents.{hashed_cmp, hashed_total}
 use Rattle.mc_shard.specs.Buckets.{Keyed, item_in, IsFirstAt, NoneBefore, IsWith, SameItems}
 use Rattle.mc_shard.proofs.MapLemmas.{same_at}

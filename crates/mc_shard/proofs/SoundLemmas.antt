@@ -1,23 +1,23 @@
 -- A shard is still sound after a call.
 use Rattle.std.proofs.Common.{◌≡◌, ℕ, ◌<◌, List, [], ◌∷◌, ◌++◌, refl, sym, ap, subst, ◌∙◌}
 use Rattle.std.specs.Prelude.{Option, None, Some, Result, Ok, Err, IfOk, OnOk}
-use Rattle.zy_base.specs.declared.call.Call.{Call}
-use Rattle.zy_base.specs.declared.call.Call.TheVariants.{Get}
-use Rattle.zy_base.specs.declared.call_reply.CallReply.{CallReply}
-use Rattle.zy_base.specs.declared.entry.Entry.{Entry}
-use Rattle.zy_base.specs.declared.entry.Tag.{Tag}
-use Rattle.zy_base.specs.declared.item.Item.{Item}
-use Rattle.zy_base.specs.declared.tallied.Tallied.{Tallied}
-use Rattle.zy_base.specs.Call.{key_of}
-use Rattle.zy_base.specs.Code.{tally}
-use Rattle.zy_base.specs.Counted.{CallCounts, calls_with}
-use Rattle.zy_base.specs.Shard.{State, empty_state, tallied, with_calls, Effect, keeps, Outcome, outcome_of, item_at, outcome_on, reply_to, state_with, state_after}
-use Rattle.zy_base.specs.Bounds.{FitsEntry}
-use Rattle.zy_base.specs.History.{IsHistory, replayed}
-use Rattle.zy_base.specs.Order.{last_stamp}
-use Rattle.zy_base.proofs.EntryLemmas.{last_stamp-push}
-use Rattle.zy_base.proofs.ReplayLemmas.{replayed-push, calls-state_with, IsHistory-push}
-use Rattle.zy_base.proofs.CountedLemmas.{tallied-replayed}
+use Rattle.mc_calls.specs.declared.call.Call.{Call}
+use Rattle.mc_calls.specs.declared.call.Call.TheVariants.{Get}
+use Rattle.mc_calls.specs.declared.call_reply.CallReply.{CallReply}
+use Rattle.mc_calls.specs.declared.entry.Entry.{Entry}
+use Rattle.mc_calls.specs.declared.entry.Tag.{Tag}
+use Rattle.mc_calls.specs.declared.item.Item.{Item}
+use Rattle.mc_calls.specs.declared.tallied.Tallied.{Tallied}
+use Rattle.mc_calls.specs.Call.{key_of}
+use Rattle.mc_calls.specs.Code.{tally}
+use Rattle.mc_calls.specs.Counted.{CallCounts, calls_with}
+use Rattle.mc_calls.specs.Shard.{State, empty_state, tallied, with_calls, Effect, keeps, Outcome, outcome_of, item_at, outcome_on, reply_to, state_with, state_after}
+use Rattle.mc_calls.specs.Bounds.{FitsEntry}
+use Rattle.mc_calls.specs.History.{IsHistory, replayed}
+use Rattle.mc_calls.specs.Order.{last_stamp}
+use Rattle.mc_calls.proofs.EntryLemmas.{last_stamp-push}
+use Rattle.mc_calls.proofs.ReplayLemmas.{replayed-push, calls-state_with, IsHistory-push}
+use Rattle.mc_calls.proofs.CountedLemmas.{tallied-replayed}
 use Rattle.mc_shard.specs.declared.made.Made.{Made}
 use Rattle.mc_shard.specs.Shard.{Kept, TallyCounts, state_of, entry_of, with_entry, state_past}
 use Rattle.mc_shard.specs.Contents.{IsSound}

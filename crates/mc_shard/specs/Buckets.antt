@@ -2,9 +2,9 @@
 use Rattle.std.specs.Prelude.{◌≡◌, ◌≢◌, ◌⊎◌, ℕ, zero, suc, ◌/◌, ◌%◌, ◌^◌, List, [], ◌∷◌, ◌++◌, length, Option, None, true, false, cond, ⊤}
 use Rattle.std.specs.Map.{lookup}
 use Rattle.std.specs.BTreeMap.{is_at}
-use Rattle.zy_base.specs.declared.item.Item.{Item}
-use Rattle.zy_base.specs.Key.{hash_of}
-use Rattle.zy_base.specs.Shard.{Items}
+use Rattle.mc_calls.specs.declared.item.Item.{Item}
+use Rattle.mc_calls.specs.Key.{hash_of}
+use Rattle.mc_calls.specs.Shard.{Items}
 use Rattle.mc_shard.specs.Contents.{hashed_cmp, items_in}
 
 -- keys with their items

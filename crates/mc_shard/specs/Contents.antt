@@ -7,14 +7,14 @@ use Rattle.std.specs.Ordering.{nat_cmp, ordering_then}
 use Rattle.std.specs.Cmp.{IsTotalOrder, then_total, on_total, nat_cmp_total}
 use Rattle.std.specs.Cmp.Lexicographic.{slice_cmp, nat_list_cmp_total}
 use Rattle.std.specs.FinMap.{from_entries, code, insert, len}
-use Rattle.zy_base.specs.declared.item.Item.{Item}
-use Rattle.zy_base.specs.declared.entry.Entry.{Entry}
-use Rattle.zy_base.specs.Key.{hash_of}
-use Rattle.zy_base.specs.Counted.{CallCounts}
-use Rattle.zy_base.specs.Shard.{Items, State, empty_state}
+use Rattle.mc_calls.specs.declared.item.Item.{Item}
+use Rattle.mc_calls.specs.declared.entry.Entry.{Entry}
+use Rattle.mc_calls.specs.Key.{hash_of}
+use Rattle.mc_calls.specs.Counted.{CallCounts}
+use Rattle.mc_calls.specs.Shard.{Items, State, empty_state}
 use Rattle.mc_stats.specs.declared.counts.Counts.{Counts}
-use Rattle.zy_base.specs.History.{IsHistory, replayed}
-use Rattle.zy_base.specs.Order.{last_stamp}
+use Rattle.mc_calls.specs.History.{IsHistory, replayed}
+use Rattle.mc_calls.specs.Order.{last_stamp}
 
 -- the order of keys in the map: by their hashes, and keys with the same hash as in a dictionary
 abbrev pub hashed_cmp : List ℕ → List ℕ → Ordering

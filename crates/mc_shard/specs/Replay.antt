@@ -1,7 +1,7 @@
 -- The view of a shard without a history: its number, the number of shards, and its items and counter.
 use Rattle.std.specs.Prelude.{ℕ}
-use Rattle.zy_base.specs.declared.call.Call.{Call}
-use Rattle.zy_base.specs.Shard.{State, state_after}
+use Rattle.mc_calls.specs.declared.call.Call.{Call}
+use Rattle.mc_calls.specs.Shard.{State, state_after}
 
 -- a shard without a history, as its callers see it
 pub record Replayed : Type 0 where

@@ -1,15 +1,15 @@
 -- The view of a shard: its number, the number of shards, and the history of its calls.
 use Rattle.std.specs.Prelude.{◌≡◌, ℕ, List, [], ◌∷◌, ◌++◌}
-use Rattle.zy_base.specs.declared.call.Call.{Call}
-use Rattle.zy_base.specs.declared.call.Call.TheVariants.{Tally}
-use Rattle.zy_base.specs.declared.call_reply.CallReply.{CallReply}
-use Rattle.zy_base.specs.declared.entry.Entry.{Entry}
-use Rattle.zy_base.specs.declared.entry.Tag.{Tag}
-use Rattle.zy_base.specs.Code.{tally}
-use Rattle.zy_base.specs.Counted.{counted}
-use Rattle.zy_base.specs.Shard.{State, empty_state, reply_to, state_after}
-use Rattle.zy_base.specs.History.{replayed}
-use Rattle.zy_base.specs.Order.{last_stamp}
+use Rattle.mc_calls.specs.declared.call.Call.{Call}
+use Rattle.mc_calls.specs.declared.call.Call.TheVariants.{Tally}
+use Rattle.mc_calls.specs.declared.call_reply.CallReply.{CallReply}
+use Rattle.mc_calls.specs.declared.entry.Entry.{Entry}
+use Rattle.mc_calls.specs.declared.entry.Tag.{Tag}
+use Rattle.mc_calls.specs.Code.{tally}
+use Rattle.mc_calls.specs.Counted.{counted}
+use Rattle.mc_calls.specs.Shard.{State, empty_state, reply_to, state_after}
+use Rattle.mc_calls.specs.History.{replayed}
+use Rattle.mc_calls.specs.Order.{last_stamp}
 
 -- a shard as its callers see it
 pub record Kept : Type 0 where

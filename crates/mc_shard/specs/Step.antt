@@ -1,6 +1,6 @@
 -- The steps that the code computes, as outcomes of the table of calls. No public clause cites this module.
 use Rattle.std.specs.Prelude.{◌≡◌, ℕ, List, Option, None, Some, Result, IfOk}
-use Rattle.zy_base.specs.Shard.{Effect, Outcome, keeps, stores, removes, empties}
+use Rattle.mc_calls.specs.Shard.{Effect, Outcome, keeps, stores, removes, empties}
 use Rattle.mc_shard.specs.declared.change.Change.{Change}
 use Rattle.mc_shard.specs.declared.change.Change.TheVariants.{Nothing, Put, Remove, Clear}
 use Rattle.mc_shard.specs.declared.change.Step.{Step}

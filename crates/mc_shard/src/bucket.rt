@@ -7,11 +7,12 @@ mod parts;
 mod row;
 
 use crate::hashed::Hashed;
+use mc_calls::Item;
 use parts::Parts;
 use row::Row;
 use std::alloc::Global;
 use std::marker::Model;
-use zy_base::{Item, NoMemory};
+use zy_base::NoMemory;
 
 /// Items by their keys. Contracts see them as a list of keys with their items, where the first entry
 /// of a key counts.

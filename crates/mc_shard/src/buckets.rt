@@ -5,10 +5,11 @@ ghost use Rattle.mc_shard.specs.Buckets.{AreBuckets, bucket_of, items_among};
 
 use crate::bucket::Bucket;
 use crate::hashed::Hashed;
+use mc_calls::Item;
 use std::alloc::Global;
 use std::marker::Model;
 use std::mem;
-use zy_base::{Item, NoMemory};
+use zy_base::NoMemory;
 
 // The number of buckets.
 const BUCKETS: usize = 256;
@@ -23,7 +24,7 @@ pub struct Buckets {
 }
 
 impl Model for Buckets {
-    ghost use Rattle.zy_base.specs.Shard.{Items};
+    ghost use Rattle.mc_calls.specs.Shard.{Items};
     ghost use Rattle.std.specs.Coded.{codes};
     ghost use Rattle.mc_shard.specs.Contents.{items_code};
     ghost use Rattle.mc_shard.specs.Buckets.{AreBuckets, bucket_of, items_among};

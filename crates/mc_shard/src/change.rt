@@ -1,5 +1,6 @@
 //! The reply to a call and the change that it makes, before the change is made.
-use zy_base::{Blob, CallReply};
+use mc_calls::CallReply;
+use zy_base::Blob;
 
 /// What a call changes in the items, at its key.
 #[derive(Drop)]

@@ -1,10 +1,10 @@
 //! The items of a shard with their counter and its counts, and the changes that calls make.
 ghost use Rattle.std.specs.Prelude.{◌≡◌, ◌+◌, ◌^◌, ◌<◌, ◌≤◌, OnOk, OnErr, option_copied};
 ghost use Rattle.std.specs.FinMap.{get, insert, remove, empty};
-ghost use Rattle.zy_base.specs.Kind.{MayAnswer};
-ghost use Rattle.zy_base.specs.declared.tallied.Tallied.{Tallied};
-ghost use Rattle.zy_base.specs.Counted.{calls_with};
-ghost use Rattle.zy_base.specs.Shard.{outcome_of, item_at, empty_state, tallied, unique_of, state_with, with_calls};
+ghost use Rattle.mc_calls.specs.Kind.{MayAnswer};
+ghost use Rattle.mc_calls.specs.declared.tallied.Tallied.{Tallied};
+ghost use Rattle.mc_calls.specs.Counted.{calls_with};
+ghost use Rattle.mc_calls.specs.Shard.{outcome_of, item_at, empty_state, tallied, unique_of, state_with, with_calls};
 ghost use Rattle.mc_shard.specs.Contents.{with_item};
 ghost use Rattle.mc_shard.specs.Step.{effect_in};
 
@@ -12,10 +12,11 @@ use crate::buckets::Buckets;
 use crate::change::Change;
 use crate::counting::{count_put, count_removed};
 use crate::hashed::Hashed;
+use mc_calls::{Call, CallReply, Item, Tallied};
 use mc_stats::Counts;
 use std::alloc::Global;
 use std::marker::Model;
-use zy_base::{Call, CallReply, Item, NoMemory, Tallied};
+use zy_base::NoMemory;
 
 /// The items of a shard, how many items it ever stored, and what it counted. Contracts see it as
 /// its items, its counter and its counts of calls.
@@ -27,7 +28,7 @@ pub struct Contents {
 }
 
 impl Model for Contents {
-    ghost use Rattle.zy_base.specs.Shard.{State};
+    ghost use Rattle.mc_calls.specs.Shard.{State};
     ghost use Rattle.std.specs.Coded.{codes};
     ghost use Rattle.mc_shard.specs.Contents.{call_counts_in, items_code, AreCounts};
 

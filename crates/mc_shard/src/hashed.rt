@@ -2,14 +2,15 @@
 ghost use Rattle.std.specs.Prelude.{◌≡◌, ◌<◌, IfOk, Some, refl};
 ghost use Rattle.std.specs.Ordering.{eq_by_cmp};
 ghost use Rattle.std.specs.Cmp.{partial_equiv_from_equiv, partial_order_from_total, eq_by_cmp_equiv};
-ghost use Rattle.zy_base.specs.Call.{key_of};
-ghost use Rattle.zy_base.specs.Key.{hash_of};
+ghost use Rattle.mc_calls.specs.Call.{key_of};
+ghost use Rattle.mc_calls.specs.Key.{hash_of};
 ghost use Rattle.mc_shard.specs.Contents.{hashed_cmp, hashed_total};
 ghost use Rattle.mc_shard.specs.Buckets.{bucket_of, part_of, fingerprint_of};
 
+use mc_calls::{Call, hash_of};
 use std::cmp::Ordering;
 use std::marker::Model;
-use zy_base::{Blob, Call, NoMemory, hash_of};
+use zy_base::{Blob, NoMemory};
 
 /// A key with its hash. Contracts see it as the key.
 #[derive(Drop)]
@@ -20,7 +21,7 @@ pub struct Hashed {
 
 impl Model for Hashed {
     ghost use Rattle.std.specs.Prelude.{◌≡◌, ℕ, List};
-    ghost use Rattle.zy_base.specs.Key.{hash_of};
+    ghost use Rattle.mc_calls.specs.Key.{hash_of};
 
     ghost Value = { List ℕ };
 

@@ -1,5 +1,5 @@
 //! What a call that was made answers.
-use zy_base::CallReply;
+use mc_calls::CallReply;
 
 /// What a shard answers to a call that it was given by value: the reply, and the stamp of the entry.
 #[derive(Drop)]

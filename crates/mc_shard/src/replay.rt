@@ -1,15 +1,16 @@
 //! A shard of the store without a history.
 ghost use Rattle.std.specs.Prelude.{◌≡◌, ◌<◌, ◌≤◌, IfOk, OnOk, OnErr};
-ghost use Rattle.zy_base.specs.Shard.{empty_state, reply_to};
+ghost use Rattle.mc_calls.specs.Shard.{empty_state, reply_to};
 ghost use Rattle.mc_shard.specs.Replay.{replaying, state_replayed};
 
 use crate::change::{Change, Step};
 use crate::contents::Contents;
 use crate::hashed::Hashed;
 use crate::step::step_of;
+use mc_calls::{Call, CallReply};
 use std::alloc::Global;
 use std::marker::Model;
-use zy_base::{Call, CallReply, NoMemory};
+use zy_base::NoMemory;
 
 // A shard stores fewer items than this, ever.
 const ITEM_LIMIT: u64 = 1 << 52;

@@ -1,7 +1,7 @@
 //! A shard of the store with the history of its calls.
 ghost use Rattle.std.specs.Prelude.{◌≡◌, ◌+◌, ◌^◌, ◌<◌, ◌≤◌, [], length, max, IfOk, IfErr, OnOk, OnErr};
-ghost use Rattle.zy_base.specs.Call.{key_of};
-ghost use Rattle.zy_base.specs.History.{IsHistory};
+ghost use Rattle.mc_calls.specs.Call.{key_of};
+ghost use Rattle.mc_calls.specs.History.{IsHistory};
 ghost use Rattle.mc_shard.specs.Shard.{kept, state_of, last_of, TallyCounts, entry_of, reply_of, with_entry, state_past};
 
 mod fetching;
@@ -11,9 +11,10 @@ use crate::contents::Contents;
 use crate::hashed::Hashed;
 use crate::made::Made;
 use crate::step::step_of;
+use mc_calls::{Call, Entries, Entry, Tag, numbers_fit};
 use std::alloc::Global;
 use std::marker::Model;
-use zy_base::{Call, Entries, Entry, NoMemory, Tag, numbers_fit};
+use zy_base::NoMemory;
 
 /// A shard of the store: items by their keys, how many items were ever stored, what was counted, and
 /// the history of all calls on it. Contracts see it as its number, the number of shards, and the history; its

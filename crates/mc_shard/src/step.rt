@@ -1,17 +1,16 @@
 //! The reply and the change of each call, on a key without an item and on a key with one.
 ghost use Rattle.std.specs.Prelude.{◌≡◌, ℕ, List, ◌++◌, None, Some, option_copied, decimal, OnOk};
-ghost use Rattle.zy_base.specs.declared.call_reply.CallReply.TheVariants.{Hit};
-ghost use Rattle.zy_base.specs.Call.{key_of};
-ghost use Rattle.zy_base.specs.Code.{tally};
+ghost use Rattle.mc_calls.specs.declared.call_reply.CallReply.TheVariants.{Hit};
+ghost use Rattle.mc_calls.specs.Call.{key_of};
+ghost use Rattle.mc_calls.specs.Code.{tally};
 ghost use Rattle.zy_base.specs.Number.{number_of};
-ghost use Rattle.zy_base.specs.Shard as table;
+ghost use Rattle.mc_calls.specs.Shard as table;
 ghost use Rattle.mc_shard.specs.Step.{outcome_in, Gives};
 
 use crate::change::{Change, Step};
+use mc_calls::{Call, CallReply, Item, Tallied};
 use std::alloc::Global;
-use zy_base::{
-    Blob, Call, CallReply, Item, NoMemory, Tallied, VALUE_LIMIT, number_text, read_number,
-};
+use zy_base::{Blob, NoMemory, VALUE_LIMIT, number_text, read_number};
 
 /// The reply and the change of a call, on a shard that counts this, where the call's key has this item
 /// or none.

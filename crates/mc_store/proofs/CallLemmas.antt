@@ -4,10 +4,10 @@ use Rattle.std.specs.Prelude as std
 use mathlib.Core.Option.{none}
 use prog.Atomic.{either}
 use Rattle.atomic_table.specs.Table.{step, Allows, rest}
-use Rattle.zy_base.specs.declared.entry.Entry.{Entry}
-use Rattle.zy_base.specs.Order.{last_stamp}
-use Rattle.zy_base.specs.History.{IsHistory}
-use Rattle.zy_base.proofs.EntryLemmas.{last_stamp-push}
+use Rattle.mc_calls.specs.declared.entry.Entry.{Entry}
+use Rattle.mc_calls.specs.Order.{last_stamp}
+use Rattle.mc_calls.specs.History.{IsHistory}
+use Rattle.mc_calls.proofs.EntryLemmas.{last_stamp-push}
 use Rattle.mc_shard.specs.Shard.{Kept, kept}
 use Rattle.mc_store.specs.declared.store.view.Trace.{Trace}
 use Rattle.mc_store.specs.declared.store.view.View.{View}

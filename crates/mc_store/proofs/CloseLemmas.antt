@@ -4,11 +4,11 @@ use mathlib.Core.Option.{Option, some, some-injective, some-ne-none}
 use native.Mathlib.Decide.{dec_lt}
 use mathlib.Core.Logic.{dite}
 use lib.ListN.{get_elem?}
-use Rattle.zy_base.specs.declared.entry.Entry.{Entry}
-use Rattle.zy_base.specs.Order.{of_connection, at_shard, last_stamp, StampsRise}
+use Rattle.mc_calls.specs.declared.entry.Entry.{Entry}
+use Rattle.mc_calls.specs.Order.{of_connection, at_shard, last_stamp, StampsRise}
 use Rattle.zy_table.specs.Member.{is_in}
 use Rattle.zy_table.proofs.SumLemmas.{sum_bound}
-use Rattle.zy_base.specs.History.{IsHistory}
+use Rattle.mc_calls.specs.History.{IsHistory}
 use Rattle.mc_shard.specs.Shard.{Kept, kept}
 use Rattle.mc_store.specs.declared.store.view.View.{View}
 use Rattle.mc_store.specs.declared.store.view.View.TheVariants.{Root}
@@ -17,9 +17,9 @@ use Rattle.mc_store.specs.StoreRule.{Place, free, away, halves, Lies, StoreRule}
 use Rattle.std.specs.Prelude.{◌&&◌, not}
 use Rattle.std.proofs.Common.{map}
 use Rattle.atomic_table.specs.Table.{Final, Seen}
-use Rattle.zy_base.specs.Order.{AreStampsBelow, history_of}
-use Rattle.zy_base.proofs.EntryLemmas.{AreStampsBelow-last}
-use Rattle.zy_base.proofs.MergeLemmas.{history_of-past}
+use Rattle.mc_calls.specs.Order.{AreStampsBelow, history_of}
+use Rattle.mc_calls.proofs.EntryLemmas.{AreStampsBelow-last}
+use Rattle.mc_calls.proofs.MergeLemmas.{history_of-past}
 use Rattle.mc_store.specs.View.{IsRoot, given_in, joined_in}
 use Rattle.mc_store.specs.Closing.{AreClosed, history_in}
 use Rattle.mc_store.proofs.MoveLemmas.{St}

@@ -5,11 +5,11 @@ use mathlib.Core.Option.{some}
 use lib.ListN.{get_elem?}
 use Rattle.atomic_table.specs.Table.{gives, Allows}
 use Rattle.atomic_table.proofs.Lists.{set_here, set_else}
-use Rattle.zy_base.specs.declared.entry.Entry.{Entry}
-use Rattle.zy_base.specs.Order.{of_connection, at_shard, last_stamp, StampsRise}
+use Rattle.mc_calls.specs.declared.entry.Entry.{Entry}
+use Rattle.mc_calls.specs.Order.{of_connection, at_shard, last_stamp, StampsRise}
 use Rattle.zy_table.proofs.PutLemmas.{at_put}
-use Rattle.zy_base.specs.History.{IsHistory}
-use Rattle.zy_base.proofs.EntryLemmas.{last_stamp-push, StampsRise-push, of_connection-push, of_connection-push_other, at_shard-push, at_shard-push_other}
+use Rattle.mc_calls.specs.History.{IsHistory}
+use Rattle.mc_calls.proofs.EntryLemmas.{last_stamp-push, StampsRise-push, of_connection-push, of_connection-push_other, at_shard-push, at_shard-push_other}
 use Rattle.mc_shard.specs.Shard.{Kept, kept}
 use Rattle.mc_store.specs.declared.store.view.Trace.{Trace}
 use Rattle.mc_store.specs.declared.store.view.View.TheVariants.{Pass}

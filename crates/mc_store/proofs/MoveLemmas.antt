@@ -7,8 +7,8 @@ use mathlib.Core.Logic.{dite}
 use lib.ListN.{get_elem?}
 use Rattle.atomic_table.specs.Table.{State}
 use Rattle.atomic_table.proofs.Lists.{at_set, set_here, set_else}
-use Rattle.zy_base.specs.declared.entry.Entry.{Entry}
-use Rattle.zy_base.specs.Order.{of_connection, at_shard, last_stamp, StampsRise}
+use Rattle.mc_calls.specs.declared.entry.Entry.{Entry}
+use Rattle.mc_calls.specs.Order.{of_connection, at_shard, last_stamp, StampsRise}
 use Rattle.zy_table.specs.Put.{put}
 use Rattle.zy_table.proofs.PutLemmas.{at_put, put_here, put_else, at_both}
 use Rattle.zy_table.proofs.SumLemmas.{sum_changed}

@@ -7,7 +7,7 @@ use mathlib.Core.Logic.{dite}
 use lib.ListN.{get_elem?}
 use Rattle.atomic_table.specs.Table.{rest}
 use Rattle.atomic_table.proofs.Lists.{at_set, set_else, at_longer, at_last}
-use Rattle.zy_base.specs.declared.entry.Entry.{Entry}
+use Rattle.mc_calls.specs.declared.entry.Entry.{Entry}
 use Rattle.zy_table.specs.Put.{put}
 use Rattle.zy_table.specs.Member.{is_in}
 use Rattle.zy_table.proofs.PutLemmas.{put_here, put_else}

@@ -9,8 +9,8 @@ use lib.Seq.{set-get_or}
 use prog.Atomic.{either}
 use Rattle.atomic_table.specs.Table.{Act, step, stepped, keeps, takes, carried_after, Valid, Allows}
 use Rattle.atomic_table.proofs.Lists.{at_set, set_here, set_else, exchanged}
-use Rattle.zy_base.specs.declared.entry.Entry.{Entry}
-use Rattle.zy_base.specs.Order.{at_shard, last_stamp, StampsRise}
+use Rattle.mc_calls.specs.declared.entry.Entry.{Entry}
+use Rattle.mc_calls.specs.Order.{at_shard, last_stamp, StampsRise}
 use Rattle.zy_table.proofs.PutLemmas.{at_put, put_here}
 use Rattle.zy_table.proofs.SumLemmas.{sum_less}
 use Rattle.zy_table.proofs.SlotLemmas.{at_below}
@@ -19,7 +19,7 @@ use Rattle.mc_store.specs.declared.store.view.Trace.{Trace}
 use Rattle.mc_store.specs.declared.store.view.View.{View}
 use Rattle.mc_store.specs.declared.store.view.View.TheVariants.{Spent, Root, Pass}
 use Rattle.mc_store.specs.StoreRule.{Place, free, away, word_of, halves, Lies, Knows, StoreRule}
-use Rattle.zy_base.proofs.ReplayLemmas.{counts_calls}
+use Rattle.mc_calls.proofs.ReplayLemmas.{counts_calls}
 use Rattle.mc_store.specs.Steps.{Seated, traced, loads, exchanges, has_looked, has_tried}
 use Rattle.mc_store.proofs.HalfLemmas.{halves_set, halves_at}
 use Rattle.mc_store.proofs.MoveLemmas.{St, moved}

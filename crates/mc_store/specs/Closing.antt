@@ -1,8 +1,8 @@
 -- The histories of a store's shards, once it is closed.
 use Rattle.std.specs.Prelude.{◌≡◌, ℕ, zero, suc, List, [], ◌∷◌, ◌++◌}
-use Rattle.zy_base.specs.declared.entry.Entry.{Entry}
-use Rattle.zy_base.specs.Order.{of_connection, at_shard, history_of, StampsRise}
-use Rattle.zy_base.specs.History.{AreHistories}
+use Rattle.mc_calls.specs.declared.entry.Entry.{Entry}
+use Rattle.mc_calls.specs.Order.{of_connection, at_shard, history_of, StampsRise}
+use Rattle.mc_calls.specs.History.{AreHistories}
 use Rattle.mc_shard.specs.Shard.{Kept, kept}
 use Rattle.mc_store.specs.Joined.{Joined, calls_of}
 

@@ -1,6 +1,6 @@
 -- The passes of connections that a root gave and took in again.
 use Rattle.std.specs.Prelude.{ℕ, List, [], ◌∷◌, Bool, false, ◌||◌, ◌&&◌, not, ◌==◌, cond}
-use Rattle.zy_base.specs.declared.entry.Entry.{Entry}
+use Rattle.mc_calls.specs.declared.entry.Entry.{Entry}
 use Rattle.zy_table.specs.Member.{is_in}
 
 -- connections whose passes were joined, each with its calls, the last one first

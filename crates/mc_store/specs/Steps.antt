@@ -2,12 +2,12 @@
 -- No public clause cites this module.
 use Rattle.std.specs.Prelude.{◌≡◌, ◌≢◌, ℕ, ◌+◌, ◌*◌, ◌^◌, ◌<◌, ⊤, List, [], ◌∷◌, ◌++◌, length, drop, Some, None}
 use Rattle.atomic_table.specs.Table.{Me, Step, rest}
-use Rattle.zy_base.specs.declared.entry.Entry.{Entry}
-use Rattle.zy_base.specs.declared.entry.Tag.{Tag}
-use Rattle.zy_base.specs.declared.call.Call.TheVariants.{Get}
-use Rattle.zy_base.specs.declared.call_reply.CallReply.{CallReply}
-use Rattle.zy_base.specs.Kind.{MayAnswer}
-use Rattle.zy_base.specs.Order.{last_stamp}
+use Rattle.mc_calls.specs.declared.entry.Entry.{Entry}
+use Rattle.mc_calls.specs.declared.entry.Tag.{Tag}
+use Rattle.mc_calls.specs.declared.call.Call.TheVariants.{Get}
+use Rattle.mc_calls.specs.declared.call_reply.CallReply.{CallReply}
+use Rattle.mc_calls.specs.Kind.{MayAnswer}
+use Rattle.mc_calls.specs.Order.{last_stamp}
 use Rattle.mc_shard.specs.Shard.{Kept, kept, state_of, entry_of}
 use Rattle.mc_store.specs.declared.store.taking.Taking.{Taking}
 use Rattle.mc_store.specs.declared.store.taking.Taking.TheVariants.{Free, Held}

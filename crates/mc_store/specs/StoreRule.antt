@@ -5,11 +5,11 @@ use Rattle.std.specs.Prelude as std
 use mathlib.Core.Option.{Option, some}
 use lib.ListN.{get_elem?}
 use Rattle.atomic_table.specs.Table.{State}
-use Rattle.zy_base.specs.declared.entry.Entry.{Entry}
-use Rattle.zy_base.specs.Order.{of_connection, at_shard, last_stamp, StampsRise}
+use Rattle.mc_calls.specs.declared.entry.Entry.{Entry}
+use Rattle.mc_calls.specs.Order.{of_connection, at_shard, last_stamp, StampsRise}
 use Rattle.zy_table.specs.Member.{is_in}
 use Rattle.zy_table.specs.Sum.{sum_below}
-use Rattle.zy_base.specs.History.{IsHistory}
+use Rattle.mc_calls.specs.History.{IsHistory}
 use Rattle.mc_shard.specs.Shard.{Kept, kept}
 use Rattle.mc_store.specs.declared.store.view.Trace.{Trace}
 use Rattle.mc_store.specs.declared.store.view.View.{View}

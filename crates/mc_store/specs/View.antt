@@ -1,8 +1,8 @@
 -- What the views of the table's seats say: the connections of a root, and the calls and the steps of a pass.
 -- No public clause cites this module but for `untraced`.
 use Rattle.std.specs.Prelude.{◌≡◌, ℕ, List, [], ◌∷◌, length, None}
-use Rattle.zy_base.specs.declared.entry.Entry.{Entry}
-use Rattle.zy_base.specs.Order.{last_stamp}
+use Rattle.mc_calls.specs.declared.entry.Entry.{Entry}
+use Rattle.mc_calls.specs.Order.{last_stamp}
 use Rattle.mc_store.specs.declared.store.view.Sight.{Sight}
 use Rattle.mc_store.specs.declared.store.view.Trace.{Trace}
 use Rattle.mc_store.specs.declared.store.view.View.{View}

@@ -1,5 +1,5 @@
 //! The answer of a try of a call.
-use zy_base::Entry;
+use mc_calls::Entry;
 
 /// The answer of one try of a call.
 #[derive(Drop)]

@@ -4,9 +4,9 @@
 //! `s` has shard `s` while it is free. A call loads the word, exchanges the even word with the odd one
 //! above it, calls the shard in its slot, and stores an even word again.
 ghost use Rattle.std.specs.Prelude.{◌≡◌, ◌<◌, ◌≤◌, ◌^◌, ℕ, [], ◌∷◌, ◌++◌, length, true, false, IfOk, OnOk, OnErr, IfErr};
-ghost use Rattle.zy_base.specs.Key.{hash_of};
-ghost use Rattle.zy_base.specs.Kind.{MayAnswer};
-ghost use Rattle.zy_base.specs.Order.{last_stamp};
+ghost use Rattle.mc_calls.specs.Key.{hash_of};
+ghost use Rattle.mc_calls.specs.Kind.{MayAnswer};
+ghost use Rattle.mc_calls.specs.Order.{last_stamp};
 ghost use Rattle.zy_table.specs.Member.{is_in};
 ghost use Rattle.mc_store.specs.Joined.{is_joined};
 ghost use Rattle.mc_store.specs.View.{untraced};
@@ -30,13 +30,14 @@ use crate::root::Root;
 use crate::tried::Tried;
 use atomic_table::{Badge, Table};
 use draining::drain;
+use mc_calls::{Call, CallReply, Entry, Histories, Tag};
 use mc_shard::Shard;
 use plays::{Gives, Named, TakesIn};
 use std::alloc::Global;
 use std::marker::{Brand, Model};
 use std::mem;
 use view::{Rule, View};
-use zy_base::{Blob, Call, CallReply, Entry, Histories, NoMemory, Tag};
+use zy_base::{Blob, NoMemory};
 
 /// The shards of a store. Contracts see which table it is, and the number of its shards.
 #[derive(Drop)]

@@ -1,5 +1,5 @@
 //! The result of `make_call`.
-use zy_base::{Call, CallReply};
+use mc_calls::{Call, CallReply};
 
 /// What one try of a call that was given by value gave.
 #[derive(Drop)]

@@ -3,11 +3,11 @@ use Rattle.zy_run.proofs.SerialLemmas.{due_from_of, legal-answered}
 use Rattle.std.proofs.Common.{◌≡◌, inl, ℕ, ◌+◌, ◌<◌, List, [], ◌∷◌, refl, ap, ◌∙◌, arith, ◌≤◌, sym, subst}
 use Rattle.std.specs.Prelude.{Some}
 use Rattle.std.specs.List.{AllByRecursion}
-use Rattle.zy_base.specs.declared.entry.Entry.{Entry}
-use Rattle.zy_base.specs.Shard.{State, empty_state}
-use Rattle.zy_base.specs.History.{states_after}
-use Rattle.zy_base.specs.Order.{of_connection, IsOrdered}
-use Rattle.zy_base.proofs.EntryLemmas.{of_connection-here}
+use Rattle.mc_calls.specs.declared.entry.Entry.{Entry}
+use Rattle.mc_calls.specs.Shard.{State, empty_state}
+use Rattle.mc_calls.specs.History.{states_after}
+use Rattle.mc_calls.specs.Order.{of_connection, IsOrdered}
+use Rattle.mc_calls.proofs.EntryLemmas.{of_connection-here}
 use Rattle.mc_parse.specs.declared.command.Command.{Command}
 use Rattle.mc_parse.specs.Calls.{Due, due, dues_of, due_of, IsDueOn}
 use Rattle.zy_run.specs.Serial.{answered, made_entry}
@@ -21,7 +21,7 @@ use Rattle.zy_run.specs.Output.{connection_outputs}
 use Rattle.mc_parse.specs.Plain.{all_keys_of, IsDueOwn}
 use Rattle.zy_run.specs.Apart.{commands_of_all, AreApart}
 use Rattle.zy_run.specs.Keyed.{told_by}
-use Rattle.zy_base.specs.Told.{all_told}
+use Rattle.mc_calls.specs.Told.{all_told}
 use Rattle.zy_run.proofs.AloneLemmas.{told-alone}
 use Rattle.mc_parse.proofs.PlainLemmas.{due_own}
 use Rattle.zy_run.proofs.ApartOutputLemmas.{outputs-same}

@@ -1,7 +1,7 @@
 -- How wide the command of a frame is: its keys and letters are fewer than the bytes of its text.
 use Rattle.std.specs.Prelude.{nat_lt, if◌then◌else◌, Option, None, Some, MatchOption}
 use Rattle.std.proofs.Common.{◌≡◌, ℕ, ◌+◌, ◌≤◌, List, ◌∷◌, length, Bool, true, false, refl, ap, arith, length-append}
-use Rattle.zy_base.specs.Shard.{value_limit}
+use Rattle.mc_calls.specs.Shard.{value_limit}
 use Rattle.mc_parse.specs.declared.need.Need.{Need}
 use Rattle.mc_parse.specs.declared.need.Need.TheVariants as Needs
 use Rattle.mc_parse.specs.Need.{need}

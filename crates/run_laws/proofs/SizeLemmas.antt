@@ -10,11 +10,11 @@ use Rattle.std.proofs.lemmas.List.Folds.{concat-append}
 use Rattle.std.proofs.lemmas.List.FromFn.{length-map-range_with_len}
 use Rattle.std.proofs.lemmas.List.Sums.{sum_by-cons}
 use Rattle.std.proofs.Math.Seq.{take-append_seam, get_or-append_seam}
-use Rattle.zy_base.specs.declared.entry.Entry.{Entry}
-use Rattle.zy_base.specs.declared.hold.Hold.{Hold}
-use Rattle.zy_base.specs.Bounds.{FitsEntry}
-use Rattle.zy_base.specs.Order.{of_connection}
-use Rattle.zy_base.specs.Replies.{replies_at}
+use Rattle.mc_calls.specs.declared.entry.Entry.{Entry}
+use Rattle.mc_calls.specs.declared.hold.Hold.{Hold}
+use Rattle.mc_calls.specs.Bounds.{FitsEntry}
+use Rattle.mc_calls.specs.Order.{of_connection}
+use Rattle.mc_calls.specs.Replies.{replies_at}
 use Rattle.zy_capture.specs.declared.record.Record.{Record}
 use Rattle.zy_capture.specs.Capture.{Spells}
 use Rattle.zy_capture.specs.Outputs.{AllOutputs}

@@ -4,12 +4,12 @@ use Rattle.std.specs.List.{slice_get}
 use Rattle.std.proofs.Common.{◌≡◌, ◌⊎◌, inl, inr, ℕ, zero, suc, ◌+◌, ◌<◌, ◌≤◌, List, [], ◌∷◌, length, take, Option}
 use Rattle.std.proofs.Common.{None, Some, refl, sym, ap, ◌∙◌, subst, arith}
 use Rattle.std.proofs.lemmas.Option.{slice_get_past}
-use Rattle.zy_base.specs.declared.entry.Entry.{Entry}
-use Rattle.zy_base.specs.declared.hold.Hold.{Hold}
-use Rattle.zy_base.specs.Order.{of_connection, at_shard}
-use Rattle.zy_base.specs.Shard.{empty_state, reply_to}
-use Rattle.zy_base.specs.History.{replayed}
-use Rattle.zy_base.proofs.SameLemmas.{option_told, bytes_told, reply_told}
+use Rattle.mc_calls.specs.declared.entry.Entry.{Entry}
+use Rattle.mc_calls.specs.declared.hold.Hold.{Hold}
+use Rattle.mc_calls.specs.Order.{of_connection, at_shard}
+use Rattle.mc_calls.specs.Shard.{empty_state, reply_to}
+use Rattle.mc_calls.specs.History.{replayed}
+use Rattle.mc_calls.proofs.SameLemmas.{option_told, bytes_told, reply_told}
 use Rattle.zy_capture.specs.Streams.{sessions_of}
 use Rattle.mc_parse.specs.Calls.{due_of}
 use Rattle.mc_laws.proofs.SameLemmas.{due_told}

@@ -1,9 +1,9 @@
 -- The entries of the serial run are in order.
 use Rattle.std.proofs.Common.{ℕ, List, [], ◌∷◌, arith}
 use Rattle.std.specs.Prelude.{None}
-use Rattle.zy_base.specs.Shard.{empty_state}
-use Rattle.zy_base.specs.History.{states_after}
-use Rattle.zy_base.specs.Order.{IsOrdered}
+use Rattle.mc_calls.specs.Shard.{empty_state}
+use Rattle.mc_calls.specs.History.{states_after}
+use Rattle.mc_calls.specs.Order.{IsOrdered}
 use Rattle.mc_parse.specs.declared.command.Command.{Command}
 use Rattle.mc_parse.specs.Calls.{Due, due}
 use Rattle.zy_run.specs.Serial.{answered, made_entry, made, all_due, serial}

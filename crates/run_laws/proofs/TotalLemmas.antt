@@ -7,11 +7,12 @@ use Rattle.std.proofs.lemmas.Bool.Decides.{eqb_tells}
 use Rattle.std.proofs.lemmas.List.{length-map}
 use Rattle.std.proofs.lemmas.List.Sums.{sum_by-cons}
 use Rattle.std.proofs.lemmas.List.FromFn.{sum_by-map-range_with_len_more}
-use Rattle.zy_base.specs.declared.entry.Entry.{Entry}
-use Rattle.zy_base.specs.declared.hold.Hold.{Hold}
-use Rattle.zy_base.specs.Order.{of_connection}
-use Rattle.zy_base.specs.Replies.{replies_at}
-use Rattle.zy_base.proofs.EntryLemmas.{of_connection-here, of_connection-other, filter-here, filter-other}
+use Rattle.mc_calls.specs.declared.entry.Entry.{Entry}
+use Rattle.mc_calls.specs.declared.hold.Hold.{Hold}
+use Rattle.mc_calls.specs.Order.{of_connection}
+use Rattle.mc_calls.specs.Replies.{replies_at}
+use Rattle.zy_base.proofs.FilterLemmas.{filter-here, filter-other}
+use Rattle.mc_calls.proofs.EntryLemmas.{of_connection-here, of_connection-other}
 use Rattle.zy_run.specs.Run.{AreOfConnections}
 use Rattle.zy_run.specs.Spans.{held_of, AreHoldsOf}
 use mathlib.Core.Logic.{dite}

@@ -7,16 +7,16 @@ use Rattle.std.specs.FinMap.{get, insert, get-empty, get-insert}
 use Rattle.std.specs.Ordering.{nat_cmp}
 use Rattle.std.specs.Cmp.Lexicographic.{slice_cmp, nat_list_cmp_total}
 use Rattle.std.proofs.lemmas.List.Elements.{All-from_recursion}
-use Rattle.zy_base.specs.declared.item.Item.{Item}
-use Rattle.zy_base.specs.declared.call.Call.TheVariants as Calls
-use Rattle.zy_base.specs.declared.call_reply.CallReply.TheVariants as Replies
-use Rattle.zy_base.specs.Shard.{State, empty_state, tallied, reply_to, state_after, outcome_of}
-use Rattle.zy_base.specs.History.{IsLegal}
+use Rattle.mc_calls.specs.declared.item.Item.{Item}
+use Rattle.mc_calls.specs.declared.call.Call.TheVariants as Calls
+use Rattle.mc_calls.specs.declared.call_reply.CallReply.TheVariants as Replies
+use Rattle.mc_calls.specs.Shard.{State, empty_state, tallied, reply_to, state_after, outcome_of}
+use Rattle.mc_calls.specs.History.{IsLegal}
 use Rattle.mc_parse.specs.Calls.{due, dues_of}
 use Rattle.mc_parse.specs.Words.{words}
 use Rattle.mc_parse.specs.Need.{need}
 use Rattle.mc_parse.specs.Meaning.{line_command, block_command}
-use Rattle.zy_base.specs.Order.{of_connection}
+use Rattle.mc_calls.specs.Order.{of_connection}
 use Rattle.zy_frame.specs.Cut.{cut_of, frames_of}
 use Rattle.zy_run.specs.Commands.{commands_in}
 use Rattle.zy_run.specs.Run.{IsRun}

@@ -3,13 +3,13 @@ use Rattle.std.proofs.Common.{◌≡◌, ℕ, List, codes, Option, None, Some, r
 use Rattle.std.specs.FinMap.{get, insert, get-empty, get-insert}
 use Rattle.std.specs.Ordering.{nat_cmp}
 use Rattle.std.specs.Cmp.Lexicographic.{slice_cmp, nat_list_cmp_total}
-use Rattle.zy_base.specs.declared.item.Item.{Item}
-use Rattle.zy_base.specs.declared.call.Call.TheVariants as Calls
-use Rattle.zy_base.specs.declared.call_reply.CallReply.TheVariants as Replies
-use Rattle.zy_base.specs.Shard.{State, Outcome, empty_state, tallied, reply_to, state_after, state_with, with_calls}
-use Rattle.zy_base.specs.Shard.{outcome_of}
-use Rattle.zy_base.specs.Counted.{no_calls, calls_with}
-use Rattle.zy_base.specs.History.{IsLegal}
+use Rattle.mc_calls.specs.declared.item.Item.{Item}
+use Rattle.mc_calls.specs.declared.call.Call.TheVariants as Calls
+use Rattle.mc_calls.specs.declared.call_reply.CallReply.TheVariants as Replies
+use Rattle.mc_calls.specs.Shard.{State, Outcome, empty_state, tallied, reply_to, state_after, state_with, with_calls}
+use Rattle.mc_calls.specs.Shard.{outcome_of}
+use Rattle.mc_calls.specs.Counted.{no_calls, calls_with}
+use Rattle.mc_calls.specs.History.{IsLegal}
 use Rattle.run_laws.specs.WorkedRun.{worked_entries}
 
 abbrev key : List ℕ

@@ -6,11 +6,11 @@ use Rattle.std.proofs.Common.{None, Some, refl, sym, ap, ◌∙◌, subst, arith
 use Rattle.std.proofs.lemmas.Bool.Decides.{eqb_tells}
 use Rattle.std.proofs.lemmas.List.{length-map, take_all}
 use Rattle.std.proofs.lemmas.Option.{slice_get_within, slice_get_past}
-use Rattle.zy_base.specs.declared.entry.Entry.{Entry}
-use Rattle.zy_base.specs.declared.hold.Hold.{Hold}
-use Rattle.zy_base.specs.Order.{of_connection}
-use Rattle.zy_base.specs.History.{IsLegal}
-use Rattle.zy_base.proofs.ReplayLemmas.{IsLegal-push}
+use Rattle.mc_calls.specs.declared.entry.Entry.{Entry}
+use Rattle.mc_calls.specs.declared.hold.Hold.{Hold}
+use Rattle.mc_calls.specs.Order.{of_connection}
+use Rattle.mc_calls.specs.History.{IsLegal}
+use Rattle.mc_calls.proofs.ReplayLemmas.{IsLegal-push}
 use Rattle.zy_capture.specs.Streams.{sessions_of}
 use Rattle.zy_journal.specs.Journal.{AreByConnection}
 use Rattle.mc_parse.specs.Calls.{due_of, dues_of}

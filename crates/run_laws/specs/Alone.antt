@@ -1,7 +1,7 @@
 -- The run of one connection that is alone.
 use Rattle.zy_run.specs.Serial.{made}
 use Rattle.std.specs.Prelude.{ℕ, List}
-use Rattle.zy_base.specs.declared.entry.Entry.{Entry}
+use Rattle.mc_calls.specs.declared.entry.Entry.{Entry}
 use Rattle.mc_parse.specs.declared.command.Command.{Command}
 use Rattle.mc_parse.specs.Calls.{due}
 

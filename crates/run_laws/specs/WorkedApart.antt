@@ -1,8 +1,8 @@
 -- An example capture of two connections that are apart.
 use Rattle.std.specs.Prelude.{List, [], ◌∷◌, codes}
-use Rattle.zy_base.specs.declared.call.Call.TheVariants as Calls
-use Rattle.zy_base.specs.declared.call_reply.CallReply.TheVariants as Replies
-use Rattle.zy_base.specs.declared.entry.Entry.{Entry}
+use Rattle.mc_calls.specs.declared.call.Call.TheVariants as Calls
+use Rattle.mc_calls.specs.declared.call_reply.CallReply.TheVariants as Replies
+use Rattle.mc_calls.specs.declared.entry.Entry.{Entry}
 use Rattle.zy_capture.specs.declared.record.Record.{Record}
 use Rattle.zy_capture.specs.declared.record.Record.TheVariants as Kinds
 use Rattle.zy_run.specs.declared.summary.Summary.{Summary}

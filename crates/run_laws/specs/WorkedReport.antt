@@ -1,5 +1,5 @@
 -- Example counts.
-use Rattle.zy_base.specs.declared.tallied.Tallied.{Tallied}
+use Rattle.mc_calls.specs.declared.tallied.Tallied.{Tallied}
 
 -- nothing is counted
 abbrev pub all_zero : Tallied

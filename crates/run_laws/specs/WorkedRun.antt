@@ -1,9 +1,9 @@
 -- An example run of two connections, one of which has two sessions.
 use Rattle.std.specs.Prelude.{ℕ, List, [], ◌∷◌, codes}
-use Rattle.zy_base.specs.declared.call.Call.TheVariants as Calls
-use Rattle.zy_base.specs.declared.call_reply.CallReply.TheVariants as Replies
-use Rattle.zy_base.specs.declared.entry.Entry.{Entry}
-use Rattle.zy_base.specs.declared.hold.Hold.{Hold}
+use Rattle.mc_calls.specs.declared.call.Call.TheVariants as Calls
+use Rattle.mc_calls.specs.declared.call_reply.CallReply.TheVariants as Replies
+use Rattle.mc_calls.specs.declared.entry.Entry.{Entry}
+use Rattle.mc_calls.specs.declared.hold.Hold.{Hold}
 use Rattle.zy_capture.specs.declared.record.Record.{Record}
 use Rattle.zy_capture.specs.declared.record.Record.TheVariants as Kinds
 

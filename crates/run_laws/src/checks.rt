@@ -1,9 +1,9 @@
 //! Laws of checks.
 ghost use Rattle.std.specs.Prelude.{◌≡◌, ℕ, ◌-◌, ◌^◌, ◌<◌, ◌≤◌, List, length, None};
 ghost use Rattle.std.specs.List.{AllByRecursion};
-ghost use Rattle.zy_base.specs.declared.hold.Hold.{Hold};
-ghost use Rattle.zy_base.specs.Bounds.{FitsEntry};
-ghost use Rattle.zy_base.specs.Order.{IsOrdered};
+ghost use Rattle.mc_calls.specs.declared.hold.Hold.{Hold};
+ghost use Rattle.mc_calls.specs.Bounds.{FitsEntry};
+ghost use Rattle.mc_calls.specs.Order.{IsOrdered};
 ghost use Rattle.zy_capture.specs.declared.record.Record.{Record};
 ghost use Rattle.zy_capture.specs.Capture.{Spells};
 ghost use Rattle.zy_capture.specs.Outputs.{AllOutputs, AreOutputs};

@@ -1,7 +1,7 @@
 //! Laws of streams and of their frames.
 ghost use Rattle.std.specs.Prelude.{◌≡◌, ◌<◌, ◌≤◌, ◌+◌, ◌↔◌, ◌⊎◌, ℕ, true, false, List, [], ◌∷◌, ◌++◌, map, codes};
 ghost use Rattle.std.specs.List.{AllByRecursion};
-ghost use Rattle.zy_base.specs.Shard.{value_limit};
+ghost use Rattle.mc_calls.specs.Shard.{value_limit};
 ghost use Rattle.mc_parse.specs.declared.command.Command.{Command};
 ghost use Rattle.mc_parse.specs.declared.verb.Verb.TheVariants as Verbs;
 ghost use Rattle.mc_parse.specs.declared.error_line.ErrorLine.TheVariants as Errors;

@@ -1,8 +1,8 @@
 //! Laws of runs.
 ghost use Rattle.std.specs.Prelude.{◌≡◌, ℕ, ◌+◌, ◌<◌, List, [], length, None, ◌≤◌};
 ghost use Rattle.std.specs.List.{slice_index_or};
-ghost use Rattle.zy_base.specs.declared.entry.Entry.{Entry};
-ghost use Rattle.zy_base.specs.Order.{IsOrdered};
+ghost use Rattle.mc_calls.specs.declared.entry.Entry.{Entry};
+ghost use Rattle.mc_calls.specs.Order.{IsOrdered};
 ghost use Rattle.zy_capture.specs.declared.record.Record.{Record};
 ghost use Rattle.zy_capture.specs.Capture.{IsCapture};
 ghost use Rattle.zy_capture.specs.Streams.{closes, sessions_of, no_bytes, with_records};

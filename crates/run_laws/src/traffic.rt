@@ -1,6 +1,6 @@
 //! Laws of generated traffic.
 ghost use Rattle.std.specs.Prelude.{◌≡◌, ℕ, ◌*◌, ◌<◌, List, length};
-ghost use Rattle.zy_base.specs.declared.entry.Entry.{Entry};
+ghost use Rattle.mc_calls.specs.declared.entry.Entry.{Entry};
 ghost use Rattle.zy_run.specs.Commands.{streams_in, commands_in};
 ghost use Rattle.zy_run.specs.Run.{IsRun};
 ghost use Rattle.zy_run.specs.Output.{all_outputs};

@@ -1,9 +1,10 @@
 //! A gate that counts, and can hold commands.
 use crate::sure::sure;
+use mc_calls::Hold;
 use std::alloc::Global;
 use std::process::Abort;
 use std::sync::atomic::{AtomicBool, AtomicU64, Ordering};
-use zy_base::{Gate, Hold};
+use zy_base::Gate;
 
 // The cores and connections that are counted one by one; all others share one place after theirs.
 const CORES: u32 = 2;

@@ -2,18 +2,18 @@
 use Rattle.std.proofs.Common.{◌≡◌, ℕ, List, [], ◌∷◌, ◌++◌, refl, sym, ap, ◌∙◌, subst}
 use Rattle.std.proofs.lemmas.List.{append_assoc, append-nil}
 use Rattle.std.specs.FinMap.{len}
-use Rattle.zy_base.specs.declared.call.Call.{Call}
-use Rattle.zy_base.specs.declared.call.Call.TheVariants.{Tally}
-use Rattle.zy_base.specs.declared.entry.Entry.{Entry}
-use Rattle.zy_base.specs.Code.{tally}
-use Rattle.zy_base.specs.Counted.{counted}
-use Rattle.zy_base.specs.Shard.{empty_state, reply_to}
-use Rattle.zy_base.specs.Order.{at_shard}
-use Rattle.zy_base.specs.History.{IsReplay, replayed, IsLegal}
+use Rattle.mc_calls.specs.declared.call.Call.{Call}
+use Rattle.mc_calls.specs.declared.call.Call.TheVariants.{Tally}
+use Rattle.mc_calls.specs.declared.entry.Entry.{Entry}
+use Rattle.mc_calls.specs.Code.{tally}
+use Rattle.mc_calls.specs.Counted.{counted}
+use Rattle.mc_calls.specs.Shard.{empty_state, reply_to}
+use Rattle.mc_calls.specs.Order.{at_shard}
+use Rattle.mc_calls.specs.History.{IsReplay, replayed, IsLegal}
 use Rattle.shard_laws.specs.Answered.{answer_after, AreAnswered}
-use Rattle.zy_base.proofs.LegalLemmas.{legal_parts}
-use Rattle.zy_base.proofs.ReplayLemmas.{IsLegal-push, IsLegal-front, IsLegal-shard, IsLegal-reply}
-use Rattle.zy_base.proofs.CountedLemmas.{tallied-replayed}
+use Rattle.mc_calls.proofs.LegalLemmas.{legal_parts}
+use Rattle.mc_calls.proofs.ReplayLemmas.{IsLegal-push, IsLegal-front, IsLegal-shard, IsLegal-reply}
+use Rattle.mc_calls.proofs.CountedLemmas.{tallied-replayed}
 
 -- the items that are counted are those of the shard
 pub items-counted : (shards number : ℕ) (es : List Entry) → IsReplay shards number empty_state es → (counted es).items ≡ len (replayed shards number empty_state es).items

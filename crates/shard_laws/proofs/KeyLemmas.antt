@@ -6,20 +6,20 @@ use Rattle.std.specs.declared.cmp.Ordering.{Ordering}
 use Rattle.std.specs.declared.cmp.Ordering.TheVariants.{Less, Equal, Greater}
 use Rattle.std.specs.Cmp.Lexicographic.{slice_cmp, nat_list_cmp_total}
 use Rattle.std.specs.FinMap.{get, get-empty, get-insert, get-remove, slice_cmp-IsAntisymmetric, nat_cmp-IsAntisymmetric}
-use Rattle.zy_base.specs.declared.item.Item.{Item}
-use Rattle.zy_base.specs.declared.call.Call.{Call}
-use Rattle.zy_base.specs.declared.call.Call.TheVariants.{Cas, Flush, Tally}
-use Rattle.zy_base.specs.Table.{CallParts, parts_of, key_part, number_part, value_part, Act, Acts, says, shows, appends, prepends, exchanges, counts_up, counts_down, takes, clears, tallies, always, by_item}
-use Rattle.zy_base.specs.Code.{call_row, call_kind}
-use Rattle.zy_base.specs.Kind.{IsTrue}
-use Rattle.zy_base.proofs.TableLemmas.{holds_both, says_mute, say_mute, rows_say, are_single, rows_single, is_clear, are_at, calls_at}
-use Rattle.zy_base.proofs.KindLemmas.{acts_by, bare_by}
-use Rattle.zy_base.specs.declared.call_reply.CallReply.{CallReply}
-use Rattle.zy_base.specs.declared.call_reply.CallReply.TheVariants.{Hit, Stored, TooLarge}
-use Rattle.zy_base.specs.declared.tallied.Tallied.{Tallied}
-use Rattle.zy_base.specs.Call.{key_of}
+use Rattle.mc_calls.specs.declared.item.Item.{Item}
+use Rattle.mc_calls.specs.declared.call.Call.{Call}
+use Rattle.mc_calls.specs.declared.call.Call.TheVariants.{Cas, Flush, Tally}
+use Rattle.mc_calls.specs.Table.{CallParts, parts_of, key_part, number_part, value_part, Act, Acts, says, shows, appends, prepends, exchanges, counts_up, counts_down, takes, clears, tallies, always, by_item}
+use Rattle.mc_calls.specs.Code.{call_row, call_kind}
+use Rattle.mc_calls.specs.Kind.{IsTrue}
+use Rattle.mc_calls.proofs.TableLemmas.{holds_both, says_mute, say_mute, rows_say, are_single, rows_single, is_clear, are_at, calls_at}
+use Rattle.mc_calls.proofs.KindLemmas.{acts_by, bare_by}
+use Rattle.mc_calls.specs.declared.call_reply.CallReply.{CallReply}
+use Rattle.mc_calls.specs.declared.call_reply.CallReply.TheVariants.{Hit, Stored, TooLarge}
+use Rattle.mc_calls.specs.declared.tallied.Tallied.{Tallied}
+use Rattle.mc_calls.specs.Call.{key_of}
 use Rattle.zy_base.specs.Number.{number_of}
-use Rattle.zy_base.specs.Shard.{Items, State, tallied, Effect, keeps, stores, removes, empties, Outcome, value_limit, joined, counted_up, counted_down, done, done_of, outcome_of, outcome_on, item_at, state_with, state_after, reply_to}
+use Rattle.mc_calls.specs.Shard.{Items, State, tallied, Effect, keeps, stores, removes, empties, Outcome, value_limit, joined, counted_up, counted_down, done, done_of, outcome_of, outcome_on, item_at, state_with, state_after, reply_to}
 use Rattle.shard_laws.specs.KeyReplies.{is_cas, AreWithoutCas, is_same, is_key, is_about, calls_about, without_unique, replies_about}
 
 -- ---- one key without uniques

@@ -1,10 +1,10 @@
 -- Each entry of a replay and of a legal list has a reply of a kind that the table of calls gives for its call.
 use Rattle.std.proofs.Common.{ℕ, List, [], ◌∷◌, sym, subst}
-use Rattle.zy_base.specs.declared.entry.Entry.{Entry}
-use Rattle.zy_base.specs.Shard.{State, state_after}
-use Rattle.zy_base.specs.Kind.{MayAnswer, AreAnswers}
-use Rattle.zy_base.specs.History.{IsReplay, IsLegalFrom, states_after}
-use Rattle.zy_base.proofs.KindLemmas.{reply_answers}
+use Rattle.mc_calls.specs.declared.entry.Entry.{Entry}
+use Rattle.mc_calls.specs.Shard.{State, state_after}
+use Rattle.mc_calls.specs.Kind.{MayAnswer, AreAnswers}
+use Rattle.mc_calls.specs.History.{IsReplay, IsLegalFrom, states_after}
+use Rattle.mc_calls.proofs.KindLemmas.{reply_answers}
 
 -- the replies of a replay
 pub replay_answers : (shards number : ℕ) (state : State) (es : List Entry) → IsReplay shards number state es → AreAnswers es

@@ -4,9 +4,9 @@ use Rattle.std.proofs.Common.{◌≡◌, ◌≢◌, ◌⊎◌, ℕ, zero, suc, �
 use Rattle.std.proofs.lemmas.Bool.{cases_lt}
 use mathlib.Core.Logic.{dite}
 use native.Mathlib.Decide.{ℕ_discrete}
-use Rattle.zy_base.specs.declared.entry.Entry.{Entry}
-use Rattle.zy_base.specs.Order.{at_shard, AreAt, AreByShard, history_of, StampsRise, IsBefore, IsBehind, IsOrdered, IsMergeOf}
-use Rattle.zy_base.proofs.EntryLemmas.{at_shard-here, at_shard-other}
+use Rattle.mc_calls.specs.declared.entry.Entry.{Entry}
+use Rattle.mc_calls.specs.Order.{at_shard, AreAt, AreByShard, history_of, StampsRise, IsBefore, IsBehind, IsOrdered, IsMergeOf}
+use Rattle.mc_calls.proofs.EntryLemmas.{at_shard-here, at_shard-other}
 
 -- ---- one entry
 

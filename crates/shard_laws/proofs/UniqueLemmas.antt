@@ -9,10 +9,10 @@ use Rattle.std.specs.Ordering.{is_eq}
 use Rattle.std.specs.Cmp.Lexicographic.{nat_list_cmp_total}
 use Rattle.std.specs.FinMap.{get, insert, get-insert}
 use Rattle.std.proofs.lemmas.Cmp.{tied_itself}
-use Rattle.zy_base.specs.declared.item.Item.{Item}
-use Rattle.zy_base.specs.declared.entry.Entry.{Entry}
-use Rattle.zy_base.specs.Shard.{Items, State, empty_state, Effect, keeps, stores, removes, empties, unique_of, outcome_on, state_with, state_after}
-use Rattle.zy_base.specs.History.{IsLegal, IsLegalFrom, states_after}
+use Rattle.mc_calls.specs.declared.item.Item.{Item}
+use Rattle.mc_calls.specs.declared.entry.Entry.{Entry}
+use Rattle.mc_calls.specs.Shard.{Items, State, empty_state, Effect, keeps, stores, removes, empties, unique_of, outcome_on, state_with, state_after}
+use Rattle.mc_calls.specs.History.{IsLegal, IsLegalFrom, states_after}
 use Rattle.shard_laws.specs.Uniques.{unique_in, given_by, given, uniques_from, uniques_at, AreRising, IsIn}
 
 -- ---- the uniques given

@@ -6,12 +6,12 @@ use Rattle.std.specs.Cmp.{alike_right, eq_by_cmp_equiv}
 use Rattle.std.specs.Cmp.Lexicographic.{slice_cmp, nat_list_cmp_total}
 use Rattle.std.specs.FinMap.{from_entries, remove, get-from_entries, get-remove, same_map, nat_cmp-IsAntisymmetric, slice_cmp-IsAntisymmetric}
 use Rattle.std.specs.FinMap.Entries.{find, find-where_key}
-use Rattle.zy_base.specs.declared.item.Item.{Item}
-use Rattle.zy_base.specs.declared.call.Call.{Call}
-use Rattle.zy_base.specs.declared.call_reply.CallReply.{CallReply}
-use Rattle.zy_base.specs.Call.{key_of}
-use Rattle.zy_base.specs.Counted.{CallCounts, calls_with}
-use Rattle.zy_base.specs.Shard.{Items, State, tallied, unique_of, Effect, keeps, stores, removes, empties, Outcome, outcome_of, item_at, state_with, with_calls}
+use Rattle.mc_calls.specs.declared.item.Item.{Item}
+use Rattle.mc_calls.specs.declared.call.Call.{Call}
+use Rattle.mc_calls.specs.declared.call_reply.CallReply.{CallReply}
+use Rattle.mc_calls.specs.Call.{key_of}
+use Rattle.mc_calls.specs.Counted.{CallCounts, calls_with}
+use Rattle.mc_calls.specs.Shard.{Items, State, tallied, unique_of, Effect, keeps, stores, removes, empties, Outcome, outcome_of, item_at, state_with, with_calls}
 use Rattle.shard_laws.specs.Worked.{answers_from}
 
 -- the pairs of other keys

@@ -1,14 +1,14 @@
 -- Lists of entries whose replies are those of the entries before them.
 use Rattle.std.specs.Prelude.{◌≡◌, ℕ, ◌<◌, List, [], ◌∷◌, ◌++◌}
-use Rattle.zy_base.specs.declared.entry.Entry.{Entry}
-use Rattle.zy_base.specs.declared.call.Call.{Call}
-use Rattle.zy_base.specs.declared.call.Call.TheVariants.{Tally}
-use Rattle.zy_base.specs.declared.call_reply.CallReply.{CallReply}
-use Rattle.zy_base.specs.Code.{tally}
-use Rattle.zy_base.specs.Counted.{counted}
-use Rattle.zy_base.specs.Shard.{empty_state, reply_to}
-use Rattle.zy_base.specs.History.{replayed}
-use Rattle.zy_base.specs.Order.{at_shard}
+use Rattle.mc_calls.specs.declared.entry.Entry.{Entry}
+use Rattle.mc_calls.specs.declared.call.Call.{Call}
+use Rattle.mc_calls.specs.declared.call.Call.TheVariants.{Tally}
+use Rattle.mc_calls.specs.declared.call_reply.CallReply.{CallReply}
+use Rattle.mc_calls.specs.Code.{tally}
+use Rattle.mc_calls.specs.Counted.{counted}
+use Rattle.mc_calls.specs.Shard.{empty_state, reply_to}
+use Rattle.mc_calls.specs.History.{replayed}
+use Rattle.mc_calls.specs.Order.{at_shard}
 
 -- what a shard answers to a call after these entries of it: to a tally, what is counted of them
 abbrev pub answer_after : ℕ → ℕ → List Entry → Call → CallReply

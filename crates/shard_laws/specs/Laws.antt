@@ -1,12 +1,12 @@
 -- Laws of the table of calls.
 use Rattle.std.specs.Prelude.{◌≡◌, ◌≢◌, ℕ, ◌≤◌, List, length}
-use Rattle.zy_base.specs.declared.call.Call.{Call}
-use Rattle.zy_base.specs.declared.call.Call.TheVariants.{Get, Add, Replace, Cas, Flush}
-use Rattle.zy_base.specs.declared.call_reply.CallReply.TheVariants.{Stored, Miss}
-use Rattle.zy_base.specs.declared.entry.Entry.{Entry}
-use Rattle.zy_base.specs.Counted.{calls_with}
-use Rattle.zy_base.specs.Shard.{State, empty_state, reply_to, state_after, with_calls}
-use Rattle.zy_base.specs.History.{IsLegal, replayed}
+use Rattle.mc_calls.specs.declared.call.Call.{Call}
+use Rattle.mc_calls.specs.declared.call.Call.TheVariants.{Get, Add, Replace, Cas, Flush}
+use Rattle.mc_calls.specs.declared.call_reply.CallReply.TheVariants.{Stored, Miss}
+use Rattle.mc_calls.specs.declared.entry.Entry.{Entry}
+use Rattle.mc_calls.specs.Counted.{calls_with}
+use Rattle.mc_calls.specs.Shard.{State, empty_state, reply_to, state_after, with_calls}
+use Rattle.mc_calls.specs.History.{IsLegal, replayed}
 use Rattle.shard_laws.specs.Uniques.{uniques_at, AreRising, IsIn}
 use Rattle.shard_laws.specs.KeyReplies.{AreWithoutCas, calls_about, replies_about}
 

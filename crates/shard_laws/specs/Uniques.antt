@@ -1,10 +1,10 @@
 -- The CAS values that the calls of a list give.
 use Rattle.std.specs.Prelude.{◌≡◌, ◌⊎◌, ℕ, ◌<◌, ◌==◌, if◌then◌else◌, List, [], ◌∷◌, ◌++◌, Option, None, Some}
 use Rattle.std.specs.FinMap.{get}
-use Rattle.zy_base.specs.declared.item.Item.{Item}
-use Rattle.zy_base.specs.declared.entry.Entry.{Entry}
-use Rattle.zy_base.specs.Shard.{Items, State, Effect, keeps, stores, removes, empties, empty_state, outcome_on, state_after}
-use Rattle.zy_base.specs.History.{states_after}
+use Rattle.mc_calls.specs.declared.item.Item.{Item}
+use Rattle.mc_calls.specs.declared.entry.Entry.{Entry}
+use Rattle.mc_calls.specs.Shard.{Items, State, Effect, keeps, stores, removes, empties, empty_state, outcome_on, state_after}
+use Rattle.mc_calls.specs.History.{states_after}
 
 -- the CAS value of the item that was found
 abbrev pub unique_in : Option Item → List ℕ

@@ -1,10 +1,10 @@
 -- Example calls on one shard: what it answers to them, one after the other.
 use Rattle.std.specs.Prelude.{ℕ, List, [], ◌∷◌, codes}
-use Rattle.zy_base.specs.declared.call.Call.{Call}
-use Rattle.zy_base.specs.declared.call.Call.TheVariants as Calls
-use Rattle.zy_base.specs.declared.call_reply.CallReply.{CallReply}
-use Rattle.zy_base.specs.declared.call_reply.CallReply.TheVariants as Replies
-use Rattle.zy_base.specs.Shard.{State, empty_state, reply_to, state_after}
+use Rattle.mc_calls.specs.declared.call.Call.{Call}
+use Rattle.mc_calls.specs.declared.call.Call.TheVariants as Calls
+use Rattle.mc_calls.specs.declared.call_reply.CallReply.{CallReply}
+use Rattle.mc_calls.specs.declared.call_reply.CallReply.TheVariants as Replies
+use Rattle.mc_calls.specs.Shard.{State, empty_state, reply_to, state_after}
 
 -- the replies of shard `number` of `shards` to calls, from a state on
 abbrev pub answers_from : ℕ → ℕ → State → List Call → List CallReply

@@ -1,9 +1,9 @@
 -- Example calls, one at a time: the item of their key, and what they come to.
 use Rattle.std.specs.Prelude.{ℕ, List, Option, Some}
-use Rattle.zy_base.specs.declared.item.Item.{Item}
-use Rattle.zy_base.specs.declared.call_reply.CallReply.{CallReply}
-use Rattle.zy_base.specs.declared.tallied.Tallied.{Tallied}
-use Rattle.zy_base.specs.Shard.{Effect, Outcome}
+use Rattle.mc_calls.specs.declared.item.Item.{Item}
+use Rattle.mc_calls.specs.declared.call_reply.CallReply.{CallReply}
+use Rattle.mc_calls.specs.declared.tallied.Tallied.{Tallied}
+use Rattle.mc_calls.specs.Shard.{Effect, Outcome}
 
 -- a shard on which nothing was counted
 abbrev pub none : Tallied

@@ -1,11 +1,11 @@
 //! Laws of the table of calls: example calls, and calls that change nothing.
 ghost use Rattle.std.specs.Prelude.{◌≡◌, ℕ, codes, decimal, None};
-ghost use Rattle.zy_base.specs.declared.call.Call.TheVariants as Calls;
-ghost use Rattle.zy_base.specs.Counted.{counted};
-ghost use Rattle.zy_base.specs.Shard.{State, state_after, outcome_of, stores, removes, empties, keeps};
+ghost use Rattle.mc_calls.specs.declared.call.Call.TheVariants as Calls;
+ghost use Rattle.mc_calls.specs.Counted.{counted};
+ghost use Rattle.mc_calls.specs.Shard.{State, state_after, outcome_of, stores, removes, empties, keeps};
 ghost use Rattle.shard_laws.specs.Worked as Worked;
 ghost use Rattle.shard_laws.specs.Laws.{FailedCasKeeps, FailedAddKeeps, FailedReplaceKeeps, FlushedMisses, FlushKeepsCount};
-ghost use Rattle.zy_base.specs.declared.call_reply.CallReply.TheVariants as Replies;
+ghost use Rattle.mc_calls.specs.declared.call_reply.CallReply.TheVariants as Replies;
 ghost use Rattle.shard_laws.specs.WorkedItems.{none, item_of, outcome};
 
 /// Example calls, one after the other, on shard 12 of 16: what the table of calls answers.

@@ -1,13 +1,13 @@
 //! Laws of lists of entries: their parts, and which are legal.
 ghost use Rattle.std.specs.Prelude.{◌≡◌, ◌≢◌, ◌<◌, ◌∷◌, ◌++◌, ℕ, List, []};
 ghost use Rattle.std.specs.FinMap.{len};
-ghost use Rattle.zy_base.specs.declared.entry.Entry.{Entry};
-ghost use Rattle.zy_base.specs.Counted.{counted};
-ghost use Rattle.zy_base.specs.Shard.{empty_state, tallied, reply_to};
-ghost use Rattle.zy_base.specs.Replies.{replies_at};
-ghost use Rattle.zy_base.specs.History.{IsReplay, IsLegal, replayed};
+ghost use Rattle.mc_calls.specs.declared.entry.Entry.{Entry};
+ghost use Rattle.mc_calls.specs.Counted.{counted};
+ghost use Rattle.mc_calls.specs.Shard.{empty_state, tallied, reply_to};
+ghost use Rattle.mc_calls.specs.Replies.{replies_at};
+ghost use Rattle.mc_calls.specs.History.{IsReplay, IsLegal, replayed};
 ghost use Rattle.shard_laws.specs.Answered.{AreAnswered};
-ghost use Rattle.zy_base.specs.Order.{of_connection, at_shard, AreBelow};
+ghost use Rattle.mc_calls.specs.Order.{of_connection, at_shard, AreBelow};
 ghost use Rattle.shard_laws.specs.Laws.{CountsCalls};
 
 /// The entries of a connection are those whose tag names it.

@@ -1,9 +1,9 @@
 //! Laws of merged histories.
 ghost use Rattle.std.specs.Prelude.{◌≡◌, ◌<◌, ◌∷◌, ℕ, List, []};
-ghost use Rattle.zy_base.specs.declared.entry.Entry.{Entry};
+ghost use Rattle.mc_calls.specs.declared.entry.Entry.{Entry};
 ghost use Rattle.zy_base.specs.Limits.{stamp_limit};
-ghost use Rattle.zy_base.specs.History.{IsLegal, AreHistories};
-ghost use Rattle.zy_base.specs.Order.{of_connection, AreByShard, StampsRise, AreStampsBelow, history_of, IsMergeOf, AreCallsOf};
+ghost use Rattle.mc_calls.specs.History.{IsLegal, AreHistories};
+ghost use Rattle.mc_calls.specs.Order.{of_connection, AreByShard, StampsRise, AreStampsBelow, history_of, IsMergeOf, AreCallsOf};
 
 /// Histories have one merged list at most.
 pub fn histories_have_one_merge()

@@ -1,7 +1,7 @@
 //! Laws of numbers and of keys: the published hashes, and digits.
 ghost use Rattle.std.specs.Prelude.{◌≡◌, ◌<◌, ◌^◌, ℕ, [], codes, decimal, None, Some};
 ghost use Rattle.zy_base.specs.Number.{number_of};
-ghost use Rattle.zy_base.specs.Key.{hash_of, shard_of};
+ghost use Rattle.mc_calls.specs.Key.{hash_of, shard_of};
 
 /// Example keys: the published hashes of FNV-1a, and the shards that they give.
 pub fn worked_shards()

@@ -1,14 +1,14 @@
 //! Laws of replies: their kinds, their bounds, and what they depend on.
 ghost use Rattle.std.specs.Prelude.{◌≡◌, ℕ, List, Some};
 ghost use Rattle.std.specs.List.{AllByRecursion};
-ghost use Rattle.zy_base.specs.declared.call.Call.{Call};
-ghost use Rattle.zy_base.specs.declared.entry.Entry.{Entry};
-ghost use Rattle.zy_base.specs.Shard.{State, reply_to};
-ghost use Rattle.zy_base.specs.Kind.{MayAnswer, AreAnswers};
-ghost use Rattle.zy_base.specs.Call.{key_of};
-ghost use Rattle.zy_base.specs.Bounds.{IsCallWithin, IsReply};
-ghost use Rattle.zy_base.specs.Told.{told, seen_at, IsSteady};
-ghost use Rattle.zy_base.specs.History.{IsReplay, IsLegal};
+ghost use Rattle.mc_calls.specs.declared.call.Call.{Call};
+ghost use Rattle.mc_calls.specs.declared.entry.Entry.{Entry};
+ghost use Rattle.mc_calls.specs.Shard.{State, reply_to};
+ghost use Rattle.mc_calls.specs.Kind.{MayAnswer, AreAnswers};
+ghost use Rattle.mc_calls.specs.Call.{key_of};
+ghost use Rattle.mc_calls.specs.Bounds.{IsCallWithin, IsReply};
+ghost use Rattle.mc_calls.specs.Told.{told, seen_at, IsSteady};
+ghost use Rattle.mc_calls.specs.History.{IsReplay, IsLegal};
 ghost use Rattle.shard_laws.specs.Laws.{KeyStandsAlone};
 
 /// A shard answers a call with a reply of a kind that the table gives for it.

@@ -6,13 +6,14 @@ ghost use Rattle.mc_store.specs.Pass.{passed, rooted};
 ghost use Rattle.mc_store.specs.View.{untraced};
 
 use crate::judging::{judge, no_memory};
+use mc_calls::{Call, Entry, Histories, Tag};
 use mc_store::{Pass, Root, StoreTable};
 use std::alloc::Global;
 use std::process::Abort;
 use std::sync::Wait;
 use std::thread;
 use std::thread::Threads;
-use zy_base::{Blob, Call, Entry, Histories, Tag};
+use zy_base::Blob;
 
 const CALLS: u64 = 1_000;
 

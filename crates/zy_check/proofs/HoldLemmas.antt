@@ -5,7 +5,7 @@ use Rattle.std.proofs.lemmas.List.{length-set, get_or-set_same, get_or-set_other
 use Rattle.std.proofs.lemmas.Bool.Decides.{eqb_tells}
 use mathlib.Core.Logic.{dite}
 use native.Mathlib.Decide.{ℕ_discrete}
-use Rattle.zy_base.specs.declared.hold.Hold.{Hold}
+use Rattle.mc_calls.specs.declared.hold.Hold.{Hold}
 use Rattle.zy_run.specs.Spans.{held_of}
 use Rattle.zy_check.specs.declared.track.Track.{Track}
 use Rattle.zy_check.specs.Given.{Given, IsHeld}

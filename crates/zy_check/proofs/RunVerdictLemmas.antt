@@ -6,12 +6,12 @@ use Rattle.std.proofs.lemmas.Bool.Decides.{eqb_tells}
 use Rattle.std.proofs.lemmas.List.{length-map, take-append-drop, get_or_past}
 use mathlib.Core.Logic.{dite}
 use native.Mathlib.Decide.{dec_lt}
-use Rattle.zy_base.specs.declared.entry.Entry.{Entry}
-use Rattle.zy_base.specs.declared.hold.Hold.{Hold}
-use Rattle.zy_base.specs.Order.{of_connection, at_shard}
-use Rattle.zy_base.specs.Shard.{empty_state, reply_to}
-use Rattle.zy_base.specs.History.{IsLegal, replayed}
-use Rattle.zy_base.proofs.ReplayLemmas.{IsLegal-front, IsLegal-reply}
+use Rattle.mc_calls.specs.declared.entry.Entry.{Entry}
+use Rattle.mc_calls.specs.declared.hold.Hold.{Hold}
+use Rattle.mc_calls.specs.Order.{of_connection, at_shard}
+use Rattle.mc_calls.specs.Shard.{empty_state, reply_to}
+use Rattle.mc_calls.specs.History.{IsLegal, replayed}
+use Rattle.mc_calls.proofs.ReplayLemmas.{IsLegal-front, IsLegal-reply}
 use Rattle.zy_capture.specs.Streams.{sessions_of}
 use Rattle.mc_parse.specs.Calls.{Due, due, due_of}
 use Rattle.zy_run.specs.Commands.{commands_over, commands_held}

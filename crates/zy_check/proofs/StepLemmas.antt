@@ -5,14 +5,14 @@ use Rattle.std.proofs.lemmas.List.{length-set, length-map, take_all}
 use Rattle.std.proofs.lemmas.Option.{slice_get_within, slice_get_past, slice_get-get_or}
 use mathlib.Core.Logic.{dite}
 use native.Mathlib.Decide.{ℕ_discrete}
-use Rattle.zy_base.specs.declared.call_reply.CallReply.{CallReply}
-use Rattle.zy_base.specs.declared.entry.Entry.{Entry}
-use Rattle.zy_base.specs.Kind.{MayAnswer}
-use Rattle.zy_base.specs.Order.{of_connection}
-use Rattle.zy_base.specs.Shard.{State, reply_to}
+use Rattle.mc_calls.specs.declared.call_reply.CallReply.{CallReply}
+use Rattle.mc_calls.specs.declared.entry.Entry.{Entry}
+use Rattle.mc_calls.specs.Kind.{MayAnswer}
+use Rattle.mc_calls.specs.Order.{of_connection}
+use Rattle.mc_calls.specs.Shard.{State, reply_to}
 use Rattle.zy_base.proofs.SetLemmas.{slice_get-set, slice_get-set_other}
-use Rattle.zy_base.proofs.EntryLemmas.{of_connection-push, of_connection-push_other}
-use Rattle.zy_base.proofs.KindLemmas.{reply_answers}
+use Rattle.mc_calls.proofs.EntryLemmas.{of_connection-push, of_connection-push_other}
+use Rattle.mc_calls.proofs.KindLemmas.{reply_answers}
 use Rattle.mc_parse.specs.declared.shard_call.ShardCall.{ShardCall}
 use Rattle.mc_parse.specs.Calls.{Due, due_at, due_of, dues_of, tag_of}
 use Rattle.mc_parse.proofs.CallLemmas.{dues_of-more}

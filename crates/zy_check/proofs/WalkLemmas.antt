@@ -7,13 +7,13 @@ use Rattle.std.proofs.lemmas.List.Elements.{All-head, All-tail}
 use Rattle.std.proofs.lemmas.Option.{slice_get_within, get_or_from_slice_get}
 use mathlib.Core.Logic.{dite}
 use native.Mathlib.Decide.{ℕ_discrete}
-use Rattle.zy_base.specs.declared.entry.Entry.{Entry}
-use Rattle.zy_base.specs.Order.{of_connection, at_shard}
-use Rattle.zy_base.specs.Shard.{State, empty_state, reply_to}
-use Rattle.zy_base.specs.History.{replayed}
+use Rattle.mc_calls.specs.declared.entry.Entry.{Entry}
+use Rattle.mc_calls.specs.Order.{of_connection, at_shard}
+use Rattle.mc_calls.specs.Shard.{State, empty_state, reply_to}
+use Rattle.mc_calls.specs.History.{replayed}
 use Rattle.zy_base.proofs.SetLemmas.{slice_get-set, slice_get-set_other}
-use Rattle.zy_base.proofs.ReplayLemmas.{replayed-push}
-use Rattle.zy_base.proofs.EntryLemmas.{of_connection-here, of_connection-other, at_shard-push, at_shard-push_other}
+use Rattle.mc_calls.proofs.ReplayLemmas.{replayed-push}
+use Rattle.mc_calls.proofs.EntryLemmas.{of_connection-here, of_connection-other, at_shard-push, at_shard-push_other}
 use Rattle.mc_parse.specs.Calls.{due_of, dues_of, IsDueOn}
 use Rattle.mc_parse.proofs.CallLemmas.{due_within}
 use Rattle.mc_shard.specs.Replay.{Replayed, replaying, state_replayed}

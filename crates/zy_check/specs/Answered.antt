@@ -1,8 +1,8 @@
 -- Which commands are answered: those with a text that is not empty.
 use Rattle.std.specs.Prelude.{◌≡◌, ℕ, List, [], ◌∷◌, Bool, true, false, length, map, Option, Some}
 use Rattle.std.specs.List.{slice_get}
-use Rattle.zy_base.specs.declared.entry.Entry.{Entry}
-use Rattle.zy_base.specs.Order.{of_connection}
+use Rattle.mc_calls.specs.declared.entry.Entry.{Entry}
+use Rattle.mc_calls.specs.Order.{of_connection}
 use Rattle.mc_parse.specs.declared.command.Command.{Command}
 use Rattle.mc_reply.specs.Texts.{texts_of}
 use Rattle.zy_run.specs.Commands.{commands_held}

@@ -1,6 +1,6 @@
 -- A command whose calls are answered one by one. No public clause cites this module.
 use Rattle.std.specs.Prelude.{◌≡◌, ℕ, ◌≤◌, List, length, take}
-use Rattle.zy_base.specs.declared.call_reply.CallReply.{CallReply}
+use Rattle.mc_calls.specs.declared.call_reply.CallReply.{CallReply}
 use Rattle.mc_parse.specs.declared.command.Command.{Command}
 use Rattle.mc_parse.specs.declared.shard_call.ShardCall.{ShardCall}
 use Rattle.mc_parse.specs.Calls.{calls_of}

@@ -1,7 +1,7 @@
 -- Why a journal and outputs are not those of a run of some streams: the first cause, in this order.
 use Rattle.std.specs.Prelude.{◌≡◌, ◌⊎◌, ℕ, suc, ◌<◌, ◌==◌, if◌then◌else◌, List, [], ◌∷◌, length, Option, None, Some}
 use Rattle.std.specs.List.{slice_get}
-use Rattle.zy_base.specs.Order.{of_connection}
+use Rattle.mc_calls.specs.Order.{of_connection}
 use Rattle.mc_parse.specs.Calls.{Due}
 use Rattle.zy_check.specs.declared.verdict.Verdict.{Verdict}
 use Rattle.zy_check.specs.declared.verdict.Verdict.TheVariants.{Yes, No}

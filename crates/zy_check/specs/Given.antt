@@ -1,11 +1,11 @@
 -- What is checked, and what it should be.
 use Rattle.std.specs.Prelude.{◌≡◌, ℕ, ◌<◌, ◌≤◌, List, length, take, Option, Some, IfSome}
 use Rattle.std.specs.List.{slice_get}
-use Rattle.zy_base.specs.declared.entry.Entry.{Entry}
-use Rattle.zy_base.specs.declared.hold.Hold.{Hold}
-use Rattle.zy_base.specs.Order.{of_connection, at_shard}
-use Rattle.zy_base.specs.Shard.{empty_state, reply_to}
-use Rattle.zy_base.specs.History.{replayed}
+use Rattle.mc_calls.specs.declared.entry.Entry.{Entry}
+use Rattle.mc_calls.specs.declared.hold.Hold.{Hold}
+use Rattle.mc_calls.specs.Order.{of_connection, at_shard}
+use Rattle.mc_calls.specs.Shard.{empty_state, reply_to}
+use Rattle.mc_calls.specs.History.{replayed}
 use Rattle.zy_capture.specs.Outputs.{AllOutputs}
 use Rattle.zy_capture.specs.Streams.{sessions_of}
 use Rattle.zy_journal.specs.declared.journal.Journal.{Journal}

@@ -1,6 +1,6 @@
 -- Adding the holds up. No public clause cites this module.
 use Rattle.std.specs.Prelude.{◌≡◌, ◌≢◌, ℕ, ◌<◌, ◌≤◌, get_or, List, length, Option, None, Some}
-use Rattle.zy_base.specs.declared.hold.Hold.{Hold}
+use Rattle.mc_calls.specs.declared.hold.Hold.{Hold}
 use Rattle.zy_run.specs.Spans.{held_of}
 use Rattle.zy_check.specs.Given.{Given, IsHeld}
 

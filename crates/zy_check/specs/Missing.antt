@@ -1,7 +1,7 @@
 -- Looking for the first connection with a call that has no entry. No public clause cites this module.
 use Rattle.std.specs.Prelude.{◌≡◌, ℕ, List, length, Option, None, Some}
 use Rattle.std.specs.List.{slice_get}
-use Rattle.zy_base.specs.Order.{of_connection}
+use Rattle.mc_calls.specs.Order.{of_connection}
 use Rattle.mc_parse.specs.Calls.{dues_of}
 use Rattle.zy_check.specs.declared.track.Track.{Track}
 use Rattle.zy_check.specs.declared.verdict.Cause.{Cause}

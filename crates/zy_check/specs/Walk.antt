@@ -1,10 +1,10 @@
 -- Walking through the entries. No public clause cites this module.
 use Rattle.std.specs.Prelude.{◌≡◌, ℕ, ◌+◌, ◌<◌, ◌≤◌, List, length, take, Option, None, Some}
 use Rattle.std.specs.List.{slice_get}
-use Rattle.zy_base.specs.declared.entry.Entry.{Entry}
-use Rattle.zy_base.specs.Order.{of_connection, at_shard}
-use Rattle.zy_base.specs.Shard.{empty_state}
-use Rattle.zy_base.specs.History.{replayed}
+use Rattle.mc_calls.specs.declared.entry.Entry.{Entry}
+use Rattle.mc_calls.specs.Order.{of_connection, at_shard}
+use Rattle.mc_calls.specs.Shard.{empty_state}
+use Rattle.mc_calls.specs.History.{replayed}
 use Rattle.mc_parse.specs.Calls.{due_at, due_of, dues_of}
 use Rattle.mc_shard.specs.Replay.{Replayed, replaying}
 use Rattle.zy_check.specs.declared.track.Track.{Track}

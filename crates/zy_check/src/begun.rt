@@ -1,17 +1,18 @@
 //! A command that is begun, and the replies to its first calls.
 ghost use Rattle.std.specs.Prelude.{◌≡◌, ◌↔◌, ◌<◌, ◌≤◌, true, false, [], ◌∷◌, ◌++◌, length, Some, IfOk, OnOk, OnErr};
 ghost use Rattle.std.specs.List.{slice_get};
-ghost use Rattle.zy_base.specs.Kind.{MayAnswer};
+ghost use Rattle.mc_calls.specs.Kind.{MayAnswer};
 ghost use Rattle.mc_parse.specs.declared.shard_call.ShardCall.{ShardCall};
 ghost use Rattle.mc_parse.specs.Calls.{due_at, due_of, tag_of};
 ghost use Rattle.mc_reply.specs.Text.{text};
 ghost use Rattle.zy_check.specs.Begun.{asked_in};
 
+use mc_calls::{CallReply, Entry, Replies};
 use mc_parse::{Calls, Command, ShardCall, calls};
 use mc_reply::reply_text;
 use std::alloc::Global;
 use std::marker::Model;
-use zy_base::{Blob, CallReply, Entry, NoMemory, Replies};
+use zy_base::{Blob, NoMemory};
 
 /// A command with its calls, and the replies to the first of them.
 #[derive(Drop)]

@@ -4,8 +4,8 @@ ghost use Rattle.std.specs.List.{slice_index_or};
 ghost use Rattle.zy_capture.specs.Streams.{sessions_of};
 ghost use Rattle.zy_check.specs.Given.{all_given, found_output};
 
+use mc_calls::Hold;
 use std::marker::Model;
-use zy_base::Hold;
 use zy_capture::{Outputs, Streams};
 use zy_journal::{Journal, Walk};
 

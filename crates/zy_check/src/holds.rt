@@ -1,14 +1,15 @@
 //! The holds of each connection, added up.
 ghost use Rattle.std.specs.Prelude.{◌≡◌, ◌↔◌, ◌≢◌, ◌+◌, ◌<◌, ◌≤◌, ℕ, List, ◌++◌, ◌∷◌, [], length, get_or, IfOk, OnOk};
 ghost use Rattle.std.specs.List.{slice_set};
-ghost use Rattle.zy_base.specs.declared.hold.Hold.{Hold};
+ghost use Rattle.mc_calls.specs.declared.hold.Hold.{Hold};
 ghost use Rattle.zy_check.specs.Held.{AreSums, FoundStray, FoundUnheld};
 ghost use Rattle.zy_check.specs.Missing.{AreEnded};
 
 use crate::files::Files;
 use crate::track::Track;
+use mc_calls::Hold;
 use std::alloc::Global;
-use zy_base::{Hold, NoMemory};
+use zy_base::NoMemory;
 
 /// The first connection whose holds do not add up to the number of its commands, if there is one.
 pub fn first_unheld(alloc: Global, files: &Files, tracks: &[Track]) -> Result<Option<u32>, NoMemory>

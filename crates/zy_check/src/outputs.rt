@@ -1,6 +1,6 @@
 //! The first output that is not the expected one.
 ghost use Rattle.std.specs.Prelude.{◌<◌, length};
-ghost use Rattle.zy_base.specs.Order.{of_connection};
+ghost use Rattle.mc_calls.specs.Order.{of_connection};
 ghost use Rattle.mc_parse.specs.Calls.{dues_of};
 ghost use Rattle.zy_check.specs.Cause.{IsComplete};
 ghost use Rattle.zy_check.specs.Missing.{AreEnded};

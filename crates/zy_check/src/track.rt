@@ -2,7 +2,7 @@
 ghost use Rattle.std.specs.Prelude.{◌≡◌, ◌↔◌, ◌+◌, ◌^◌, ◌<◌, ◌≤◌, ◌++◌, ◌∷◌, ℕ, true, false};
 ghost use Rattle.std.specs.Prelude.{List, [], length, None, Some, IfOk, OnOk, OnErr};
 ghost use Rattle.std.specs.List.{slice_get};
-ghost use Rattle.zy_base.specs.Kind.{MayAnswer};
+ghost use Rattle.mc_calls.specs.Kind.{MayAnswer};
 ghost use Rattle.zy_capture.specs.Streams.{sessions_of};
 ghost use Rattle.mc_parse.specs.declared.shard_call.ShardCall.{ShardCall};
 ghost use Rattle.mc_parse.specs.Calls.{Due, due_at, due_of};
@@ -17,9 +17,10 @@ use crate::begun::Begun;
 use crate::compared::{Compared, Differing};
 use crate::cursor::Cursor;
 use crate::files::Files;
+use mc_calls::{CallReply, Entry};
 use std::alloc::Global;
 use std::mem;
-use zy_base::{CallReply, Entry, NoMemory};
+use zy_base::NoMemory;
 
 /// A connection's place in its streams: the session that is read and the place in it, the command
 /// in progress, the number of commands before it, how far its outputs were compared, and which of its

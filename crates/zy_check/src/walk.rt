@@ -1,7 +1,7 @@
 //! Walking through the entries of a journal.
 ghost use Rattle.std.specs.Prelude.{◌≡◌, ◌↔◌, ◌≤◌, ℕ, true, [], length, take, Some, IfOk, OnOk};
 ghost use Rattle.std.specs.List.{slice_get};
-ghost use Rattle.zy_base.specs.Shard.{reply_to};
+ghost use Rattle.mc_calls.specs.Shard.{reply_to};
 ghost use Rattle.mc_shard.specs.Replay.{state_replayed};
 ghost use Rattle.zy_check.specs.Given.{IsNextCall};
 ghost use Rattle.zy_check.specs.Walk.{AreBeforeEntry, AreReplayed, AreTracked, FoundAt, FoundWrong, IsNextIn};
@@ -9,9 +9,10 @@ ghost use Rattle.zy_check.specs.Walk.{AreBeforeEntry, AreReplayed, AreTracked, F
 use crate::files::Files;
 use crate::track::Track;
 use crate::verdict::Cause;
+use mc_calls::{CallReply, Entry};
 use mc_shard::Replay;
 use std::alloc::Global;
-use zy_base::{CallReply, Entry, NoMemory};
+use zy_base::NoMemory;
 
 /// The cause at the first entry that is not right, if there is one. If there is none, each
 /// connection is after its last entry.

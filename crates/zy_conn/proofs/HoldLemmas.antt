@@ -1,7 +1,7 @@
 -- One further hold.
 use Rattle.std.proofs.Common.{◌≡◌, ℕ, ◌+◌, List, [], ◌∷◌, ◌++◌, sym, ap, ◌∙◌, subst, arith}
-use Rattle.zy_base.specs.declared.hold.Hold.{Hold}
-use Rattle.zy_base.specs.Held.{held_in}
+use Rattle.mc_calls.specs.declared.hold.Hold.{Hold}
+use Rattle.mc_calls.specs.Held.{held_in}
 use Rattle.zy_conn.specs.Hold.{IsHoldOf, EachIsHold, AreHolds}
 
 held_in-push : (holds : List Hold) (hold : Hold) → held_in (holds ++ hold ∷ []) ≡ held_in holds + hold.count

@@ -2,11 +2,11 @@
 use Rattle.std.proofs.Common.{◌≡◌, ◌≢◌, ℕ, zero, suc, ◌+◌, ◌≤◌, ◌^◌, List, [], ◌∷◌, ◌++◌, length, take, Some, slice_get, refl, sym, ap, ◌∙◌, subst, arith, append_assoc, append-nil, length-append}
 use Rattle.std.proofs.lemmas.List.{take-append-le, take_all, length-take-le, length-map, map-append}
 use Rattle.std.proofs.lemmas.Option.{slice_get_within}
-use Rattle.zy_base.specs.declared.call_reply.CallReply.{CallReply}
-use Rattle.zy_base.specs.declared.entry.Entry.{Entry}
-use Rattle.zy_base.specs.Kind.{MayAnswer, AreAnswers}
-use Rattle.zy_base.specs.Replies.{replies_at}
-use Rattle.zy_base.proofs.EntryLemmas.{replies_at-push, replies_at-push_other, AreAnswers-push}
+use Rattle.mc_calls.specs.declared.call_reply.CallReply.{CallReply}
+use Rattle.mc_calls.specs.declared.entry.Entry.{Entry}
+use Rattle.mc_calls.specs.Kind.{MayAnswer, AreAnswers}
+use Rattle.mc_calls.specs.Replies.{replies_at}
+use Rattle.mc_calls.proofs.EntryLemmas.{replies_at-push, replies_at-push_other, AreAnswers-push}
 use Rattle.mc_parse.specs.declared.command.Command.{Command}
 use Rattle.mc_parse.specs.declared.shard_call.ShardCall.{ShardCall}
 use Rattle.mc_parse.specs.Calls.{Due, calls_of, due, due_at, due_of, dues_of, tag_of, tagged}

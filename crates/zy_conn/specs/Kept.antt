@@ -1,9 +1,9 @@
 -- What a connection's work keeps: the commands of the frames taken are carried out in order, each
 -- expected call is made once, and each text is written once.
 use Rattle.std.specs.Prelude.{◌≡◌, ℕ, ◌<◌, ◌≤◌, ◌^◌, List, [], ◌∷◌, ◌++◌, length, take}
-use Rattle.zy_base.specs.declared.call_reply.CallReply.{CallReply}
-use Rattle.zy_base.specs.Kind.{AreAnswers}
-use Rattle.zy_base.specs.Replies.{replies_at}
+use Rattle.mc_calls.specs.declared.call_reply.CallReply.{CallReply}
+use Rattle.mc_calls.specs.Kind.{AreAnswers}
+use Rattle.mc_calls.specs.Replies.{replies_at}
 use Rattle.mc_parse.specs.declared.command.Command.{Command}
 use Rattle.mc_parse.specs.declared.shard_call.ShardCall.{ShardCall}
 use Rattle.mc_parse.specs.Calls.{Due, calls_of, due, dues_of, tagged}

@@ -2,9 +2,10 @@
 ghost use Rattle.mc_reply.specs.Text.{text};
 ghost use Rattle.mc_reply.specs.Answers.{AnswerCommand};
 
+use mc_calls::Replies;
 use mc_parse::Command;
 use mc_reply::reply_text;
-use zy_base::{Blob, NoMemory, Replies};
+use zy_base::{Blob, NoMemory};
 use zy_calls::Writes;
 
 /// A command with the replies of all its calls.

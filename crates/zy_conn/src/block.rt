@@ -12,10 +12,11 @@ ghost use Rattle.zy_conn.specs.Block.{blocked};
 use crate::hold_end::HoldEnd;
 use crate::holding::carry_out;
 use crate::work::{EventInlet, Work};
+use mc_calls::{Hold, Holds};
 use mc_store::{Pass, StoreTable};
 use std::alloc::Global;
 use std::marker::Model;
-use zy_base::{Gate, Hold, Holds, NoMemory};
+use zy_base::{Gate, NoMemory};
 use zy_calls::{Batch, Output};
 use zy_shuffle::Marked;
 

@@ -4,9 +4,10 @@ ghost use Rattle.mc_parse.specs.Calls.{calls_of, get_calls, get_at, tag_of, IsOn
 ghost use Rattle.zy_conn.specs.Step.{SamePass, Makes, MakesThis};
 
 use crate::hold_end::HoldEnd;
+use mc_calls::{CallReply, Tag, hash_of};
 use mc_parse::{Command, ShardCall, call_at, got_keys};
 use mc_store::{Fetched, Pass, StoreTable, Tried};
-use zy_base::{Blob, COMMAND_LIMIT, CallReply, NoMemory, Tag, hash_of};
+use zy_base::{Blob, COMMAND_LIMIT, NoMemory};
 
 /// The result of the next call of a command.
 #[derive(Drop)]

@@ -10,11 +10,12 @@ mod run;
 mod steps;
 
 use crate::begun::Begun;
+use mc_calls::CallReply;
 use mc_store::Pass;
 use std::alloc::Global;
 use std::marker::Model;
 use std::mem;
-use zy_base::{CallReply, NoMemory};
+use zy_base::NoMemory;
 use zy_calls::{Batch, Output};
 use zy_frame::Frame;
 use zy_rx::{RingInlet, RingOutlet, both_ends, ring};

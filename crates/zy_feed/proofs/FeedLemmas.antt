@@ -12,8 +12,8 @@ use Rattle.zy_rx.specs.declared.rx.Rx.{Rx}
 use Rattle.zy_rx.specs.declared.rx.Rx.TheVariants.{End}
 use Rattle.zy_rx.specs.Flow.{home_of}
 use Rattle.zy_rx.specs.Ring.{Offering}
-use Rattle.zy_rx.specs.Routing.{offered_item, items_for}
-use Rattle.zy_rx.proofs.TakenLemmas.{items_for-push, items_for-push_other}
+use Rattle.zy_feed.specs.Routing.{offered_item, items_for}
+use Rattle.zy_feed.proofs.TakenLemmas.{items_for-push, items_for-push_other}
 use Rattle.zy_rx.specs.Feed.{sent_by}
 use Rattle.zy_read.specs.declared.stop.Stop.{Stop}
 use Rattle.zy_capture.specs.declared.capture_fault.CaptureFault.{CaptureFault}

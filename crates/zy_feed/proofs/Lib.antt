@@ -1,3 +1,4 @@
+pub mod TakenLemmas
 pub mod StepLemmas
 pub mod ReadLemmas
 pub mod PieceLemmas

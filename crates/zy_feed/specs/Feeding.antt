@@ -14,7 +14,7 @@ use Rattle.zy_rx.specs.declared.rx.Rx.{Rx}
 use Rattle.zy_rx.specs.declared.rx.Rx.TheVariants.{Segment, Close, End}
 use Rattle.zy_rx.specs.Flow.{home_of}
 use Rattle.zy_rx.specs.Ring.{Offering}
-use Rattle.zy_rx.specs.Routing.{items_for, offered_to}
+use Rattle.zy_feed.specs.Routing.{items_for, offered_to}
 use Rattle.zy_rx.specs.declared.feeder.Fed.{Fed}
 use Rattle.zy_rx.specs.declared.feeder.Fed.TheVariants as Answers
 use Rattle.zy_rx.specs.Feed.{rings_of, sent_by, HasOffered, HasNoRoom}

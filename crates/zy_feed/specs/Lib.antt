@@ -1,3 +1,4 @@
+pub mod Routing
 pub mod Reads
 pub mod Feeding
 pub mod Leads

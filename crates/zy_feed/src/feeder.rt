@@ -1,7 +1,7 @@
 //! The feeder of a run.
 ghost use Rattle.std.specs.Prelude.{◌≡◌, ◌≢◌, ◌↔◌, ℕ, List, true, false, Some, slice_get, refl};
 ghost use Rattle.std.proofs.Common.{◌∙◌};
-ghost use Rattle.zy_rx.specs.Routing as Routing;
+ghost use Rattle.zy_feed.specs.Routing as Routing;
 ghost use Rattle.zy_rx.specs.Feed.{rings_of, sent_by, HasOffered, HasNoRoom, HasMet};
 ghost use Rattle.zy_feed.specs.declared.stage.Stage.TheVariants as Stages;
 ghost use Rattle.zy_feed.specs.Feeding.{feeder_state, in_stage, stop_in, IsBroken, IsWaiting, LeadsTo};

@@ -1,8 +1,8 @@
 -- The calls of entries that are those due of streams' commands are within the bounds of the journal.
 use Rattle.std.specs.List.{AllByRecursion}
 use Rattle.std.proofs.Common.{◌≡◌, ℕ, ◌≤◌, List, [], ◌∷◌, length, sym, subst, arith}
-use Rattle.zy_base.specs.declared.entry.Entry.{Entry}
-use Rattle.zy_base.specs.Bounds.{IsCallWithin}
+use Rattle.mc_calls.specs.declared.entry.Entry.{Entry}
+use Rattle.mc_calls.specs.Bounds.{IsCallWithin}
 use Rattle.mc_parse.specs.Calls.{due, dues_of}
 use Rattle.mc_parse.specs.Bounds.{IsCommand, IsDueWithin}
 use Rattle.mc_parse.proofs.BoundLemmas.{due_from_within}

@@ -3,8 +3,8 @@ use Rattle.std.specs.List.{concat, slice_index_or}
 use Rattle.std.proofs.Common.{◌≡◌, ℕ, zero, suc, ◌+◌, ◌-◌, ◌<◌, ◌≤◌, List, [], ◌∷◌, ◌++◌, length, take, drop, refl, sym, ap, ◌∙◌, arith}
 use Rattle.std.proofs.lemmas.List.{append-nil, append_assoc, length-append, length-map, take_at, drop_at, drop-drop, take-append-drop}
 use Rattle.std.proofs.lemmas.List.FromFn.{fill_by_all}
-use Rattle.zy_base.specs.declared.entry.Entry.{Entry}
-use Rattle.zy_base.specs.Order.{of_connection}
+use Rattle.mc_calls.specs.declared.entry.Entry.{Entry}
+use Rattle.mc_calls.specs.Order.{of_connection}
 use Rattle.mc_parse.specs.declared.command.Command.{Command}
 use Rattle.mc_reply.specs.Texts.{texts_from, texts_of}
 use Rattle.mc_reply.proofs.TextLemmas.{texts_from-append, length-texts_from}

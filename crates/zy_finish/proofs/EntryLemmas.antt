@@ -2,11 +2,11 @@
 use Rattle.std.specs.Prelude.{◌==◌, flat_map}
 use Rattle.std.specs.List.{AllByRecursion, filter, range_with_len}
 use Rattle.std.proofs.Common.{◌≡◌, ℕ, zero, suc, ◌+◌, ◌<◌, ◌≤◌, ◌^◌, List, [], ◌∷◌, Bool, true, false, cond, refl, sym, ap, ◌∙◌, subst, arith, eq-eqb}
-use Rattle.zy_base.specs.declared.entry.Entry.{Entry}
-use Rattle.zy_base.specs.declared.hold.Hold.{Hold}
-use Rattle.zy_base.specs.Bounds.{IsReply, IsCallWithin, FitsEntry}
-use Rattle.zy_base.specs.Order.{of_connection, history_of, AreBelow, StampsRise, AreStampsBelow, IsMergeOf}
-use Rattle.zy_base.specs.History.{AreHistories}
+use Rattle.mc_calls.specs.declared.entry.Entry.{Entry}
+use Rattle.mc_calls.specs.declared.hold.Hold.{Hold}
+use Rattle.mc_calls.specs.Bounds.{IsReply, IsCallWithin, FitsEntry}
+use Rattle.mc_calls.specs.Order.{of_connection, history_of, AreBelow, StampsRise, AreStampsBelow, IsMergeOf}
+use Rattle.mc_calls.specs.History.{AreHistories}
 use Rattle.zy_capture.specs.Capture.{connection_limit}
 use Rattle.zy_journal.specs.Journal.{IsEntry, IsHold}
 use Rattle.zy_conn.specs.Hold.{EachIsHold}

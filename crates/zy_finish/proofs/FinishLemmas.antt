@@ -7,12 +7,12 @@ use native.Mathlib.Decide.{ℕ_discrete, dec_lt}
 use Rattle.std.proofs.lemmas.List.{length-map}
 use Rattle.std.proofs.lemmas.Option.{slice_get-map}
 use Rattle.atomic_table.specs.Seated.{TableId}
-use Rattle.zy_base.specs.Bounds.{IsCallWithin}
-use Rattle.zy_base.specs.Order.{of_connection}
-use Rattle.zy_base.proofs.LegalLemmas.{legal_below}
-use Rattle.zy_base.proofs.MergeLemmas.{merge_is_below}
-use Rattle.zy_base.proofs.ReplyLemmas.{replies_within}
-use Rattle.zy_base.specs.Shard.{empty_state}
+use Rattle.mc_calls.specs.Bounds.{IsCallWithin}
+use Rattle.mc_calls.specs.Order.{of_connection}
+use Rattle.mc_calls.proofs.LegalLemmas.{legal_below}
+use Rattle.mc_calls.proofs.MergeLemmas.{merge_is_below}
+use Rattle.mc_calls.proofs.ReplyLemmas.{replies_within}
+use Rattle.mc_calls.specs.Shard.{empty_state}
 use Rattle.zy_capture.specs.declared.record.Record.{Record}
 use Rattle.zy_capture.specs.Capture.{IsCapture, IsRecordOf}
 use Rattle.zy_capture.specs.Outputs.{AreOutputs}
@@ -21,7 +21,7 @@ use Rattle.mc_parse.specs.Calls.{due, dues_of}
 use Rattle.mc_reply.specs.Texts.{texts_of}
 use Rattle.mc_store.specs.Joined.{is_joined, calls_of}
 use Rattle.zy_frame.specs.Frame.{command_of}
-use Rattle.zy_base.specs.Held.{held_in}
+use Rattle.mc_calls.specs.Held.{held_in}
 use Rattle.zy_rx.specs.Flow.{home_of}
 use Rattle.zy_rx.specs.Session.{Sessions, received_by, streams_of}
 use Rattle.zy_conn.specs.Work.{Start, Mark, commands_of_frames}
@@ -36,7 +36,7 @@ use Rattle.zy_run.specs.Commands.{streams_in, commands_in, commands_over}
 use Rattle.zy_run.specs.Run.{IsRun}
 use Rattle.zy_run.specs.Spans.{Spans}
 use Rattle.zy_run.proofs.StreamLemmas.{length-streams_in, closes-version_1}
-use Rattle.zy_rx.specs.Routing.{offered_to}
+use Rattle.zy_feed.specs.Routing.{offered_to}
 use Rattle.zy_finish.specs.Left.{IsCarriedOut, AreOf, ends_of}
 use Rattle.zy_finish.specs.Served.{AreServed, all_holds, all_sent}
 use Rattle.zy_finish.proofs.ReceivedLemmas.{offered_streams}

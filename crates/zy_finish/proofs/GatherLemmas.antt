@@ -9,7 +9,7 @@ use Rattle.std.proofs.lemmas.Grind.{flat_map-append}
 use Rattle.std.proofs.lemmas.List.{map-append}
 use Rattle.std.proofs.lemmas.Option.{slice_get_within, slice_get_read}
 use Rattle.std.proofs.lemmas.List.FromFn.{length-map-range_with_len}
-use Rattle.zy_base.specs.declared.hold.Hold.{Hold}
+use Rattle.mc_calls.specs.declared.hold.Hold.{Hold}
 use Rattle.zy_base.proofs.SetLemmas.{slice_get-set, slice_get-set_other}
 use Rattle.zy_rx.specs.Flow.{home_of}
 use Rattle.atomic_table.specs.Seated.{TableId}

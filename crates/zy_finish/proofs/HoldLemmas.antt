@@ -6,11 +6,11 @@ use Rattle.std.proofs.Common.{◌≡◌, inl, inr, ℕ, zero, suc, ◌+◌, ◌<
 use Rattle.std.proofs.lemmas.Bool.Decides.{eqb_tells}
 use mathlib.Core.Logic.{dite}
 use native.Mathlib.Decide.{ℕ_discrete}
-use Rattle.zy_base.specs.declared.hold.Hold.{Hold}
+use Rattle.mc_calls.specs.declared.hold.Hold.{Hold}
 use Rattle.mc_parse.specs.declared.command.Command.{Command}
 use Rattle.zy_journal.specs.Journal.{AreByConnection}
 use Rattle.zy_run.specs.Spans.{held_of, AreHoldsOf, Spans}
-use Rattle.zy_base.specs.Held.{held_in}
+use Rattle.mc_calls.specs.Held.{held_in}
 use Rattle.zy_finish.specs.Left.{AreOf}
 
 -- ---- two lists of holds

@@ -18,7 +18,7 @@ use Rattle.zy_rx.specs.Session.{streams_of}
 use Rattle.zy_rx.proofs.SessionLemmas.{sessions-push}
 use Rattle.zy_run.specs.Commands.{streams_in}
 use Rattle.zy_run.proofs.StreamLemmas.{streams_held}
-use Rattle.zy_rx.specs.Routing.{offered_item, is_for, items_for, offered_to}
+use Rattle.zy_feed.specs.Routing.{offered_item, is_for, items_for, offered_to}
 
 -- ---- the items of one record
 

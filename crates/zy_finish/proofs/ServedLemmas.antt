@@ -2,10 +2,10 @@
 use Rattle.std.specs.Prelude.{◌==◌}
 use Rattle.std.proofs.Common.{◌≡◌, ℕ, ◌<◌, ◌≤◌, List, [], ◌∷◌, Bool, true, false, cond, refl, sym, ap, ◌∙◌, arith}
 use Rattle.std.proofs.lemmas.List.FromFn.{fill_by_all, length-map-range_with_len, get_or-map-range_with_len}
-use Rattle.zy_base.specs.declared.entry.Entry.{Entry}
-use Rattle.zy_base.specs.Order.{of_connection}
-use Rattle.zy_base.proofs.EntryLemmas.{of_connection-here}
-use Rattle.zy_base.proofs.MergeLemmas.{merge_keeps_calls, merge_is_legal}
+use Rattle.mc_calls.specs.declared.entry.Entry.{Entry}
+use Rattle.mc_calls.specs.Order.{of_connection}
+use Rattle.mc_calls.proofs.EntryLemmas.{of_connection-here}
+use Rattle.mc_calls.proofs.MergeLemmas.{merge_keeps_calls, merge_is_legal}
 use Rattle.zy_capture.specs.declared.record.Record.{Record}
 use Rattle.mc_parse.specs.Calls.{dues_of}
 use Rattle.mc_reply.specs.Texts.{texts_of}

@@ -4,8 +4,8 @@ use Rattle.std.proofs.Common.{◌≡◌, ℕ, zero, suc, List, [], ◌∷◌, le
 use Rattle.zy_capture.specs.declared.record.Record.{Record}
 use Rattle.zy_rx.specs.Ring.{Offering}
 use Rattle.zy_home.specs.Home.{Homed, HomeStands, is_settled, all_here}
-use Rattle.zy_rx.specs.Routing.{offered_to}
-use Rattle.zy_rx.proofs.TakenLemmas.{all_taken}
+use Rattle.zy_feed.specs.Routing.{offered_to}
+use Rattle.zy_feed.proofs.TakenLemmas.{all_taken}
 use Rattle.zy_core.specs.Share.{Sharing}
 use Rattle.zy_core.specs.Core.{Cored, Identity, identity_of}
 use Rattle.zy_core.specs.Cores.{identities, AreCores, EachSettled}

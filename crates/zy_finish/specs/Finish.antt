@@ -1,9 +1,9 @@
 -- What a run leaves: its journal, and its outputs.
 use Rattle.std.specs.Prelude.{◌≡◌, ℕ, ◌<◌, ◌≤◌, List, None, Some, slice_get}
 use Rattle.std.specs.List.{AllByRecursion}
-use Rattle.zy_base.specs.declared.hold.Hold.{Hold}
-use Rattle.zy_base.specs.Bounds.{FitsEntry}
-use Rattle.zy_base.specs.Order.{IsOrdered}
+use Rattle.mc_calls.specs.declared.hold.Hold.{Hold}
+use Rattle.mc_calls.specs.Bounds.{FitsEntry}
+use Rattle.mc_calls.specs.Order.{IsOrdered}
 use Rattle.zy_capture.specs.declared.record.Record.{Record}
 use Rattle.zy_capture.specs.Outputs.{AreOutputs}
 use Rattle.zy_journal.specs.Journal.{IsJournal}
@@ -11,7 +11,7 @@ use Rattle.zy_run.specs.Commands.{streams_in, commands_in}
 use Rattle.zy_run.specs.Run.{IsRun}
 use Rattle.zy_run.specs.Output.{all_outputs}
 use Rattle.zy_run.specs.Spans.{Spans}
-use Rattle.zy_rx.specs.Routing.{offered_to}
+use Rattle.zy_feed.specs.Routing.{offered_to}
 use Rattle.zy_home.specs.Home.{Homed, HomeStands}
 use Rattle.zy_finish.specs.declared.finishing.Finished.{Finished}
 

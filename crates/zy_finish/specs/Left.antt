@@ -1,9 +1,9 @@
 -- A connection, when all of it is served.
 use Rattle.std.specs.Prelude.{◌≡◌, ℕ, ◌+◌, ◌-◌, List, [], ◌∷◌, length, take, drop}
 use Rattle.std.specs.List.{concat}
-use Rattle.zy_base.specs.declared.entry.Entry.{Entry}
-use Rattle.zy_base.specs.declared.hold.Hold.{Hold}
-use Rattle.zy_base.specs.Held.{held_in}
+use Rattle.mc_calls.specs.declared.entry.Entry.{Entry}
+use Rattle.mc_calls.specs.declared.hold.Hold.{Hold}
+use Rattle.mc_calls.specs.Held.{held_in}
 use Rattle.mc_parse.specs.Calls.{due, dues_of}
 use Rattle.mc_reply.specs.Texts.{texts_of}
 use Rattle.zy_frame.specs.Cut.{commands_of}

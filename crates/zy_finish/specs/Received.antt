@@ -2,7 +2,7 @@
 use Rattle.std.specs.Prelude.{◌≡◌, ℕ, List, length, map, true, Some, slice_get}
 use Rattle.zy_capture.specs.declared.record.Record.{Record}
 use Rattle.zy_rx.specs.declared.rx.Rx.{Rx}
-use Rattle.zy_rx.specs.Routing.{offered_to}
+use Rattle.zy_feed.specs.Routing.{offered_to}
 use Rattle.zy_home.specs.Home.{Homed, is_settled}
 use Rattle.zy_core.specs.Core.{Cored}
 

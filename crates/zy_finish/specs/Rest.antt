@@ -2,9 +2,9 @@
 -- public clause cites this module.
 use Rattle.std.specs.Prelude.{◌≡◌, ℕ, zero, suc, ◌<◌, List, [], ◌∷◌, ◌++◌, length, map, drop, Option, None, Some, slice_get, option_map}
 use Rattle.atomic_table.specs.Seated.{TableId}
-use Rattle.zy_base.specs.declared.entry.Entry.{Entry}
-use Rattle.zy_base.specs.declared.hold.Hold.{Hold}
-use Rattle.zy_base.specs.Order.{IsMergeOf}
+use Rattle.mc_calls.specs.declared.entry.Entry.{Entry}
+use Rattle.mc_calls.specs.declared.hold.Hold.{Hold}
+use Rattle.mc_calls.specs.Order.{IsMergeOf}
 use Rattle.zy_rx.specs.Flow.{home_of}
 use Rattle.mc_store.specs.Joined.{Joined}
 use Rattle.mc_store.specs.Closing.{AreClosed}

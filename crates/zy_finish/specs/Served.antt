@@ -1,9 +1,9 @@
 -- All connections, when the store is closed.
 use Rattle.std.specs.Prelude.{◌≡◌, ℕ, ◌<◌, ◌≤◌, List, [], map, flat_map}
 use Rattle.std.specs.List.{range_with_len}
-use Rattle.zy_base.specs.declared.entry.Entry.{Entry}
-use Rattle.zy_base.specs.declared.hold.Hold.{Hold}
-use Rattle.zy_base.specs.Order.{IsMergeOf}
+use Rattle.mc_calls.specs.declared.entry.Entry.{Entry}
+use Rattle.mc_calls.specs.declared.hold.Hold.{Hold}
+use Rattle.mc_calls.specs.Order.{IsMergeOf}
 use Rattle.zy_capture.specs.declared.record.Record.{Record}
 use Rattle.mc_store.specs.Joined.{Joined, calls_of}
 use Rattle.mc_store.specs.Closing.{AreClosed}

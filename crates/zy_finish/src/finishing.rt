@@ -12,9 +12,10 @@ ghost use Rattle.zy_finish.specs.Rest.{AreMerged};
 
 use crate::gathered::Gathered;
 use crate::rest::rests_of;
+use mc_calls::Holds;
 use mc_store::{Root, StoreTable};
 use std::alloc::Global;
-use zy_base::{Holds, NoMemory};
+use zy_base::NoMemory;
 use zy_capture::Outputs;
 use zy_home::Home;
 use zy_journal::{Journal, merge, rising_histories_are_in_order};

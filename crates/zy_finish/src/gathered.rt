@@ -5,9 +5,10 @@ ghost use Rattle.zy_finish.specs.Rest.{IsThere, Gathers, HasGathered};
 
 use crate::rest::{Last, Rest};
 use crate::sessions::add_sessions;
+use mc_calls::{Hold, Holds};
 use mc_store::{Root, StoreTable};
 use std::alloc::Global;
-use zy_base::{Hold, Holds, NoMemory};
+use zy_base::NoMemory;
 use zy_capture::Outputs;
 use zy_rx::FlowTable;
 

@@ -3,8 +3,8 @@ use Rattle.std.specs.Prelude.{nat_lt, if◌then◌else◌, Option, None, Some, M
 use Rattle.std.specs.List.{AllByRecursion}
 use Rattle.std.proofs.Common.{◌≡◌, ℕ, ◌+◌, ◌-◌, ◌≤◌, List, [], ◌∷◌, length, map, Bool, true, false, refl, arith, length-take}
 use borrow.Author.Tests.{ltb-false}
-use Rattle.zy_base.specs.Shard.{value_limit}
-use Rattle.zy_base.specs.Bounds.{IsValue}
+use Rattle.mc_calls.specs.Shard.{value_limit}
+use Rattle.mc_calls.specs.Bounds.{IsValue}
 use Rattle.mc_parse.specs.declared.need.Need.{Need}
 use Rattle.mc_parse.specs.declared.need.Need.TheVariants as Needs
 use Rattle.mc_parse.specs.Words.{line_limit}

@@ -2,7 +2,7 @@
 -- this module.
 use Rattle.std.specs.Prelude.{◌≡◌, ℕ, ◌+◌, ◌<◌, ◌≤◌, ◌==◌, nat_lt, if◌then◌else◌, Bool, true, false, List, []}
 use Rattle.std.specs.Prelude.{◌∷◌, ◌++◌, length, drop, Option, option_to_list, Result, Ok, Err, ⊤}
-use Rattle.zy_base.specs.Shard.{value_limit}
+use Rattle.mc_calls.specs.Shard.{value_limit}
 use Rattle.mc_parse.specs.declared.need.Need.{Need}
 use Rattle.mc_parse.specs.declared.need.Need.TheVariants as Needs
 use Rattle.zy_base.specs.declared.outside.NoMemory.{NoMemory}

@@ -1,6 +1,6 @@
 //! Laws over the definitions of this crate.
 ghost use Rattle.std.specs.Prelude.{◌≡◌, ℕ, ◌≤◌, List};
-ghost use Rattle.zy_base.specs.declared.entry.Entry.{Entry};
+ghost use Rattle.mc_calls.specs.declared.entry.Entry.{Entry};
 ghost use Rattle.zy_capture.specs.Capture.{Spells};
 ghost use Rattle.zy_capture.specs.Verdict.{verdict};
 ghost use Rattle.zy_capture.specs.Verdict.Verdict.{Good};

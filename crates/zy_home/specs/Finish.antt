@@ -1,6 +1,6 @@
 -- A connection at the end, when all that it received was carried out.
 use Rattle.std.specs.Prelude.{◌≡◌, ℕ, List, length, flat_map}
-use Rattle.zy_base.specs.declared.entry.Entry.{Entry}
+use Rattle.mc_calls.specs.declared.entry.Entry.{Entry}
 use Rattle.mc_parse.specs.declared.command.Command.{Command}
 use Rattle.mc_parse.specs.Calls.{due, dues_of}
 use Rattle.mc_reply.specs.Texts.{texts_of}

@@ -3,10 +3,10 @@
 use Rattle.std.proofs.Common.{◌≡◌, inl, ℕ, ◌-◌, ◌==◌, Bool, true, false, true≢false, List, [], ◌∷◌, ◌++◌, length, get_or, refl, sym, ◌∙◌, ap}
 use Rattle.std.specs.Prelude.{if◌then◌else◌, Option, Some, None, Result, Err, ⊤}
 use Rattle.std.specs.Int.{from_be_bytes, w32, w64}
-use Rattle.zy_base.specs.declared.call_kind.CallFields.{CallFields}
+use Rattle.mc_calls.specs.declared.call_kind.CallFields.{CallFields}
 use Rattle.zy_base.specs.declared.file_fault.FileFault.{FileFault}
 use Rattle.zy_base.specs.declared.file_fault.FileFault.TheVariants.{Truncated}
-use Rattle.zy_base.specs.Code.{kind_of, fields_of, hit_code, number_code, tally_code}
+use Rattle.mc_calls.specs.Code.{kind_of, fields_of, hit_code, number_code, tally_code}
 use Rattle.zy_read.specs.declared.not_taken.NotTaken.{NotTaken}
 use Rattle.zy_read.specs.declared.not_taken.NotTaken.TheVariants.{Fault}
 use Rattle.zy_read.specs.Standing.{given_in, Feeds, TellsFault, TellsLasting}

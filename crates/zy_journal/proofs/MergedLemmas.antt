@@ -5,10 +5,10 @@ use Rattle.std.specs.List.{sum_by}
 use Rattle.std.proofs.lemmas.Bool.{cases_Bool}
 use Rattle.std.proofs.lemmas.List.Sums.{sum_by-append}
 use Rattle.std.proofs.lemmas.Bool.Decides.{nat_tests, eqb_tells}
-use Rattle.zy_base.specs.declared.entry.Entry.{Entry}
-use Rattle.zy_base.specs.Order.{at_shard, AreAt, history_of, StampsRise, IsBefore, IsBehind, IsOrdered, IsMergeOf}
-use Rattle.zy_base.proofs.EntryLemmas.{at_shard-here, at_shard-other}
-use Rattle.zy_base.proofs.MergeLemmas.{merge_is_one}
+use Rattle.mc_calls.specs.declared.entry.Entry.{Entry}
+use Rattle.mc_calls.specs.Order.{at_shard, AreAt, history_of, StampsRise, IsBefore, IsBehind, IsOrdered, IsMergeOf}
+use Rattle.mc_calls.proofs.EntryLemmas.{at_shard-here, at_shard-other}
+use Rattle.mc_calls.proofs.MergeLemmas.{merge_is_one}
 use Rattle.zy_journal.specs.Merged.{is_earlier, inserted, inserted_all, merged, AreInOrder}
 use Rattle.zy_journal.specs.Walk.{first_stamp, head_of, IsLeast, IsTakenAt, IsNext}
 use Rattle.zy_journal.proofs.OrderLemmas.{ordered_rising, ordered_rest}

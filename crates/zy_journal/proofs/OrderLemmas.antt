@@ -1,8 +1,8 @@
 -- Entries whose stamps rise, and lists in order.
 use Rattle.std.proofs.Common.{◌≡◌, inl, inr, ℕ, ◌<◌, List, [], ◌∷◌, length, refl, sym, ◌∙◌, arith}
 use Rattle.std.specs.Prelude.{None, Some}
-use Rattle.zy_base.specs.declared.entry.Entry.{Entry}
-use Rattle.zy_base.specs.Order.{AreAt, StampsRise, IsBefore, IsOrdered}
+use Rattle.mc_calls.specs.declared.entry.Entry.{Entry}
+use Rattle.mc_calls.specs.Order.{AreAt, StampsRise, IsBefore, IsOrdered}
 
 rising_after : (x : Entry) (es : List Entry) → StampsRise x.stamp es → IsOrdered (Some x) es
 rising_after x [] rising = tt

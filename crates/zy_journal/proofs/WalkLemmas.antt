@@ -4,8 +4,8 @@ use Rattle.std.specs.Prelude.{Option, None, Some}
 use Rattle.std.proofs.Math.Nat.{div-add-mod, mod-lt}
 use Rattle.std.proofs.lemmas.List.{get_or-set_same, get_or-set_other}
 use Rattle.std.proofs.lemmas.Bool.Decides.{nat_tests, eqb_tells}
-use Rattle.zy_base.specs.declared.entry.Entry.{Entry}
-use Rattle.zy_base.specs.Order.{history_of}
+use Rattle.mc_calls.specs.declared.entry.Entry.{Entry}
+use Rattle.mc_calls.specs.Order.{history_of}
 use Rattle.zy_journal.specs.Merged.{is_earlier}
 use Rattle.zy_journal.specs.declared.heads.Head.{Head}
 use Rattle.zy_journal.specs.Walk.{rests_of, first_stamp, head_of, AreHeads, AreBests, IsFirstOf, IsBest, IsLeast, IsTakenAt}

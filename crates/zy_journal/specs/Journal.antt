@@ -2,17 +2,17 @@
 use Rattle.std.specs.Prelude.{ℕ, ◌<◌, ◌≤◌, List, [], ◌∷◌, ◌++◌, length, flat_map, codes, Option, None, Some}
 use Rattle.std.specs.List.{AllByRecursion}
 use Rattle.std.specs.Int.{to_be_bytes, w32, w64}
-use Rattle.zy_base.specs.declared.call.Call.{Call}
-use Rattle.zy_base.specs.declared.call_reply.CallReply.{CallReply}
-use Rattle.zy_base.specs.declared.entry.Entry.{Entry}
-use Rattle.zy_base.specs.declared.hold.Hold.{Hold}
-use Rattle.zy_base.specs.declared.tallied.Tallied.{Tallied}
-use Rattle.zy_base.specs.Call.{key_of}
-use Rattle.zy_base.specs.Code.{call_code, call_flags, call_number, call_value, reply_code, reply_flags, reply_number}
-use Rattle.zy_base.specs.Code.{reply_value, reply_counts}
-use Rattle.zy_base.specs.Bounds.{IsCall, IsReply}
+use Rattle.mc_calls.specs.declared.call.Call.{Call}
+use Rattle.mc_calls.specs.declared.call_reply.CallReply.{CallReply}
+use Rattle.mc_calls.specs.declared.entry.Entry.{Entry}
+use Rattle.mc_calls.specs.declared.hold.Hold.{Hold}
+use Rattle.mc_calls.specs.declared.tallied.Tallied.{Tallied}
+use Rattle.mc_calls.specs.Call.{key_of}
+use Rattle.mc_calls.specs.Code.{call_code, call_flags, call_number, call_value, reply_code, reply_flags, reply_number}
+use Rattle.mc_calls.specs.Code.{reply_value, reply_counts}
+use Rattle.mc_calls.specs.Bounds.{IsCall, IsReply}
 use Rattle.zy_base.specs.Limits.{connection_limit, shard_limit, core_limit, hold_limit, command_limit, stamp_limit}
-use Rattle.zy_base.specs.Order.{IsOrdered}
+use Rattle.mc_calls.specs.Order.{IsOrdered}
 use Rattle.zy_journal.specs.declared.journal.Journal.{Journal}
 
 -- ---- spelling

@@ -1,6 +1,6 @@
 -- The entries of a journal by how they are kept. No public clause cites this module.
 use Rattle.std.specs.Prelude.{◌≤◌, List, length}
-use Rattle.zy_base.specs.declared.entry.Entry.{Entry}
+use Rattle.mc_calls.specs.declared.entry.Entry.{Entry}
 use Rattle.zy_journal.specs.declared.journal.Kept.{Kept}
 use Rattle.zy_journal.specs.declared.journal.Kept.TheVariants.{Listed, Apart}
 use Rattle.zy_journal.specs.Merged.{AreInOrder, merged}

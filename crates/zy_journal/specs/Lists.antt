@@ -1,7 +1,7 @@
 -- What contracts see of a journal.
 use Rattle.std.specs.Prelude.{List}
-use Rattle.zy_base.specs.declared.entry.Entry.{Entry}
-use Rattle.zy_base.specs.declared.hold.Hold.{Hold}
+use Rattle.mc_calls.specs.declared.entry.Entry.{Entry}
+use Rattle.mc_calls.specs.declared.hold.Hold.{Hold}
 
 -- the two lists of a journal
 pub record JournalLists : Type 0 where

@@ -1,8 +1,8 @@
 -- The merged list of histories, as a function of them. No public clause cites this module: that the list is the merge
 -- of the histories is a clause of `merge`.
 use Rattle.std.specs.Prelude.{ℕ, ◌==◌, ◌&&◌, ◌||◌, nat_lt, if◌then◌else◌, Bool, List, [], ◌∷◌, None}
-use Rattle.zy_base.specs.declared.entry.Entry.{Entry}
-use Rattle.zy_base.specs.Order.{AreByShard, history_of, IsOrdered}
+use Rattle.mc_calls.specs.declared.entry.Entry.{Entry}
+use Rattle.mc_calls.specs.Order.{AreByShard, history_of, IsOrdered}
 
 -- an entry with this stamp and shard comes before one with those: its stamp is lower, or the stamps are equal and its
 -- shard is lower

@@ -1,8 +1,8 @@
 -- What is left of histories that are walked, and which of their first entries comes next. No public clause cites this
 -- module.
 use Rattle.std.specs.Prelude.{◌≡◌, ◌≢◌, ℕ, ◌+◌, ◌*◌, ◌<◌, ◌≤◌, true, get_or, List, [], ◌∷◌, drop, Option, None, Some}
-use Rattle.zy_base.specs.declared.entry.Entry.{Entry}
-use Rattle.zy_base.specs.Order.{history_of}
+use Rattle.mc_calls.specs.declared.entry.Entry.{Entry}
+use Rattle.mc_calls.specs.Order.{history_of}
 use Rattle.zy_journal.specs.declared.heads.Head.{Head}
 use Rattle.zy_journal.specs.Merged.{is_earlier}
 

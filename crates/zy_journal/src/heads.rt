@@ -2,7 +2,7 @@
 ghost use Rattle.std.specs.Prelude.{◌≡◌, ◌+◌, ◌*◌, ◌<◌, ◌≤◌, ℕ, None, length, drop};
 ghost use Rattle.zy_journal.specs.Walk.{first_stamp, head_of, AreHeads, AreBests, IsBest};
 
-use zy_base::{Entries, Entry};
+use mc_calls::{Entries, Entry};
 
 /// The first entry of a history: its shard and its stamp.
 #[derive(Clone, Copy)]

@@ -3,8 +3,8 @@ ghost use Rattle.std.specs.Prelude.{◌≡◌, ◌≤◌, length, IfSome};
 ghost use Rattle.zy_journal.specs.Merged.{AreInOrder, merged};
 
 use crate::walk::Walk;
+use mc_calls::{Entries, Hold, Holds};
 use std::marker::Model;
-use zy_base::{Entries, Hold, Holds};
 
 /// The calls of all connections in the order in which they count, and the holds. Contracts see the
 /// two lists: the entries by stamp and then by shard, and the holds by rising connection and, for

@@ -1,7 +1,7 @@
 //! Laws over the definitions of this crate.
 ghost use Rattle.std.specs.Prelude.{ℕ, List, None};
-ghost use Rattle.zy_base.specs.declared.entry.Entry.{Entry};
-ghost use Rattle.zy_base.specs.Order.{StampsRise, IsOrdered};
+ghost use Rattle.mc_calls.specs.declared.entry.Entry.{Entry};
+ghost use Rattle.mc_calls.specs.Order.{StampsRise, IsOrdered};
 
 /// A history along which stamps rise is in order, as `merge` requires.
 pub fn rising_histories_are_in_order()

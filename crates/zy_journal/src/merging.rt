@@ -1,9 +1,9 @@
 //! Merging the histories of all shards.
 ghost use Rattle.std.specs.Prelude.{◌≡◌, None, IfOk, IfErr};
-ghost use Rattle.zy_base.specs.Order.{IsOrdered, IsMergeOf, history_of};
+ghost use Rattle.mc_calls.specs.Order.{IsOrdered, IsMergeOf, history_of};
 
 use crate::journal::Journal;
-use zy_base::{Histories, Holds};
+use mc_calls::{Histories, Holds};
 
 /// The entries of all histories by stamp and then by shard, and the holds. No entry is moved: the
 /// journal keeps the histories, and a walk through its entries merges them on the way.

@@ -3,8 +3,8 @@ ghost use Rattle.std.specs.Prelude.{◌≡◌, ◌<◌, ◌≤◌, None, IfSome,
 ghost use Rattle.zy_journal.specs.Walk.{head_of, IsLeast, IsNext, IsTakenAt};
 
 use crate::heads::{Head, best_of, bests_of, first_of, heads_of, stamp_at};
+use mc_calls::{Entries, Entry};
 use std::marker::Model;
-use zy_base::{Entries, Entry};
 
 /// The entries of each history that were not taken yet. Contracts see these lists.
 #[derive(Drop)]
@@ -20,7 +20,7 @@ pub(crate) struct Rests<'h> {
 
 impl<'h> Model for Rests<'h> {
     ghost use Rattle.std.specs.Prelude.{List, ◌≤◌, length};
-    ghost use Rattle.zy_base.specs.declared.entry.Entry.{Entry};
+    ghost use Rattle.mc_calls.specs.declared.entry.Entry.{Entry};
     ghost use Rattle.zy_journal.specs.Walk.{rests_of, AreHeads, AreBests};
 
     ghost Value = { List (List Entry) };

@@ -3,8 +3,8 @@ ghost use Rattle.std.specs.Prelude.{◌≡◌, ◌∷◌, ◌≤◌, [], length,
 ghost use Rattle.zy_journal.specs.Merged.{AreInOrder, merged};
 
 use crate::rests::Rests;
+use mc_calls::{Entries, Entry};
 use std::marker::Model;
-use zy_base::{Entries, Entry};
 
 /// The entries of a journal that were not read yet. Contracts see it as their list.
 #[derive(Drop)]
@@ -16,7 +16,7 @@ pub struct Walk<'j> {
 
 impl<'j> Model for Walk<'j> {
     ghost use Rattle.std.specs.Prelude.{List, ◌++◌};
-    ghost use Rattle.zy_base.specs.declared.entry.Entry.{Entry};
+    ghost use Rattle.mc_calls.specs.declared.entry.Entry.{Entry};
     ghost use Rattle.zy_journal.specs.Merged.{AreInOrder, merged};
 
     ghost Value = { List Entry };

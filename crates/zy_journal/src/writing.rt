@@ -2,7 +2,7 @@
 ghost use Rattle.std.specs.Prelude.{◌∷◌, ◌++◌, flat_map, IfSome, option_copied};
 ghost use Rattle.std.specs.List.{AllByRecursion};
 ghost use Rattle.std.specs.Int.{to_be_bytes, w32, w64};
-ghost use Rattle.zy_base.specs.Bounds.{IsKey, IsValue, IsCall, IsReply};
+ghost use Rattle.mc_calls.specs.Bounds.{IsKey, IsValue, IsCall, IsReply};
 ghost use Rattle.zy_base.specs.Outside.{Writes};
 ghost use Rattle.zy_journal.specs.Journal.{IsJournal, IsEntry, journal_bytes};
 ghost use Rattle.zy_journal.specs.Journal.{entry_head, entry_text, call_text, reply_text, hold_text};
@@ -12,9 +12,8 @@ use crate::gathered::{put, put_flags, put_number};
 use crate::journal::Journal;
 use crate::walk::Walk;
 use arrayvec::ArrayVec;
-use zy_base::{
-    Blob, Call, CallReply, Entry, Failed, Hold, Sink, Tallied, write_pieces, write_whole,
-};
+use mc_calls::{Call, CallReply, Entry, Hold, Tallied};
+use zy_base::{Blob, Failed, Sink, write_pieces, write_whole};
 
 /// Writes a journal whose numbers, keys and values are within the format's bounds. Takes no memory.
 ///

@@ -2,11 +2,11 @@
 use Rattle.std.proofs.Common.{◌≡◌, ℕ, ◌<◌, ◌≤◌, ◌^◌, Bool, true, false, List, [], ◌∷◌, ◌++◌, refl, sym, ap, ◌∙◌, subst, append_assoc}
 use Rattle.std.specs.Prelude.{◌==◌, if◌then◌else◌, Option, IfSome}
 use Rattle.std.specs.Int.{to_be_bytes, w32, w64}
-use Rattle.zy_base.specs.declared.call.Call.{Call}
-use Rattle.zy_base.specs.declared.call_kind.CallFields.{CallFields}
-use Rattle.zy_base.specs.Code.{code_of, fields_of, call_of, hit_code, number_code, tally_code, last_reply_code, plain_reply}
-use Rattle.zy_base.specs.Bounds.{IsKey, IsValue, IsCall, IsReply, FitsCall, FitsReply}
-use Rattle.zy_base.proofs.CodeLemmas.{there, call_has, call_within, reply_within, plain_is}
+use Rattle.mc_calls.specs.declared.call.Call.{Call}
+use Rattle.mc_calls.specs.declared.call_kind.CallFields.{CallFields}
+use Rattle.mc_calls.specs.Code.{code_of, fields_of, call_of, hit_code, number_code, tally_code, last_reply_code, plain_reply}
+use Rattle.mc_calls.specs.Bounds.{IsKey, IsValue, IsCall, IsReply, FitsCall, FitsReply}
+use Rattle.mc_calls.proofs.CodeLemmas.{there, call_has, call_within, reply_within, plain_is}
 use Rattle.zy_journal.specs.Journal.{key_text, value_text, field_text, call_text, reply_text}
 use Rattle.zy_journal_reader.specs.declared.draft.Draft.{Draft}
 

@@ -3,8 +3,8 @@ use Rattle.std.proofs.Common.{◌≡◌, ℕ, ◌<◌, ◌^◌, Bool, true, fals
 use Rattle.std.specs.Prelude.{if◌then◌else◌}
 use Rattle.std.specs.Int.{to_be_bytes, w32, w64}
 use Rattle.std.proofs.lemmas.List.{append-nil}
-use Rattle.zy_base.specs.Code.{code_of}
-use Rattle.zy_base.specs.Bounds.{IsKey, IsValue}
+use Rattle.mc_calls.specs.Code.{code_of}
+use Rattle.mc_calls.specs.Bounds.{IsKey, IsValue}
 use Rattle.zy_journal.specs.Journal.{key_text, value_text, call_text}
 use Rattle.zy_journal_reader.specs.declared.draft.Draft.{Draft}
 use Rattle.zy_journal_reader.specs.declared.due.Due.{Due}

@@ -1,9 +1,9 @@
 -- A byte that ends a key or a value.
 use Rattle.std.proofs.Common.{◌≡◌, ℕ, ◌<◌, List, [], ◌∷◌, ◌++◌, length, sym, ◌∙◌, ap, arith, append_assoc}
 use Rattle.std.specs.Int.{to_be_bytes, w32, w64}
-use Rattle.zy_base.specs.declared.call_reply.CallReply.TheVariants as Replies
-use Rattle.zy_base.specs.Code.{code_of, hit_code}
-use Rattle.zy_base.specs.Bounds.{IsKey, IsValue}
+use Rattle.mc_calls.specs.declared.call_reply.CallReply.TheVariants as Replies
+use Rattle.mc_calls.specs.Code.{code_of, hit_code}
+use Rattle.mc_calls.specs.Bounds.{IsKey, IsValue}
 use Rattle.zy_journal.specs.Journal.{key_text, value_text, call_text, reply_text}
 use Rattle.zy_journal_reader.specs.declared.draft.Draft.{Draft}
 use Rattle.zy_journal_reader.specs.declared.due.Due.TheVariants.{Bytes}

@@ -4,11 +4,11 @@ use Rattle.std.specs.Prelude.{◌==◌}
 use Rattle.std.specs.Int.{to_be_bytes, w32}
 use Rattle.std.proofs.lemmas.List.{append-nil}
 use Rattle.std.proofs.lemmas.Bool.{eqb-true}
-use Rattle.zy_base.specs.declared.call_reply.CallReply.{CallReply}
-use Rattle.zy_base.specs.declared.entry.Entry.{Entry}
-use Rattle.zy_base.specs.declared.hold.Hold.{Hold}
-use Rattle.zy_base.specs.Code.{code_of, kind_of, hit_code, number_code, tally_code, last_reply_code, plain_reply}
-use Rattle.zy_base.specs.Bounds.{IsReply, FitsReply}
+use Rattle.mc_calls.specs.declared.call_reply.CallReply.{CallReply}
+use Rattle.mc_calls.specs.declared.entry.Entry.{Entry}
+use Rattle.mc_calls.specs.declared.hold.Hold.{Hold}
+use Rattle.mc_calls.specs.Code.{code_of, kind_of, hit_code, number_code, tally_code, last_reply_code, plain_reply}
+use Rattle.mc_calls.specs.Bounds.{IsReply, FitsReply}
 use Rattle.zy_journal.specs.Journal.{call_text, reply_text, entry_head, entry_text, hold_text}
 use Rattle.zy_journal_reader.specs.declared.due.Due.{Due}
 use Rattle.zy_journal_reader.specs.declared.due.Due.TheVariants.{Byte, Number}

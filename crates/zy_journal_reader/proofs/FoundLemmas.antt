@@ -5,15 +5,15 @@ use Rattle.std.specs.Int.{to_be_bytes, from_be_bytes, w32, w64}
 use Rattle.std.proofs.lemmas.List.{append-nil, length-take-le, take-append-drop}
 use Rattle.std.proofs.lemmas.Bool.Decides.{nat_tests}
 use Rattle.std.proofs.lemmas.Nat.{be_bytes_4, be_bytes_8}
-use Rattle.zy_base.specs.declared.call.Call.{Call}
-use Rattle.zy_base.specs.declared.call_kind.CallKind.{CallKind}
-use Rattle.zy_base.specs.declared.call_reply.CallReply.{CallReply}
-use Rattle.zy_base.specs.declared.call_reply.CallReply.TheVariants as Replies
-use Rattle.zy_base.specs.declared.hold.Hold.{Hold}
-use Rattle.zy_base.specs.Code.{code_of, kind_of, fields_of, call_of, hit_code, number_code, tally_code, last_call_code, last_reply_code, plain_reply}
-use Rattle.zy_base.specs.Bounds.{IsKey, IsValue}
+use Rattle.mc_calls.specs.declared.call.Call.{Call}
+use Rattle.mc_calls.specs.declared.call_kind.CallKind.{CallKind}
+use Rattle.mc_calls.specs.declared.call_reply.CallReply.{CallReply}
+use Rattle.mc_calls.specs.declared.call_reply.CallReply.TheVariants as Replies
+use Rattle.mc_calls.specs.declared.hold.Hold.{Hold}
+use Rattle.mc_calls.specs.Code.{code_of, kind_of, fields_of, call_of, hit_code, number_code, tally_code, last_call_code, last_reply_code, plain_reply}
+use Rattle.mc_calls.specs.Bounds.{IsKey, IsValue}
 use Rattle.zy_base.specs.Limits.{connection_limit, core_limit, hold_limit}
-use Rattle.zy_base.proofs.CodeLemmas.{code_back}
+use Rattle.mc_calls.proofs.CodeLemmas.{code_back}
 use Rattle.zy_read.specs.Bytes.{AreBytes}
 use Rattle.zy_read.proofs.ByteLemmas.{each_byte, byte_at, bytes_take}
 use Rattle.zy_journal.specs.Journal.{key_text, value_text, call_text, reply_text, entry_head, entry_text, hold_text}

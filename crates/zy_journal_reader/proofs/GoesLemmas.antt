@@ -4,16 +4,16 @@ use Rattle.std.specs.Prelude.{◌==◌, ◌&&◌, ◌||◌, nat_lt, nat_le, if�
 use Rattle.std.specs.Int.{to_be_bytes, w32, w64}
 use Rattle.std.proofs.lemmas.List.{append-nil}
 use Rattle.std.proofs.lemmas.Bool.Decides.{nat_tests}
-use Rattle.zy_base.specs.declared.call.Call.{Call}
-use Rattle.zy_base.specs.declared.call_kind.CallKind.{CallKind}
-use Rattle.zy_base.specs.declared.call_reply.CallReply.{CallReply}
-use Rattle.zy_base.specs.declared.call_reply.CallReply.TheVariants.{Hit}
-use Rattle.zy_base.specs.declared.call_reply.CallReply.TheVariants as Replies
-use Rattle.zy_base.specs.declared.tallied.Tallied.{Tallied}
-use Rattle.zy_base.specs.Shard.{value_limit}
-use Rattle.zy_base.specs.Code.{code_of, fields_of, call_of, last_call_code, hit_code, number_code, tally_code, last_reply_code, tally, plain_reply}
-use Rattle.zy_base.specs.Bounds.{IsKey, IsValue, IsCall, IsReply, FitsCall, FitsReply}
-use Rattle.zy_base.proofs.CodeLemmas.{there, either_of, kind_back, code_within, call_has, key_within, value_within, of_forms}
+use Rattle.mc_calls.specs.declared.call.Call.{Call}
+use Rattle.mc_calls.specs.declared.call_kind.CallKind.{CallKind}
+use Rattle.mc_calls.specs.declared.call_reply.CallReply.{CallReply}
+use Rattle.mc_calls.specs.declared.call_reply.CallReply.TheVariants.{Hit}
+use Rattle.mc_calls.specs.declared.call_reply.CallReply.TheVariants as Replies
+use Rattle.mc_calls.specs.declared.tallied.Tallied.{Tallied}
+use Rattle.mc_calls.specs.Shard.{value_limit}
+use Rattle.mc_calls.specs.Code.{code_of, fields_of, call_of, last_call_code, hit_code, number_code, tally_code, last_reply_code, tally, plain_reply}
+use Rattle.mc_calls.specs.Bounds.{IsKey, IsValue, IsCall, IsReply, FitsCall, FitsReply}
+use Rattle.mc_calls.proofs.CodeLemmas.{there, either_of, kind_back, code_within, call_has, key_within, value_within, of_forms}
 use Rattle.zy_journal.specs.Journal.{key_text, value_text, field_text, call_text, reply_text}
 use Rattle.zy_journal_reader.specs.declared.draft.Draft.{Draft}
 use Rattle.zy_journal_reader.specs.declared.due.Due.{Due}

@@ -4,10 +4,10 @@ use Rattle.std.specs.Prelude.{◌==◌}
 use Rattle.std.specs.Int.{to_be_bytes, w32, w64}
 use Rattle.std.proofs.lemmas.List.{append-nil}
 use Rattle.std.proofs.lemmas.Bool.{eqb-true}
-use Rattle.zy_base.specs.declared.call_reply.CallReply.TheVariants as Replies
-use Rattle.zy_base.specs.Shard.{value_limit}
-use Rattle.zy_base.specs.Code.{code_of, hit_code, number_code, tally_code, tally}
-use Rattle.zy_base.specs.Bounds.{IsValue}
+use Rattle.mc_calls.specs.declared.call_reply.CallReply.TheVariants as Replies
+use Rattle.mc_calls.specs.Shard.{value_limit}
+use Rattle.mc_calls.specs.Code.{code_of, hit_code, number_code, tally_code, tally}
+use Rattle.mc_calls.specs.Bounds.{IsValue}
 use Rattle.zy_journal.specs.Journal.{value_text, call_text, reply_text}
 use Rattle.zy_journal_reader.specs.declared.draft.Draft.{Draft}
 use Rattle.zy_journal_reader.specs.declared.due.Due.TheVariants.{Number, Long}

@@ -2,7 +2,7 @@
 use Rattle.std.proofs.Common.{◌≢◌, ℕ, List, get_or, refl}
 use Rattle.std.specs.Prelude.{◌==◌, ⊤}
 use Rattle.std.specs.Int.{from_be_bytes, w32, w64}
-use Rattle.zy_base.specs.Code.{hit_code, number_code, tally_code}
+use Rattle.mc_calls.specs.Code.{hit_code, number_code, tally_code}
 use Rattle.zy_read.specs.Fields.Judged.{Then, Gives, Wrong}
 use Rattle.zy_read.specs.FieldReading.{IsQuiet}
 use Rattle.zy_journal_reader.specs.declared.due.Due.{Due}

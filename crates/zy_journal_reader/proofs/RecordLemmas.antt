@@ -1,8 +1,8 @@
 -- Whole records that are taken at once.
 use Rattle.std.proofs.Common.{◌≡◌, ℕ, ◌+◌, ◌-◌, List, [], ◌++◌, length, take, drop, take-add, sym, ◌∙◌, ap, subst, arith, length-append}
 use Rattle.std.proofs.lemmas.List.{take_at}
-use Rattle.zy_base.specs.declared.entry.Entry.{Entry}
-use Rattle.zy_base.specs.declared.hold.Hold.{Hold}
+use Rattle.mc_calls.specs.declared.entry.Entry.{Entry}
+use Rattle.mc_calls.specs.declared.hold.Hold.{Hold}
 use Rattle.zy_read.proofs.OverLemmas.{over_join}
 use Rattle.zy_journal.specs.Journal.{entry_text, hold_text}
 use Rattle.zy_journal_reader.specs.declared.draft.Draft.{Draft}

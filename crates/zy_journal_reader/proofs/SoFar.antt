@@ -3,12 +3,12 @@ use Rattle.std.proofs.Common.{◌≡◌, ◌⊎◌, ℕ, ◌<◌, ◌≤◌, ◌
 use Rattle.std.specs.Prelude.{Option, None, Some, flat_map, ⊤}
 use Rattle.std.specs.List.{AllByRecursion}
 use Rattle.std.specs.Int.{to_be_bytes, w32, w64}
-use Rattle.zy_base.specs.declared.entry.Entry.{Entry}
-use Rattle.zy_base.specs.declared.hold.Hold.{Hold}
-use Rattle.zy_base.specs.Order.{IsOrdered}
-use Rattle.zy_base.specs.Shard.{value_limit}
-use Rattle.zy_base.specs.Code.{code_of, hit_code, number_code, tally_code}
-use Rattle.zy_base.specs.Bounds.{IsCall, FitsCall, FitsEntry}
+use Rattle.mc_calls.specs.declared.entry.Entry.{Entry}
+use Rattle.mc_calls.specs.declared.hold.Hold.{Hold}
+use Rattle.mc_calls.specs.Order.{IsOrdered}
+use Rattle.mc_calls.specs.Shard.{value_limit}
+use Rattle.mc_calls.specs.Code.{code_of, hit_code, number_code, tally_code}
+use Rattle.mc_calls.specs.Bounds.{IsCall, FitsCall, FitsEntry}
 use Rattle.zy_journal.specs.Journal.{magic, call_text, entry_text, hold_text, IsEntry, IsHold, AreByConnection}
 use Rattle.zy_journal_reader.specs.declared.draft.Draft.{Draft}
 use Rattle.zy_journal_reader.specs.declared.past.Past.{Past}

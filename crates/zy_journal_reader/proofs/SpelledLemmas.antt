@@ -4,15 +4,15 @@ use Rattle.std.specs.Prelude.{◌==◌, Option, None, Some, flat_map}
 use Rattle.std.specs.List.{AllByRecursion}
 use Rattle.std.specs.Int.{to_be_bytes, w32, w64}
 use Rattle.std.proofs.lemmas.List.{append-nil}
-use Rattle.zy_base.specs.declared.call.Call.{Call}
-use Rattle.zy_base.specs.declared.call_kind.CallKind.{CallKind}
-use Rattle.zy_base.specs.declared.call_reply.CallReply.{CallReply}
-use Rattle.zy_base.specs.declared.entry.Entry.{Entry}
-use Rattle.zy_base.specs.declared.hold.Hold.{Hold}
-use Rattle.zy_base.specs.Code.{call_of}
-use Rattle.zy_base.specs.Bounds.{IsCall, IsReply, FitsCall, FitsReply, FitsEntry}
-use Rattle.zy_base.specs.Order.{IsOrdered, IsBehind}
-use Rattle.zy_base.proofs.CodeLemmas.{call_same, of_kinds}
+use Rattle.mc_calls.specs.declared.call.Call.{Call}
+use Rattle.mc_calls.specs.declared.call_kind.CallKind.{CallKind}
+use Rattle.mc_calls.specs.declared.call_reply.CallReply.{CallReply}
+use Rattle.mc_calls.specs.declared.entry.Entry.{Entry}
+use Rattle.mc_calls.specs.declared.hold.Hold.{Hold}
+use Rattle.mc_calls.specs.Code.{call_of}
+use Rattle.mc_calls.specs.Bounds.{IsCall, IsReply, FitsCall, FitsReply, FitsEntry}
+use Rattle.mc_calls.specs.Order.{IsOrdered, IsBehind}
+use Rattle.mc_calls.proofs.CodeLemmas.{call_same, of_kinds}
 use Rattle.zy_read.specs.Runs.{IsWhole}
 use Rattle.zy_read.proofs.OverLemmas.{over_gives, over_join, over_begins}
 use Rattle.zy_read.proofs.VerdictLemmas.{whole_good}

@@ -7,12 +7,12 @@ use Rattle.std.proofs.lemmas.List.{append-nil}
 use Rattle.std.proofs.lemmas.Bool.Decides.{nat_tests}
 use Rattle.std.proofs.lemmas.Nat.{be_bytes_4, be_bytes_8}
 use Rattle.std.proofs.lemmas.Grind.{flat_map-append}
-use Rattle.zy_base.specs.declared.entry.Entry.{Entry}
-use Rattle.zy_base.specs.declared.hold.Hold.{Hold}
-use Rattle.zy_base.specs.Order.{IsOrdered, IsBefore}
+use Rattle.mc_calls.specs.declared.entry.Entry.{Entry}
+use Rattle.mc_calls.specs.declared.hold.Hold.{Hold}
+use Rattle.mc_calls.specs.Order.{IsOrdered, IsBefore}
 use Rattle.zy_journal.specs.Journal.{magic, entry_text, hold_text, IsEntry, IsHold, AreByConnection}
 use Rattle.zy_journal_reader.specs.declared.past.Past.{Past}
-use Rattle.zy_base.specs.Bounds.{FitsEntry}
+use Rattle.mc_calls.specs.Bounds.{FitsEntry}
 use Rattle.zy_read.specs.Bytes.{AreBytes}
 use Rattle.zy_read.proofs.ByteLemmas.{byte_at}
 use Rattle.zy_journal_reader.specs.Last.{last_after}

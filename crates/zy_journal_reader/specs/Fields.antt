@@ -1,12 +1,12 @@
 -- What a record of a journal has, field by field: docs/FORMATS.md, "Journal".
 use Rattle.std.specs.Prelude.{◌≡◌, ℕ, ◌<◌, if◌then◌else◌, [], ⊤}
-use Rattle.zy_base.specs.declared.call_kind.CallKind.TheVariants.{Flush}
-use Rattle.zy_base.specs.declared.call_kind.CallFields.{CallFields}
-use Rattle.zy_base.specs.declared.call_reply.CallReply.{CallReply}
-use Rattle.zy_base.specs.declared.entry.Entry.{Entry}
-use Rattle.zy_base.specs.declared.tallied.Tallied.{Tallied}
-use Rattle.zy_base.specs.declared.hold.Hold.{Hold}
-use Rattle.zy_base.specs.Code.{call_of}
+use Rattle.mc_calls.specs.declared.call_kind.CallKind.TheVariants.{Flush}
+use Rattle.mc_calls.specs.declared.call_kind.CallFields.{CallFields}
+use Rattle.mc_calls.specs.declared.call_reply.CallReply.{CallReply}
+use Rattle.mc_calls.specs.declared.entry.Entry.{Entry}
+use Rattle.mc_calls.specs.declared.tallied.Tallied.{Tallied}
+use Rattle.mc_calls.specs.declared.hold.Hold.{Hold}
+use Rattle.mc_calls.specs.Code.{call_of}
 use Rattle.zy_journal_reader.specs.declared.draft.Draft.{Draft}
 use Rattle.zy_journal_reader.specs.declared.due.Due.{Due}
 use Rattle.zy_journal_reader.specs.declared.due.Due.TheVariants.{Byte, Number, Long}

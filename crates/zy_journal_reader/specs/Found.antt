@@ -3,14 +3,14 @@
 use Rattle.std.specs.Prelude.{◌≡◌, ◌⊎◌, ℕ, ◌<◌, ◌≤◌, ◌^◌, ◌==◌, ◌&&◌, ◌||◌, nat_lt, nat_le, Bool, List, [], ◌∷◌, ◌++◌}
 use Rattle.std.specs.Prelude.{IfSome}
 use Rattle.std.specs.Int.{to_be_bytes, w32, w64}
-use Rattle.zy_base.specs.declared.call.Call.{Call}
-use Rattle.zy_base.specs.declared.call_reply.CallReply.{CallReply}
-use Rattle.zy_base.specs.declared.entry.Entry.{Entry}
-use Rattle.zy_base.specs.declared.entry.Tag.{Tag}
-use Rattle.zy_base.specs.declared.hold.Hold.{Hold}
-use Rattle.zy_base.specs.Bounds.{IsCall, IsReply, FitsCall, FitsReply, FitsEntry}
+use Rattle.mc_calls.specs.declared.call.Call.{Call}
+use Rattle.mc_calls.specs.declared.call_reply.CallReply.{CallReply}
+use Rattle.mc_calls.specs.declared.entry.Entry.{Entry}
+use Rattle.mc_calls.specs.declared.entry.Tag.{Tag}
+use Rattle.mc_calls.specs.declared.hold.Hold.{Hold}
+use Rattle.mc_calls.specs.Bounds.{IsCall, IsReply, FitsCall, FitsReply, FitsEntry}
 use Rattle.zy_base.specs.Limits.{connection_limit, shard_limit, command_limit, stamp_limit}
-use Rattle.zy_base.proofs.CodeLemmas.{there}
+use Rattle.mc_calls.proofs.CodeLemmas.{there}
 use Rattle.zy_journal.specs.Journal.{field_text, call_text, reply_text, entry_text, hold_text, IsEntry, IsHold}
 use Rattle.zy_journal_reader.specs.declared.past.Past.{Past}
 use Rattle.zy_journal_reader.specs.declared.records.heads.Head.{Head}

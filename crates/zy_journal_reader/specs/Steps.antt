@@ -5,12 +5,12 @@ use Rattle.std.specs.List.{slice_index}
 use Rattle.std.specs.Int.{from_be_bytes, w32, w64}
 use Rattle.zy_base.specs.declared.file_fault.FileFault.{FileFault}
 use Rattle.zy_base.specs.declared.file_fault.FileFault.TheVariants.{Form, Truncated, TooLong}
-use Rattle.zy_base.specs.declared.call_reply.CallReply.{CallReply}
-use Rattle.zy_base.specs.declared.call_reply.CallReply.TheVariants as Replies
-use Rattle.zy_base.specs.declared.entry.Entry.{Entry}
-use Rattle.zy_base.specs.declared.hold.Hold.{Hold}
-use Rattle.zy_base.specs.Code.{kind_of, fields_of, last_call_code, last_reply_code, hit_code, number_code, tally_code}
-use Rattle.zy_base.specs.Code.{tally, plain_reply}
+use Rattle.mc_calls.specs.declared.call_reply.CallReply.{CallReply}
+use Rattle.mc_calls.specs.declared.call_reply.CallReply.TheVariants as Replies
+use Rattle.mc_calls.specs.declared.entry.Entry.{Entry}
+use Rattle.mc_calls.specs.declared.hold.Hold.{Hold}
+use Rattle.mc_calls.specs.Code.{kind_of, fields_of, last_call_code, last_reply_code, hit_code, number_code, tally_code}
+use Rattle.mc_calls.specs.Code.{tally, plain_reply}
 use Rattle.zy_base.specs.Limits.{key_limit, value_limit, connection_limit, shard_limit, core_limit, hold_limit}
 use Rattle.zy_base.specs.Limits.{command_limit, stamp_limit}
 use Rattle.zy_read.specs.Fields.{Judged, Fields, Place}

@@ -3,7 +3,7 @@ ghost use Rattle.std.specs.Prelude.{◌≡◌};
 ghost use Rattle.zy_journal_reader.specs.Fields.{after_call_code, at_flags, at_number, at_value, IsOpenAnywhere};
 
 use crate::due::{ByteField, Due, LongField, NumberField};
-use zy_base::CallFields;
+use mc_calls::CallFields;
 
 // What comes after the code: the key, or what comes if there is none.
 pub(crate) fn at_key(fields: CallFields) -> Due

@@ -2,8 +2,9 @@
 ghost use Rattle.std.specs.Prelude.{◌≡◌};
 ghost use Rattle.zy_journal_reader.specs.Fields.{fresh, entry_read};
 
+use mc_calls::{CallKind, CallReply, Entry, Tag, Tallied};
 use std::alloc::Global;
-use zy_base::{Blob, CallKind, CallReply, Entry, Tag, Tallied};
+use zy_base::Blob;
 
 /// What was read of a record so far; 0 and empty if a field was not read.
 #[derive(Drop)]

@@ -11,9 +11,10 @@ use crate::past::Past;
 use calls::call_fields;
 use fields::four;
 use heads::head_fields;
+use mc_calls::{Entry, Hold};
 use replies::reply;
 use std::alloc::Global;
-use zy_base::{CONNECTION_LIMIT, CORE_LIMIT, Entry, HOLD_LIMIT, Hold, NoMemory};
+use zy_base::{CONNECTION_LIMIT, CORE_LIMIT, HOLD_LIMIT, NoMemory};
 
 // An entry that may come next, and the bytes after it; nothing if memory for it was refused.
 pub(crate) fn entry(alloc: Global, past: Past, bytes: &[u8]) -> Option<(Entry, &[u8])>

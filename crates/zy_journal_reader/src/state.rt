@@ -17,9 +17,10 @@ mod whole_records;
 use crate::draft::Draft;
 use crate::due::{ByteField, Due};
 use crate::past::Past;
+use mc_calls::{Entries, Entry, Hold, Holds};
 use std::alloc::Global;
 use std::marker::Model;
-use zy_base::{Blob, Entries, Entry, FileFault, Hold, Holds};
+use zy_base::{Blob, FileFault};
 use zy_journal::Journal;
 use zy_read::{FieldFormat, FileFeed, NotTaken, Shape};
 

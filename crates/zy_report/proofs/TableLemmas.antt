@@ -3,7 +3,7 @@ use Rattle.std.proofs.Common.{◌≡◌, ℕ, ◌+◌, ◌-◌, ◌<◌, ◌≤�
 use Rattle.std.specs.Prelude.{OnOk, Result, Ok, Err, ⊤, codes, replicate}
 use Rattle.std.proofs.lemmas.List.{append-nil, take_more, take-replicate, length-take-le}
 use Rattle.zy_base.specs.declared.outside.NoMemory.{NoMemory}
-use Rattle.zy_base.specs.declared.tallied.Tallied.{Tallied}
+use Rattle.mc_calls.specs.declared.tallied.Tallied.{Tallied}
 use Rattle.zy_report.specs.Report.{right, count_text, line_text, shard_text, shards_text}
 
 -- what follows from an answer

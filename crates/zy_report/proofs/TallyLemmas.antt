@@ -9,11 +9,11 @@ use Rattle.std.specs.FinMap.{get, contains_key, insert, remove, get-empty, get-i
 use Rattle.std.specs.BTreeMap.{is_at}
 use Rattle.std.proofs.lemmas.List.{length-map}
 use Rattle.std.proofs.lemmas.List.Sums.{count_by-le-length}
-use Rattle.zy_base.specs.declared.entry.Entry.{Entry}
-use Rattle.zy_base.specs.declared.call.Call.{Call}
-use Rattle.zy_base.specs.declared.call.Call.TheVariants.{Flush}
-use Rattle.zy_base.specs.declared.call_reply.CallReply.{CallReply}
-use Rattle.zy_base.specs.Counted.{KeySet, no_keys, keys_with, is_get, is_set, is_hit, is_miss, CallCounts}
+use Rattle.mc_calls.specs.declared.entry.Entry.{Entry}
+use Rattle.mc_calls.specs.declared.call.Call.{Call}
+use Rattle.mc_calls.specs.declared.call.Call.TheVariants.{Flush}
+use Rattle.mc_calls.specs.declared.call_reply.CallReply.{CallReply}
+use Rattle.mc_calls.specs.Counted.{KeySet, no_keys, keys_with, is_get, is_set, is_hit, is_miss, CallCounts}
 use Rattle.zy_report.specs.Counting.{Counting}
 use Rattle.zy_report.specs.Tally.{AreKeysOf, CountsEntries, CanCount, none_kept}
 

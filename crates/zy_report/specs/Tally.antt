@@ -6,9 +6,9 @@ use Rattle.std.specs.Cmp.Lexicographic.{slice_cmp}
 use Rattle.std.specs.FinMap.{contains_key, len}
 use Rattle.std.specs.BTreeMap.{is_at}
 use Rattle.mc_stats.specs.Counts.{no_counts}
-use Rattle.zy_base.specs.declared.entry.Entry.{Entry}
-use Rattle.zy_base.specs.Counted.{KeySet, no_keys, keys_after, CallCounts, is_get, is_set, is_hit, is_miss}
-use Rattle.zy_base.specs.Order.{at_shard}
+use Rattle.mc_calls.specs.declared.entry.Entry.{Entry}
+use Rattle.mc_calls.specs.Counted.{KeySet, no_keys, keys_after, CallCounts, is_get, is_set, is_hit, is_miss}
+use Rattle.mc_calls.specs.Order.{at_shard}
 use Rattle.zy_report.specs.Counting.{Counting}
 use Rattle.zy_report.specs.Report.{shards_in}
 

@@ -3,7 +3,8 @@ ghost use Rattle.std.specs.Prelude.{◌≡◌, ◌≤◌, ◌++◌, OnOk};
 ghost use Rattle.zy_report.specs.Report.{right, count_text, line_text};
 
 use itoa::Buffer;
-use zy_base::{Blob, NoMemory, Tallied};
+use mc_calls::Tallied;
+use zy_base::{Blob, NoMemory};
 
 const SPACES: [u8; 12] = *b"            ";
 

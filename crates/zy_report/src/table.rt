@@ -4,8 +4,9 @@ ghost use Rattle.zy_report.specs.Report.{counts_nothing, sums, shard_text, shard
 
 use crate::lines::append_line;
 use itoa::Buffer;
+use mc_calls::Tallied;
 use std::alloc::Global;
-use zy_base::{Blob, NoMemory, Tallied};
+use zy_base::{Blob, NoMemory};
 
 /// The lines of all shards, from shard 0 on, and the line of their sums.
 pub(crate) fn table(alloc: Global, counts: &[Tallied]) -> Result<Blob, NoMemory>

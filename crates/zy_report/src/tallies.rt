@@ -1,12 +1,13 @@
 //! What is counted of the entries of each shard.
 ghost use Rattle.std.specs.Prelude.{◌≡◌, ◌≤◌, ◌<◌, ◌-◌, ◌^◌, ◌+◌, ◌++◌, ◌∷◌, [], List, ℕ, length, max, IfOk, OnOk};
-ghost use Rattle.zy_base.specs.declared.entry.Entry.{Entry};
+ghost use Rattle.mc_calls.specs.declared.entry.Entry.{Entry};
 ghost use Rattle.zy_report.specs.Report.{counts_by_shard};
 ghost use Rattle.zy_report.specs.Tally.{CanCount, CountsAll, kept_at};
 
 use crate::tally::Tally;
+use mc_calls::{Entry, Tallied};
 use std::alloc::Global;
-use zy_base::{Entry, NoMemory, Tallied};
+use zy_base::NoMemory;
 use zy_journal::{Journal, Walk};
 
 /// What is counted of each shard, from shard 0 up to the last one that an entry names.

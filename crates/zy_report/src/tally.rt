@@ -1,15 +1,16 @@
 //! What is counted of the entries of one shard.
 ghost use Rattle.std.specs.Prelude.{◌≡◌, true, ◌++◌, ◌∷◌, [], List, OnOk};
-ghost use Rattle.zy_base.specs.declared.entry.Entry.{Entry};
+ghost use Rattle.mc_calls.specs.declared.entry.Entry.{Entry};
 ghost use Rattle.std.specs.FinMap.{insert, remove};
-ghost use Rattle.zy_base.specs.Counted.{KeySet, is_get, calls_with, keys_with, counted};
+ghost use Rattle.mc_calls.specs.Counted.{KeySet, is_get, calls_with, keys_with, counted};
 ghost use Rattle.zy_report.specs.Tally.{CanCount, CountsEntries, AreKeysOf, calls_kept, none_kept};
 
+use mc_calls::{Call, CallReply, Entry, Tallied};
 use mc_stats::Counts;
 use std::alloc::Global;
 use std::collections::BTreeSet;
 use std::marker::Model;
-use zy_base::{Blob, Call, CallReply, Entry, NoMemory, Tallied};
+use zy_base::{Blob, NoMemory};
 
 /// What is counted of some entries of one shard. Contracts see the counts of calls, and the keys
 /// that have an item after them.

@@ -4,18 +4,18 @@ use Rattle.std.specs.Prelude.{◌==◌}
 use Rattle.std.specs.List.{AllByRecursion, Contains}
 use mathlib.Core.Logic.{dite}
 use native.Mathlib.Decide.{ℕ_discrete}
-use Rattle.zy_base.specs.declared.call_reply.CallReply.{CallReply}
-use Rattle.zy_base.specs.declared.entry.Entry.{Entry}
-use Rattle.zy_base.specs.Key.{shard_of}
-use Rattle.zy_base.specs.Shard.{State, reply_to, state_after}
-use Rattle.zy_base.specs.History.{IsLegalFrom, states_after}
-use Rattle.zy_base.specs.Order.{of_connection}
-use Rattle.zy_base.proofs.EntryLemmas.{of_connection-here, of_connection-other}
+use Rattle.mc_calls.specs.declared.call_reply.CallReply.{CallReply}
+use Rattle.mc_calls.specs.declared.entry.Entry.{Entry}
+use Rattle.mc_calls.specs.Key.{shard_of}
+use Rattle.mc_calls.specs.Shard.{State, reply_to, state_after}
+use Rattle.mc_calls.specs.History.{IsLegalFrom, states_after}
+use Rattle.mc_calls.specs.Order.{of_connection}
+use Rattle.mc_calls.proofs.EntryLemmas.{of_connection-here, of_connection-other}
 use Rattle.mc_parse.specs.Calls.{Due, dues_of}
-use Rattle.zy_base.specs.Told.{told, all_told, seen_at}
+use Rattle.mc_calls.specs.Told.{told, all_told, seen_at}
 use Rattle.mc_parse.specs.Plain.{bare}
 use Rattle.zy_run.specs.Keyed.{IsEntryOwn, AgreeAtKeys, told_by}
-use Rattle.zy_base.proofs.KeyLemmas.{told-reply_to, seen_at-both, seen_at-other}
+use Rattle.mc_calls.proofs.KeyLemmas.{told-reply_to, seen_at-both, seen_at-other}
 
 -- ---- one entry
 

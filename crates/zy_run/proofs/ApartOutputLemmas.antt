@@ -3,14 +3,14 @@ use Rattle.std.proofs.Common.{◌≡◌, ℕ, zero, suc, ◌+◌, ◌<◌, ◌�
 use Rattle.std.specs.Prelude.{All}
 use Rattle.std.specs.List.{AllByRecursion, concat, range_with_len, slice_index_or}
 use Rattle.std.proofs.lemmas.List.Elements.{recursion_from_All}
-use Rattle.zy_base.specs.declared.entry.Entry.{Entry}
-use Rattle.zy_base.specs.Order.{of_connection}
+use Rattle.mc_calls.specs.declared.entry.Entry.{Entry}
+use Rattle.mc_calls.specs.Order.{of_connection}
 use Rattle.mc_reply.specs.Texts.{texts_from}
 use Rattle.zy_frame.specs.Cut.{commands_of}
 use Rattle.zy_run.specs.Commands.{commands_over}
 use Rattle.zy_run.specs.Output.{commands_before, session_output, connection_outputs}
 use Rattle.mc_parse.specs.Plain.{IsPlain}
-use Rattle.zy_base.specs.Told.{all_told}
+use Rattle.mc_calls.specs.Told.{all_told}
 use Rattle.mc_reply.proofs.ToldLemmas.{texts-told}
 
 -- ---- lists

@@ -3,9 +3,9 @@ use Rattle.std.proofs.Common.{◌≡◌, ℕ, zero, suc, ◌+◌, ◌<◌, ◌�
 use Rattle.std.specs.List.{AllByRecursion}
 use mathlib.Core.Logic.{dite}
 use native.Mathlib.Decide.{ℕ_discrete}
-use Rattle.zy_base.specs.declared.entry.Entry.{Entry}
-use Rattle.zy_base.specs.Order.{of_connection}
-use Rattle.zy_base.proofs.EntryLemmas.{of_connection-here, of_connection-other}
+use Rattle.mc_calls.specs.declared.entry.Entry.{Entry}
+use Rattle.mc_calls.specs.Order.{of_connection}
+use Rattle.mc_calls.proofs.EntryLemmas.{of_connection-here, of_connection-other}
 
 -- the number of entries of the first connections, counted connection by connection
 tally : ℕ → List Entry → ℕ

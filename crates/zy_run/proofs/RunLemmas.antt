@@ -6,10 +6,10 @@ use Rattle.std.specs.List.{AllByRecursion}
 use Rattle.std.proofs.lemmas.List.{length-map}
 use mathlib.Core.Logic.{dite}
 use native.Mathlib.Decide.{ℕ_discrete}
-use Rattle.zy_base.specs.declared.entry.Entry.{Entry}
-use Rattle.zy_base.specs.Shard.{empty_state}
-use Rattle.zy_base.specs.Order.{of_connection}
-use Rattle.zy_base.proofs.EntryLemmas.{of_connection-here, of_connection-other}
+use Rattle.mc_calls.specs.declared.entry.Entry.{Entry}
+use Rattle.mc_calls.specs.Shard.{empty_state}
+use Rattle.mc_calls.specs.Order.{of_connection}
+use Rattle.mc_calls.proofs.EntryLemmas.{of_connection-here, of_connection-other}
 use Rattle.mc_parse.specs.declared.command.Command.{Command}
 use Rattle.mc_parse.specs.Calls.{Due, due, due_of, dues_of}
 use Rattle.zy_run.specs.Run.{AreOfConnections, IsRun}
@@ -18,7 +18,7 @@ use Rattle.mc_parse.specs.Plain.{all_keys_of, IsPlain}
 use Rattle.zy_run.specs.Apart.{commands_of_all, AreApart}
 use Rattle.mc_parse.specs.Plain.{IsDueOwn, bare}
 use Rattle.zy_run.specs.Keyed.{told_by}
-use Rattle.zy_base.specs.Told.{all_told}
+use Rattle.mc_calls.specs.Told.{all_told}
 use Rattle.zy_run.proofs.AloneLemmas.{told-alone, told_by-bare}
 use Rattle.zy_run.proofs.CountLemmas.{length-same}
 use Rattle.mc_parse.proofs.PlainLemmas.{due_own, due_bare}

@@ -6,10 +6,10 @@ use Rattle.std.specs.List.{AllByRecursion, range_with_len}
 use Rattle.std.proofs.lemmas.List.Elements.{filter-append}
 use mathlib.Core.Logic.{dite}
 use native.Mathlib.Decide.{ℕ_discrete}
-use Rattle.zy_base.specs.declared.entry.Entry.{Entry}
-use Rattle.zy_base.specs.Shard.{State}
-use Rattle.zy_base.specs.History.{IsLegalFrom, states_after}
-use Rattle.zy_base.specs.Order.{of_connection}
+use Rattle.mc_calls.specs.declared.entry.Entry.{Entry}
+use Rattle.mc_calls.specs.Shard.{State}
+use Rattle.mc_calls.specs.History.{IsLegalFrom, states_after}
+use Rattle.mc_calls.specs.Order.{of_connection}
 use Rattle.mc_parse.specs.declared.command.Command.{Command}
 use Rattle.mc_parse.specs.declared.shard_call.ShardCall.{ShardCall}
 use Rattle.mc_parse.specs.Calls.{Due, calls_of, tagged, due, due_from, due_at, due_of, dues_of, IsDueOn}

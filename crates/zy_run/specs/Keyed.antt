@@ -1,10 +1,10 @@
 -- Entries whose key is one of their connection. No public clause cites this module.
 use Rattle.std.specs.Prelude.{◌≡◌, ℕ, List, [], ◌∷◌}
 use Rattle.std.specs.List.{Contains}
-use Rattle.zy_base.specs.declared.entry.Entry.{Entry}
-use Rattle.zy_base.specs.Key.{shard_of}
-use Rattle.zy_base.specs.Shard.{State, reply_to, state_after}
-use Rattle.zy_base.specs.Told.{seen_at, told}
+use Rattle.mc_calls.specs.declared.entry.Entry.{Entry}
+use Rattle.mc_calls.specs.Key.{shard_of}
+use Rattle.mc_calls.specs.Shard.{State, reply_to, state_after}
+use Rattle.mc_calls.specs.Told.{seen_at, told}
 use Rattle.mc_parse.specs.Calls.{Due, due_of}
 use Rattle.mc_parse.specs.Plain.{IsDueOwn}
 

@@ -1,8 +1,8 @@
 -- The outputs that belong to a run: the texts of each session's commands, with the replies that the run gave.
 use Rattle.std.specs.Prelude.{ℕ, List, [], length, take, map}
 use Rattle.std.specs.List.{concat, range_with_len, slice_index_or}
-use Rattle.zy_base.specs.declared.entry.Entry.{Entry}
-use Rattle.zy_base.specs.Order.{of_connection}
+use Rattle.mc_calls.specs.declared.entry.Entry.{Entry}
+use Rattle.mc_calls.specs.Order.{of_connection}
 use Rattle.mc_reply.specs.Texts.{texts_from}
 use Rattle.zy_frame.specs.Cut.{commands_of}
 use Rattle.zy_run.specs.Commands.{commands_over}

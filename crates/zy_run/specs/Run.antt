@@ -1,8 +1,8 @@
 -- One legal run of the commands of all connections. There are no cores, threads, queues or stamps in it.
 use Rattle.std.specs.Prelude.{◌≡◌, ℕ, ◌<◌, List, [], ◌∷◌}
-use Rattle.zy_base.specs.declared.entry.Entry.{Entry}
-use Rattle.zy_base.specs.Order.{of_connection}
-use Rattle.zy_base.specs.History.{IsLegal}
+use Rattle.mc_calls.specs.declared.entry.Entry.{Entry}
+use Rattle.mc_calls.specs.Order.{of_connection}
+use Rattle.mc_calls.specs.History.{IsLegal}
 use Rattle.mc_parse.specs.declared.command.Command.{Command}
 use Rattle.mc_parse.specs.Calls.{due, dues_of}
 

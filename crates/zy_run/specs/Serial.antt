@@ -1,9 +1,9 @@
 -- The run that makes all calls of one connection, then all of the next, and so on.
 use Rattle.std.specs.Prelude.{ℕ, ◌+◌, List, [], ◌∷◌, flat_map}
 use Rattle.std.specs.List.{range_with_len}
-use Rattle.zy_base.specs.declared.entry.Entry.{Entry}
-use Rattle.zy_base.specs.Shard.{State, empty_state, reply_to}
-use Rattle.zy_base.specs.History.{states_after}
+use Rattle.mc_calls.specs.declared.entry.Entry.{Entry}
+use Rattle.mc_calls.specs.Shard.{State, empty_state, reply_to}
+use Rattle.mc_calls.specs.History.{states_after}
 use Rattle.mc_parse.specs.declared.command.Command.{Command}
 use Rattle.mc_parse.specs.Calls.{Due, due}
 

@@ -1,6 +1,6 @@
 -- The holds of a run: the number of its commands that each core finished, connection by connection.
 use Rattle.std.specs.Prelude.{◌≡◌, ℕ, ◌+◌, ◌<◌, ◌==◌, if◌then◌else◌, List, [], ◌∷◌, length}
-use Rattle.zy_base.specs.declared.hold.Hold.{Hold}
+use Rattle.mc_calls.specs.declared.hold.Hold.{Hold}
 use Rattle.mc_parse.specs.declared.command.Command.{Command}
 use Rattle.zy_journal.specs.Journal.{AreByConnection}
 

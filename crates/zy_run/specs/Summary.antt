@@ -1,7 +1,7 @@
 -- The numbers that all runs of commands that are apart have in common.
 use Rattle.std.specs.Prelude.{ℕ, List, length}
 use Rattle.std.specs.List.{range_with_len, sum_by}
-use Rattle.zy_base.specs.declared.entry.Entry.{Entry}
+use Rattle.mc_calls.specs.declared.entry.Entry.{Entry}
 use Rattle.mc_parse.specs.declared.command.Command.{Command}
 use Rattle.zy_run.specs.Output.{all_outputs}
 use Rattle.zy_run.specs.Apart.{commands_of_all}

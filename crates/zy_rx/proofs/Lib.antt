@@ -1,2 +1,1 @@
 pub mod SessionLemmas
-pub mod TakenLemmas

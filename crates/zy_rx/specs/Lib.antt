@@ -2,4 +2,3 @@ pub mod Feed
 pub mod Flow
 pub mod Ring
 pub mod Session
-pub mod Routing

@@ -1,7 +1,7 @@
 -- Numbers that are added up. No public clause cites this module.
 use Rattle.std.specs.Prelude.{ℕ, List}
 use Rattle.std.specs.List.{sum_by}
-use Rattle.zy_base.specs.declared.hold.Hold.{Hold}
+use Rattle.mc_calls.specs.declared.hold.Hold.{Hold}
 
 -- the counts of all holds, added up
 abbrev pub all_held : List Hold → ℕ

@@ -9,7 +9,8 @@ ghost use Rattle.zy_run.specs.Summary.{count_of_bytes, summary_of_run};
 ghost use Rattle.zy_serving.specs.Headline.{outputs_of_records};
 ghost use Rattle.zy_self.specs.Numbers.{all_held};
 
-use zy_base::{Hold, NoMemory};
+use mc_calls::Hold;
+use zy_base::NoMemory;
 use zy_capture::Outputs;
 use zy_finish::Finished;
 use zy_run::Summary;

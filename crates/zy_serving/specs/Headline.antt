@@ -1,8 +1,8 @@
 -- The headline: what a served run is.
 use Rattle.std.specs.Prelude.{◌≡◌, ℕ, List, [], ◌++◌, None}
 use Rattle.std.specs.List.{AllByRecursion}
-use Rattle.zy_base.specs.declared.entry.Entry.{Entry}
-use Rattle.zy_base.specs.Order.{IsOrdered}
+use Rattle.mc_calls.specs.declared.entry.Entry.{Entry}
+use Rattle.mc_calls.specs.Order.{IsOrdered}
 use Rattle.zy_capture.specs.declared.record.Record.{Record}
 use Rattle.zy_capture.specs.Capture.{Spells}
 use Rattle.zy_capture.specs.Outputs.{AllOutputs, AreOutputs}

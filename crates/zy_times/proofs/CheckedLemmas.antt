@@ -3,8 +3,8 @@ use Rattle.std.specs.Prelude.{Option, IfSome}
 use Rattle.std.specs.List.{slice_get, AllByRecursion}
 use Rattle.std.proofs.Common.{◌≡◌, ℕ, zero, suc, ◌+◌, ◌<◌, ◌≤◌, List, [], ◌∷◌, Bool, length, take, Some, refl, sym, ap, ◌∙◌, subst, arith}
 use Rattle.std.proofs.lemmas.Option.{slice_get_within}
-use Rattle.zy_base.specs.declared.entry.Entry.{Entry}
-use Rattle.zy_base.specs.Order.{of_connection}
+use Rattle.mc_calls.specs.declared.entry.Entry.{Entry}
+use Rattle.mc_calls.specs.Order.{of_connection}
 use Rattle.zy_capture.specs.declared.record.Record.{Record}
 use Rattle.zy_capture.specs.Outputs.{AllOutputs}
 use Rattle.zy_capture.specs.Streams.{no_bytes, with_records}
@@ -72,7 +72,7 @@ module _ (shards count : ℕ) (records : List Record) (journal : Journal) (outpu
         let conn = e.tag.conn in
         let commands = commands_held checked.streams conn in
         let low = due_there (length commands) (length (of_connection conn (take p journal.entries))) (due_in checked conn) _
-            (due_below shards conn 0 (length commands) commands (omega arith)) (next_call right p e is).call in
+        (due_below shards conn 0 (length commands) commands (omega arith)) (next_call right p e is).call in
         subst (λ (l : List Command). e.tag.index < length l) (held_commands count conn records (within right p e is)) low;
   }
 

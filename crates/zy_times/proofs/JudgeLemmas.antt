@@ -1,6 +1,6 @@
 -- What is found of a recording, from its times.
 use Rattle.std.proofs.Common.{◌≡◌, ℕ, ◌-◌, ◌≤◌, Bool, List, None, Some}
-use Rattle.zy_base.specs.declared.entry.Entry.{Entry}
+use Rattle.mc_calls.specs.declared.entry.Entry.{Entry}
 use Rattle.zy_times.specs.declared.times.Times.{Times}
 use Rattle.zy_times.specs.declared.timing.Timing.{Timing}
 use Rattle.zy_times.specs.declared.timing.Timing.TheVariants.{InTime, EarlyEnd, OutOfTime}

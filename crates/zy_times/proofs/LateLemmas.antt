@@ -4,7 +4,7 @@ use Rattle.std.proofs.Common.{◌≡◌, ℕ, ◌+◌, ◌<◌, ◌≤◌, max, 
 use Rattle.std.specs.Prelude.{◌↔◌}
 use mathlib.Core.Logic.{dite}
 use native.Mathlib.Decide.{dec_lt}
-use Rattle.zy_base.specs.declared.entry.Entry.{Entry}
+use Rattle.mc_calls.specs.declared.entry.Entry.{Entry}
 use Rattle.zy_times.specs.First.{AreRises}
 use Rattle.zy_times.specs.Times.{Recording, sent_by}
 use Rattle.zy_times.specs.InTime.{IsEntrySent, IsEntryEnded, AreLate, IsOutOfTime}

@@ -3,7 +3,7 @@
 -- "Linearizability: a correctness condition for concurrent objects", 1990).
 use Rattle.std.specs.Prelude.{◌≡◌, ◌↔◌, ℕ, zero, suc, ◌+◌, ◌<◌, ◌≤◌, List, length, Bool, true, Some}
 use Rattle.std.specs.List.{slice_get}
-use Rattle.zy_base.specs.declared.entry.Entry.{Entry}
+use Rattle.mc_calls.specs.declared.entry.Entry.{Entry}
 use Rattle.zy_run.specs.Commands.{commands_in}
 use Rattle.zy_times.specs.Times.{Recording, IsSent, IsEnded, FitAt, MarksFit, trues}
 use Rattle.zy_times.specs.declared.timing.Timing.{Timing}

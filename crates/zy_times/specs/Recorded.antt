@@ -1,7 +1,7 @@
 -- What the times of a recording are found from. No public clause cites this module but for `IsRecorded`.
 use Rattle.std.specs.Prelude.{◌≡◌, ℕ, ◌<◌, ◌≤◌, Bool, List, length, Option, None, Some}
 use Rattle.std.specs.List.{slice_get}
-use Rattle.zy_base.specs.declared.entry.Entry.{Entry}
+use Rattle.mc_calls.specs.declared.entry.Entry.{Entry}
 use Rattle.zy_times.specs.declared.late.Late.{Late}
 use Rattle.zy_times.specs.declared.spans.Spans.{Spans}
 use Rattle.zy_times.specs.declared.times.Times.{Times}

@@ -8,7 +8,8 @@ ghost use Rattle.zy_times.specs.Recorded.{IsOfRun, HasLines, AreSpans, FoundLate
 
 use crate::spans::Spans;
 use crate::times::Times;
-use zy_base::{Entry, NoMemory};
+use mc_calls::Entry;
+use zy_base::NoMemory;
 use zy_journal::Journal;
 
 /// An entry that is late, and the first moment at which its command had ended.

@@ -1,7 +1,7 @@
 //! Laws of the definitions: each is the contract of a function without a body.
 ghost use Rattle.std.specs.Prelude.{◌≡◌, ◌↔◌, ◌<◌, ℕ, Some};
 ghost use Rattle.std.specs.List.{slice_get};
-ghost use Rattle.zy_base.specs.declared.entry.Entry.{Entry};
+ghost use Rattle.mc_calls.specs.declared.entry.Entry.{Entry};
 ghost use Rattle.zy_times.specs.Times.{Recording, MarksFit};
 ghost use Rattle.zy_times.specs.InTime.{IsInTime, NoneIsLate, AreOfCommands, IsEntrySent, IsEntryEnded, IsLateAfter};
 

@@ -1,7 +1,8 @@
 //! Calls on a shard, with values of 100 bytes.
+use mc_calls::{Call, Tag};
 use mc_shard::Shard;
 use std::alloc::Global;
-use zy_base::{Blob, Call, NoMemory, Tag, number_text};
+use zy_base::{Blob, NoMemory, number_text};
 
 /// The value of each write.
 pub(crate) const VALUE: [u8; 100] = [b'v'; 100];

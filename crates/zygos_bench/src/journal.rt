@@ -8,10 +8,11 @@ use crate::clock::nanos;
 use crate::counting::Counting;
 use crate::done::Done;
 use making::{histories, history};
+use mc_calls::Holds;
 use std::alloc::Global;
 use std::io::Read;
 use std::time::CpuClock;
-use zy_base::{Holds, NoMemory};
+use zy_base::NoMemory;
 use zy_journal::{Journal, merge, write_journal};
 
 /// What is done with journals.

@@ -1,6 +1,6 @@
 -- What is found of a recording: whether `check` says yes, and whether the journal is in time.
 use Rattle.std.specs.Prelude.{◌≡◌, ℕ, List}
-use Rattle.zy_base.specs.declared.entry.Entry.{Entry}
+use Rattle.mc_calls.specs.declared.entry.Entry.{Entry}
 use Rattle.zy_capture.specs.declared.record.Record.{Record}
 use Rattle.zy_capture.specs.Outputs.{AllOutputs, AreOutputs}
 use Rattle.zy_journal.specs.declared.journal.Journal.{Journal}

@@ -4,10 +4,10 @@ ghost use Rattle.mc_shard.specs.Buckets.{item_in, IsWith};
 
 use super::row::Row;
 use crate::hashed::Hashed;
+use mc_calls::Item;
 use std::alloc::Global;
 use std::collections::BTreeMap;
 use std::marker::Model;
-use zy_base::Item;
 
 /// Items by their keys. Contracts see them as a list of keys with their items, where the first entry
 /// of a key counts.

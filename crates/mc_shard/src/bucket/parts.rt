@@ -4,10 +4,11 @@ ghost use Rattle.mc_shard.specs.Buckets.{AreBuckets, part_of, item_in, entries_a
 
 use super::part::Part;
 use crate::hashed::Hashed;
+use mc_calls::Item;
 use std::alloc::Global;
 use std::marker::Model;
 use std::mem;
-use zy_base::{Item, NoMemory};
+use zy_base::NoMemory;
 
 // The number of parts.
 const PARTS: usize = 32;

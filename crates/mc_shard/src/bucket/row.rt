@@ -5,11 +5,11 @@ ghost use Rattle.mc_shard.specs.Buckets.{item_in, IsFirstAt, IsWith, SameItems};
 
 use super::parts::Parts;
 use crate::hashed::Hashed;
+use mc_calls::Item;
 use std::alloc::Global;
 use std::collections::BTreeMap;
 use std::marker::Model;
 use std::mem;
-use zy_base::Item;
 
 // The most items that are kept in a row.
 const FEW: usize = 16;

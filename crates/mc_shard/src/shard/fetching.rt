@@ -1,16 +1,17 @@
 //! Gets: the key is lent, and entry and reply are made where they stay.
 ghost use Rattle.std.specs.Prelude.{◌≡◌, ◌+◌, ◌^◌, ◌<◌, ◌∷◌, [], ◌++◌, ℕ, List, max, IfOk, OnOk, OnErr, option_copied};
-ghost use Rattle.zy_base.specs.declared.call.Call.TheVariants.{Get};
-ghost use Rattle.zy_base.specs.declared.call_reply.CallReply.TheVariants.{Hit};
-ghost use Rattle.zy_base.specs.declared.tallied.Tallied.{Tallied};
-ghost use Rattle.zy_base.specs.Key.{hash_of};
-ghost use Rattle.zy_base.specs.Shard.{outcome_of};
-ghost use Rattle.zy_base.specs.History.{IsHistory};
+ghost use Rattle.mc_calls.specs.declared.call.Call.TheVariants.{Get};
+ghost use Rattle.mc_calls.specs.declared.call_reply.CallReply.TheVariants.{Hit};
+ghost use Rattle.mc_calls.specs.declared.tallied.Tallied.{Tallied};
+ghost use Rattle.mc_calls.specs.Key.{hash_of};
+ghost use Rattle.mc_calls.specs.Shard.{outcome_of};
+ghost use Rattle.mc_calls.specs.History.{IsHistory};
 ghost use Rattle.mc_shard.specs.Shard.{state_of, last_of, entry_of, reply_of, with_entry, state_past};
 
 use super::Shard;
 use crate::hashed::Hashed;
-use zy_base::{Blob, Call, CallReply, Entry, Item, NoMemory, Tag, numbers_fit};
+use mc_calls::{Call, CallReply, Entry, Item, Tag, numbers_fit};
+use zy_base::{Blob, NoMemory};
 
 impl Shard {
     /// Gets the item of a key, as `make` does by `Call::Get`. The key is lent, with its hash. The reply is

@@ -1,7 +1,7 @@
 //! One try of a call, step by step.
 ghost use Rattle.std.specs.Prelude.{◌≡◌, ◌<◌, ◌≤◌, ◌^◌, [], ◌∷◌, ◌++◌, length, IfOk, IfErr, OnErr};
-ghost use Rattle.zy_base.specs.Kind.{MayAnswer};
-ghost use Rattle.zy_base.specs.Order.{last_stamp};
+ghost use Rattle.mc_calls.specs.Kind.{MayAnswer};
+ghost use Rattle.mc_calls.specs.Order.{last_stamp};
 ghost use Rattle.mc_shard.specs.Shard.{entry_of};
 ghost use Rattle.mc_store.specs.Steps.{mine_at, trace_at, IsIdle, HasTaken, HasMade, HasGivenUp};
 ghost use Rattle.mc_store.specs.Call.{IfMade, IfTaken, WasFree, WasBusy};
@@ -12,8 +12,9 @@ use crate::store::taking::Taking;
 use crate::store::view::View;
 use crate::tried::Tried;
 use atomic_table::Seat;
+use mc_calls::{Call, Tag};
 use mc_shard::{Made, Shard};
-use zy_base::{Call, NoMemory, Tag};
+use zy_base::NoMemory;
 
 impl StoreTable {
     // Takes the shard, if it is free, and makes the call.

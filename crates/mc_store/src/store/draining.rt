@@ -4,9 +4,9 @@ ghost use Rattle.std.specs.Slots.{slots_items, slots_len, IsFull};
 ghost use Rattle.mc_store.specs.Closing.{history_in};
 
 use atomic_table::Closed;
+use mc_calls::Entries;
 use mc_shard::Shard;
 use std::alloc::Global;
-use zy_base::Entries;
 
 // The history of each shard, in their order. The lists have room for all.
 pub(crate) fn drain(mut closed: Closed<Shard, Global>, mut lists: Vec<Entries>) -> Vec<Entries>

@@ -1,7 +1,7 @@
 //! One try of a get, step by step: its key is lent, and its reply is appended.
 ghost use Rattle.std.specs.Prelude.{◌≡◌, ◌<◌, ◌≤◌, ◌^◌, length, IfOk, OnErr};
-ghost use Rattle.zy_base.specs.Key.{hash_of};
-ghost use Rattle.zy_base.specs.Order.{last_stamp};
+ghost use Rattle.mc_calls.specs.Key.{hash_of};
+ghost use Rattle.mc_calls.specs.Order.{last_stamp};
 ghost use Rattle.mc_store.specs.Steps.{mine_at, trace_at, IsIdle, HasTaken, HasMadeGet, HasGivenUp};
 ghost use Rattle.mc_store.specs.Call.{IfFetched, IfUnfetched, HasFetched, WasFree, WasBusy};
 
@@ -11,8 +11,9 @@ use crate::store::plays::PutsBack;
 use crate::store::taking::Taking;
 use crate::store::view::View;
 use atomic_table::Seat;
+use mc_calls::{CallReply, Tag};
 use mc_shard::Shard;
-use zy_base::{Blob, CallReply, NoMemory, Tag};
+use zy_base::{Blob, NoMemory};
 
 impl StoreTable {
     // Takes the shard, if it is free, and makes the get.

@@ -1,8 +1,8 @@
 //! What a seat of the table knows. No value of these types is made: they are for the proofs alone.
 use atomic_table::TableRule;
+use mc_calls::Entry;
 use mc_shard::Shard;
 use std::collections::LinkedList;
-use zy_base::Entry;
 
 /// The number that a step found at a word, and the number of that step among the pass's.
 pub struct Sight {

@@ -10,10 +10,11 @@ use super::Work;
 use crate::answer::Answer;
 use crate::calling::{Made, next_call};
 use crate::hold_end::HoldEnd;
+use mc_calls::Replies;
 use mc_parse::Command;
 use mc_store::StoreTable;
 use std::mem;
-use zy_base::{COMMAND_LIMIT, Gate, NoMemory, Replies};
+use zy_base::{COMMAND_LIMIT, Gate, NoMemory};
 use zy_calls::Batch;
 
 impl Work {

@@ -1,11 +1,12 @@
 //! Calls that bytes begin with.
 ghost use Rattle.std.specs.Prelude.{◌≡◌, ◌∷◌, IfSome, IfOk};
-ghost use Rattle.zy_base.specs.Code.{call_of, code_of};
+ghost use Rattle.mc_calls.specs.Code.{call_of, code_of};
 ghost use Rattle.zy_journal_reader.specs.Found.{HasCall};
 
 use super::fields::{flags, key, number, value};
+use mc_calls::{CallKind, LAST_CALL_CODE};
 use std::alloc::Global;
-use zy_base::{Blob, CallKind, LAST_CALL_CODE, NoMemory};
+use zy_base::{Blob, NoMemory};
 
 /// The fields of a call; 0 and empty if its kind has none.
 #[derive(Clone, Copy)]

@@ -1,7 +1,7 @@
 //! Fields that bytes begin with, each with the bytes after it.
 ghost use Rattle.std.specs.Prelude.{◌≡◌, ◌<◌, ◌^◌, ◌++◌, IfSome};
 ghost use Rattle.std.specs.Int.{to_be_bytes, w32, w64};
-ghost use Rattle.zy_base.specs.Bounds.{IsKey, IsValue};
+ghost use Rattle.mc_calls.specs.Bounds.{IsKey, IsValue};
 ghost use Rattle.zy_journal.specs.Journal.{key_text, value_text};
 ghost use Rattle.zy_journal_reader.specs.Found.{HasField};
 

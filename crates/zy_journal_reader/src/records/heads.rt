@@ -4,9 +4,8 @@ ghost use Rattle.zy_journal_reader.specs.Found.{HasHead, HasTag, entry_at, is_ne
 
 use super::fields::{eight, four};
 use crate::past::Past;
-use zy_base::{
-    COMMAND_LIMIT, CONNECTION_LIMIT, Call, CallReply, Entry, SHARD_LIMIT, STAMP_LIMIT, Tag,
-};
+use mc_calls::{Call, CallReply, Entry, Tag};
+use zy_base::{COMMAND_LIMIT, CONNECTION_LIMIT, SHARD_LIMIT, STAMP_LIMIT};
 
 /// When and where an entry was, and whose call it is.
 #[derive(Clone, Copy)]

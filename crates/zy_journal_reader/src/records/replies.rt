@@ -1,11 +1,12 @@
 //! Replies that bytes begin with, each with the bytes after it.
 ghost use Rattle.std.specs.Prelude.{◌≡◌, ◌∷◌, IfSome};
-ghost use Rattle.zy_base.specs.Code.{hit_code, number_code, tally_code};
+ghost use Rattle.mc_calls.specs.Code.{hit_code, number_code, tally_code};
 ghost use Rattle.zy_journal_reader.specs.Found.{HasReply};
 
 use super::fields::{contents, eight, four};
+use mc_calls::{CallReply, HIT_CODE, LAST_REPLY_CODE, NUMBER_CODE, TALLY_CODE, Tallied};
 use std::alloc::Global;
-use zy_base::{Blob, CallReply, HIT_CODE, LAST_REPLY_CODE, NUMBER_CODE, TALLY_CODE, Tallied};
+use zy_base::Blob;
 
 // A reply; nothing if memory for it was refused.
 #[tactic(auto, using(crate::proofs::FoundLemmas::plain_found))]

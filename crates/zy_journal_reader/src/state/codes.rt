@@ -10,11 +10,11 @@ ghost use Rattle.zy_journal_reader.specs.Standing.{TakesStep, FitsPlace, Wants};
 use super::JournalState;
 use crate::call_fields::at_key;
 use crate::due::{ByteField, BytesField, Due, LongField, NumberField};
-use std::alloc::Global;
-use zy_base::{
-    CallKind, CallReply, HIT_CODE, KEY_LIMIT, LAST_CALL_CODE, LAST_REPLY_CODE, NUMBER_CODE,
-    TALLY_CODE,
+use mc_calls::{
+    CallKind, CallReply, HIT_CODE, LAST_CALL_CODE, LAST_REPLY_CODE, NUMBER_CODE, TALLY_CODE,
 };
+use std::alloc::Global;
+use zy_base::KEY_LIMIT;
 use zy_read::FileFeed;
 
 const MAGIC: &[u8; 8] = b"ZYGJRN1\n";

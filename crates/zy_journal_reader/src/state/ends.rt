@@ -7,9 +7,10 @@ ghost use Rattle.zy_journal_reader.specs.Standing.{TakesStep, takes_memory};
 use super::JournalState;
 use crate::draft::Draft;
 use crate::due::{ByteField, Due};
+use mc_calls::{CallReply, Entry, Hold};
 use std::alloc::Global;
 use std::mem;
-use zy_base::{Blob, CallReply, Entry, Hold};
+use zy_base::Blob;
 use zy_read::FileFeed;
 
 impl JournalState {

@@ -8,8 +8,9 @@ ghost use Rattle.zy_journal_reader.specs.Standing.{TakesStep};
 use super::JournalState;
 use crate::call_fields::at_value;
 use crate::due::{Due, LongField, NumberField};
+use mc_calls::{CallReply, Tallied};
 use std::alloc::Global;
-use zy_base::{COMMAND_LIMIT, CallReply, STAMP_LIMIT, Tallied};
+use zy_base::{COMMAND_LIMIT, STAMP_LIMIT};
 use zy_read::FileFeed;
 
 impl JournalState {

@@ -6,8 +6,8 @@ ghost use Rattle.zy_journal_reader.specs.Steps.{journal_fields};
 
 use super::JournalState;
 use crate::records::{entry, hold};
+use mc_calls::{Entry, Hold};
 use std::alloc::Global;
-use zy_base::{Entry, Hold};
 
 impl JournalState {
     // Takes valid records one after another. Returns the number of their bytes.

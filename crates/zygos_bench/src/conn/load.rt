@@ -3,8 +3,9 @@
 ghost use Rattle.std.specs.Prelude.{◌<◌};
 
 use crate::calls::{VALUE, get, set};
+use mc_calls::Call;
 use std::alloc::Global;
-use zy_base::{Blob, Call, NoMemory, number_text};
+use zy_base::{Blob, NoMemory, number_text};
 
 // The key of a command, of seven digits.
 fn key_of(number: u64) -> u64

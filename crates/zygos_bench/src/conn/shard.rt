@@ -2,10 +2,11 @@
 use crate::calls::apply;
 use crate::clock::nanos;
 use crate::conn::load::call_of;
+use mc_calls::Call;
 use mc_shard::Shard;
 use std::alloc::Global;
 use std::time::CpuClock;
-use zy_base::{Call, NoMemory, Queue};
+use zy_base::{NoMemory, Queue};
 
 /// The nanoseconds of `rounds` rounds of calls.
 pub(crate) fn alone<R: CpuClock>(

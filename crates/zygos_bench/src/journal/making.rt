@@ -1,11 +1,12 @@
 //! Entries to be merged and written.
 ghost use Rattle.std.specs.Prelude.{◌≡◌, ◌+◌, ◌*◌, ◌<◌, ◌≤◌, ◌^◌, [], ◌∷◌, ◌++◌, length, None, IfOk, OnOk};
 ghost use Rattle.std.specs.List.{AllByRecursion};
-ghost use Rattle.zy_base.specs.Order.{AreAt, StampsRise, IsOrdered, history_of};
+ghost use Rattle.mc_calls.specs.Order.{AreAt, StampsRise, IsOrdered, history_of};
 ghost use Rattle.zy_journal.specs.Journal.{IsEntry};
 
+use mc_calls::{Call, CallReply, Entries, Entry, Histories, Tag};
 use std::alloc::Global;
-use zy_base::{Blob, Call, CallReply, Entries, Entry, Histories, NoMemory, Tag};
+use zy_base::{Blob, NoMemory};
 use zy_journal::rising_histories_are_in_order;
 
 // The history of a shard, with `count` entries.

@@ -2,9 +2,10 @@
 ghost use Rattle.std.specs.Prelude.{◌<◌, ◌≤◌};
 
 use crate::calls::{apply, get, set};
+use mc_calls::Call;
 use mc_shard::Shard;
 use std::alloc::Global;
-use zy_base::{Call, NoMemory};
+use zy_base::NoMemory;
 
 // The key with the number 0; each has 16 digits.
 const FIRST_KEY: u64 = 1_000_000_000_000_000;

@@ -3,12 +3,13 @@
 ghost use Rattle.std.specs.Prelude.{◌≡◌, ◌≤◌, ◌^◌, []};
 
 use crate::calls::{apply, get, set};
+use mc_calls::{Call, Tag};
 use mc_shard::Shard;
 use mc_store::{Pass, Root, StoreTable, Tried};
 use std::alloc::Global;
 use std::sync::Wait;
 use std::thread;
-use zy_base::{Call, NoMemory, Tag};
+use zy_base::NoMemory;
 
 // The key of a call.
 fn key_of(number: u64) -> u64

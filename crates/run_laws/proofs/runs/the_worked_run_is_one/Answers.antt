@@ -5,7 +5,7 @@ use Rattle.mc_parse.specs.Need.{need}
 use Rattle.mc_parse.specs.Meaning.{line_command, block_command}
 use Rattle.mc_parse.specs.Calls.{due, dues_of}
 use Rattle.mc_reply.specs.Text.{text}
-use Rattle.zy_base.specs.Order.{of_connection}
+use Rattle.mc_calls.specs.Order.{of_connection}
 use Rattle.zy_frame.specs.Cut.{cut_of, frames_of}
 use Rattle.zy_run.specs.Commands.{commands_in}
 use Rattle.zy_run.specs.Spans.{held_of}

@@ -1,6 +1,6 @@
 use Rattle.std.proofs.Common.{[]}
 use Rattle.std.specs.Fmt.{digits}
-use Rattle.zy_base.specs.Counted.{no_calls}
+use Rattle.mc_calls.specs.Counted.{no_calls}
 use Rattle.shard_laws.specs.Worked.{exchanges, joins, counts, removals}
 use Rattle.shard_laws.proofs.WorkedLemmas.{is_told}
 use Rattle.shard_laws.proofs.calls.worked_calls.Goals as goal

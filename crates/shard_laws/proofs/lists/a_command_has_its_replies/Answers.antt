@@ -1,5 +1,5 @@
 use Rattle.std.proofs.Common.{refl}
-use Rattle.zy_base.proofs.EntryLemmas.{replies_at-here, replies_at-other}
+use Rattle.mc_calls.proofs.EntryLemmas.{replies_at-here, replies_at-other}
 use Rattle.shard_laws.proofs.lists.a_command_has_its_replies.Goals as goal
 
 pub returns : goal.returns

@@ -1,5 +1,5 @@
 use Rattle.std.proofs.Common.{refl}
-use Rattle.zy_base.proofs.EntryLemmas.{of_connection-here, of_connection-other}
+use Rattle.mc_calls.proofs.EntryLemmas.{of_connection-here, of_connection-other}
 use Rattle.shard_laws.proofs.lists.a_connection_has_its_entries.Goals as goal
 
 pub returns : goal.returns

@@ -1,4 +1,4 @@
-use Rattle.zy_base.proofs.ReplayLemmas.{IsLegal-push, IsLegal-front, IsLegal-shard, IsLegal-reply}
+use Rattle.mc_calls.proofs.ReplayLemmas.{IsLegal-push, IsLegal-front, IsLegal-shard, IsLegal-reply}
 use Rattle.shard_laws.proofs.lists.a_legal_list_grows_by_a_reply.Goals as goal
 
 pub returns : goal.returns

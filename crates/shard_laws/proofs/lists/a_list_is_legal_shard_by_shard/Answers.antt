@@ -1,5 +1,5 @@
-use Rattle.zy_base.specs.Shard.{empty_state}
-use Rattle.zy_base.proofs.LegalLemmas.{legal_below, legal_parts, legal_whole}
+use Rattle.mc_calls.specs.Shard.{empty_state}
+use Rattle.mc_calls.proofs.LegalLemmas.{legal_below, legal_parts, legal_whole}
 use Rattle.shard_laws.proofs.lists.a_list_is_legal_shard_by_shard.Goals as goal
 
 pub returns-clause-parts : goal.returns-clause-parts

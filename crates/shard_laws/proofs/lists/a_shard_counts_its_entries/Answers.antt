@@ -1,7 +1,7 @@
-use Rattle.zy_base.specs.Shard.{empty_state}
-use Rattle.zy_base.specs.Order.{at_shard}
-use Rattle.zy_base.proofs.LegalLemmas.{legal_parts}
-use Rattle.zy_base.proofs.CountedLemmas.{tallied-replayed}
+use Rattle.mc_calls.specs.Shard.{empty_state}
+use Rattle.mc_calls.specs.Order.{at_shard}
+use Rattle.mc_calls.proofs.LegalLemmas.{legal_parts}
+use Rattle.mc_calls.proofs.CountedLemmas.{tallied-replayed}
 use Rattle.shard_laws.proofs.AnsweredLemmas.{items-counted}
 use Rattle.shard_laws.proofs.lists.a_shard_counts_its_entries.Goals as goal
 

@@ -1,5 +1,5 @@
 use Rattle.std.proofs.Common.{refl}
-use Rattle.zy_base.proofs.EntryLemmas.{at_shard-here, at_shard-other}
+use Rattle.mc_calls.proofs.EntryLemmas.{at_shard-here, at_shard-other}
 use Rattle.shard_laws.proofs.lists.a_shard_has_its_entries.Goals as goal
 
 pub returns : goal.returns

@@ -1,4 +1,4 @@
-use Rattle.zy_base.proofs.MergeLemmas.{merge_is_legal, merge_is_below}
+use Rattle.mc_calls.proofs.MergeLemmas.{merge_is_legal, merge_is_below}
 use Rattle.shard_laws.proofs.merges.a_merge_of_histories_is_legal.Goals as goal
 
 pub returns : goal.returns

@@ -1,4 +1,4 @@
-use Rattle.zy_base.proofs.MergeLemmas.{merge_is_one}
+use Rattle.mc_calls.proofs.MergeLemmas.{merge_is_one}
 use Rattle.shard_laws.proofs.merges.histories_have_one_merge.Goals as goal
 
 pub returns : goal.returns

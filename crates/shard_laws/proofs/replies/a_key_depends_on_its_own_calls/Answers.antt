@@ -1,4 +1,4 @@
-use Rattle.zy_base.specs.Shard.{empty_state}
+use Rattle.mc_calls.specs.Shard.{empty_state}
 use Rattle.shard_laws.proofs.KeyLemmas.{replies_agree}
 use Rattle.shard_laws.proofs.replies.a_key_depends_on_its_own_calls.Goals as goal
 

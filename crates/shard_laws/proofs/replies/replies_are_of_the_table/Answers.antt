@@ -1,5 +1,5 @@
-use Rattle.zy_base.specs.Shard.{empty_state}
-use Rattle.zy_base.proofs.KindLemmas.{reply_answers}
+use Rattle.mc_calls.specs.Shard.{empty_state}
+use Rattle.mc_calls.proofs.KindLemmas.{reply_answers}
 use Rattle.shard_laws.proofs.KindLemmas.{replay_answers, legal_answers}
 use Rattle.shard_laws.proofs.replies.replies_are_of_the_table.Goals as goal
 

@@ -1,4 +1,4 @@
-use Rattle.zy_base.specs.Shard.{empty_state}
+use Rattle.mc_calls.specs.Shard.{empty_state}
 use Rattle.shard_laws.proofs.UniqueLemmas.{uniques_are_of, of_one_shard}
 use Rattle.shard_laws.proofs.uniques.uniques_of_two_shards_differ.Goals as goal
 

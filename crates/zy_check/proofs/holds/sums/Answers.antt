@@ -1,6 +1,6 @@
 use Rattle.std.proofs.Common.{List, take, sym, subst}
 use Rattle.std.proofs.lemmas.List.{take_more}
-use Rattle.zy_base.specs.declared.hold.Hold.{Hold}
+use Rattle.mc_calls.specs.declared.hold.Hold.{Hold}
 use Rattle.zy_check.specs.Held.{AreSums}
 use Rattle.zy_check.proofs.holds.sums.Goals as goal
 

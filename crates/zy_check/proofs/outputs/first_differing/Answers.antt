@@ -1,5 +1,5 @@
 use Rattle.std.proofs.Common.{sym, ◌∙◌, arith}
-use Rattle.zy_base.specs.Order.{of_connection}
+use Rattle.mc_calls.specs.Order.{of_connection}
 use Rattle.mc_parse.specs.Calls.{dues_of}
 use Rattle.zy_check.proofs.OutputLemmas.{more_output, outputs_whole}
 use Rattle.zy_check.proofs.StepLemmas.{end_outputs}

@@ -1,6 +1,6 @@
 use Rattle.std.proofs.Common.{◌≡◌, ◌<◌, ◌≤◌, ℕ, length, vec_capacity, Some}
 use Rattle.std.specs.List.{slice_get}
-use Rattle.zy_base.specs.Shard.{empty_state}
+use Rattle.mc_calls.specs.Shard.{empty_state}
 use Rattle.mc_shard.specs.Replay.{replaying}
 use Rattle.zy_check.proofs.walk.empty_shards.Given as goal
 

@@ -1,5 +1,5 @@
 use Rattle.std.proofs.Common.{List, ◌*◌, ◌-◌, ◌≤◌}
-use Rattle.zy_base.specs.declared.entry.Entry.{Entry}
+use Rattle.mc_calls.specs.declared.entry.Entry.{Entry}
 use Rattle.zy_journal.specs.Walk.{AreHeads, IsBest}
 use Rattle.zy_journal.proofs.heads.best_of.Given as goal
 

@@ -1,6 +1,6 @@
 use Rattle.std.proofs.Common.{◌≡◌, ℕ, List, ◌+◌, ◌*◌, ◌<◌, ◌≤◌, ◌-◌, length, get_or}
 use Rattle.std.specs.Prelude.{None}
-use Rattle.zy_base.specs.declared.entry.Entry.{Entry}
+use Rattle.mc_calls.specs.declared.entry.Entry.{Entry}
 use Rattle.zy_journal.specs.Walk.{AreHeads, IsBest}
 use Rattle.zy_journal.proofs.heads.bests_of.Given as goal
 

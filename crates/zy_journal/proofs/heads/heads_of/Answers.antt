@@ -1,6 +1,6 @@
 use Rattle.std.proofs.Common.{rules, ◌≡◌, ◌<◌, ◌≤◌, length, arith, refl, ◌∙◌}
 use Rattle.std.proofs.lemmas.List.{length-set}
-use Rattle.zy_base.specs.Order.{history_of}
+use Rattle.mc_calls.specs.Order.{history_of}
 use Rattle.zy_journal.proofs.WalkLemmas.{no_heads, own_inside, one_more, all_heads}
 use Rattle.zy_journal.proofs.heads.heads_of.Goals as goal
 

@@ -1,5 +1,5 @@
 use Rattle.std.proofs.Common.{subst, sym}
-use Rattle.zy_base.specs.Order.{IsMergeOf}
+use Rattle.mc_calls.specs.Order.{IsMergeOf}
 use Rattle.zy_journal.proofs.MergedLemmas.{merged_is}
 use Rattle.zy_journal.proofs.merging.merge.Goals as goal
 

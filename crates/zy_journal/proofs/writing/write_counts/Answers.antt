@@ -1,7 +1,7 @@
 use Rattle.std.proofs.Common.{sym, ap, ◌∙◌}
 use Rattle.std.specs.Int.{to_be_bytes, w64}
 use Rattle.zy_base.proofs.WritingLemmas.{writes_as}
-use Rattle.zy_base.specs.declared.tallied.Tallied.{Tallied}
+use Rattle.mc_calls.specs.declared.tallied.Tallied.{Tallied}
 use Rattle.zy_journal.specs.Journal.{counts_text, field_text}
 use Rattle.zy_journal.proofs.WriteLemmas.{numbers_5}
 use Rattle.zy_journal.proofs.writing.write_counts.Goals as goal

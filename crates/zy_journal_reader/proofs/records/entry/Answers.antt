@@ -1,7 +1,7 @@
 use Rattle.std.proofs.Common.{◌≡◌, List, ℕ, sym, ◌∙◌, ap, subst}
-use Rattle.zy_base.specs.Code.{call_of}
-use Rattle.zy_base.specs.declared.call.Call.{Call}
-use Rattle.zy_base.specs.declared.entry.Entry.{Entry}
+use Rattle.mc_calls.specs.Code.{call_of}
+use Rattle.mc_calls.specs.declared.call.Call.{Call}
+use Rattle.mc_calls.specs.declared.entry.Entry.{Entry}
 use Rattle.zy_journal_reader.specs.Found.{HasCall, HasEntry}
 use Rattle.zy_journal_reader.proofs.FoundLemmas.{entry_found}
 use Rattle.zy_journal_reader.proofs.records.entry.Goals as goal

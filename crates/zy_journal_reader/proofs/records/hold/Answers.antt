@@ -1,6 +1,6 @@
 use Rattle.std.proofs.Common.{◌≡◌, ℕ, List, ◌∷◌, ap, ◌∙◌, arith}
 use Rattle.std.proofs.lemmas.Bool.Decides.{nat_tests}
-use Rattle.zy_base.specs.declared.hold.Hold.{Hold}
+use Rattle.mc_calls.specs.declared.hold.Hold.{Hold}
 use Rattle.zy_journal_reader.proofs.FoundLemmas.{hold_found}
 use Rattle.zy_journal_reader.proofs.records.hold.Goals as goal
 

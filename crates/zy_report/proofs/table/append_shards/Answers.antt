@@ -1,5 +1,5 @@
 use Rattle.std.proofs.Common.{ap, ◌∙◌, ◌++◌, append_assoc, take, get_or}
-use Rattle.zy_base.specs.declared.tallied.Tallied.{Tallied}
+use Rattle.mc_calls.specs.declared.tallied.Tallied.{Tallied}
 use Rattle.zy_report.specs.Report.{shard_text, shards_text}
 use Rattle.zy_report.proofs.TableLemmas.{shards_more}
 use Rattle.zy_report.proofs.table.append_shards.Goals as goal

@@ -2,8 +2,8 @@ use Rattle.std.proofs.Common.{rules, ◌≡◌, ◌+◌, sym, ap, subst, ◌∙�
 use Rattle.std.specs.List.{range_with_len}
 use Rattle.std.proofs.lemmas.List.{length-append, get_or_default}
 use Rattle.std.proofs.lemmas.List.FromFn.{map-range_with_len_more}
-use Rattle.zy_base.specs.Counted.{counted}
-use Rattle.zy_base.specs.Order.{at_shard}
+use Rattle.mc_calls.specs.Counted.{counted}
+use Rattle.mc_calls.specs.Order.{at_shard}
 use Rattle.zy_report.specs.Tally.{CountsEntries, none_kept}
 use Rattle.zy_report.proofs.tallies.counts_of.Goals as goal
 

@@ -1,9 +1,9 @@
 use Rattle.std.proofs.Common.{◌≡◌, ◌≤◌, List, map, length}
 use Rattle.std.specs.List.{range_with_len}
 use Rattle.std.specs.Vec.{vec_capacity}
-use Rattle.zy_base.specs.declared.entry.Entry.{Entry}
-use Rattle.zy_base.specs.Counted.{counted}
-use Rattle.zy_base.specs.Order.{at_shard}
+use Rattle.mc_calls.specs.declared.entry.Entry.{Entry}
+use Rattle.mc_calls.specs.Counted.{counted}
+use Rattle.mc_calls.specs.Order.{at_shard}
 use Rattle.zy_report.specs.Tally.{CountsAll}
 use Rattle.zy_report.proofs.tallies.counts_of.Given as goal
 

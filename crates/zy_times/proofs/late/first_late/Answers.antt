@@ -1,7 +1,7 @@
 use Rattle.std.specs.List.{slice_get}
 use Rattle.std.proofs.Common.{◌≡◌, ◌+◌, length, List, Some, sym, ◌∙◌, ap, subst, arith}
 use Rattle.std.proofs.lemmas.Option.{slice_get_within}
-use Rattle.zy_base.specs.declared.entry.Entry.{Entry}
+use Rattle.mc_calls.specs.declared.entry.Entry.{Entry}
 use Rattle.zy_check.proofs.WalkLemmas.{left_first, none_left}
 use Rattle.zy_times.specs.Recorded.{CameBefore}
 use Rattle.zy_times.proofs.LateLemmas.{before_first, before_more, late_here}

@@ -2,7 +2,7 @@ use Rattle.std.specs.List.{slice_get}
 use Rattle.std.proofs.Common.{◌≡◌, List, Some, sym, ◌∙◌, ap, subst, arith}
 use mathlib.Core.Logic.{dite}
 use native.Mathlib.Decide.{dec_lt}
-use Rattle.zy_base.specs.declared.entry.Entry.{Entry}
+use Rattle.mc_calls.specs.declared.entry.Entry.{Entry}
 use Rattle.zy_check.proofs.WalkLemmas.{left_first}
 use Rattle.zy_times.specs.InTime.{IsEntrySent}
 use Rattle.zy_times.proofs.late.first_unsent.Goals as goal

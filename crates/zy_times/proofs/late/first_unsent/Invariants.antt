@@ -1,6 +1,6 @@
 use Rattle.std.proofs.Common.{◌≡◌, ◌<◌, ◌≤◌, ℕ, length, drop, Some}
 use Rattle.std.specs.List.{slice_get}
-use Rattle.zy_base.specs.declared.entry.Entry.{Entry}
+use Rattle.mc_calls.specs.declared.entry.Entry.{Entry}
 use Rattle.zy_times.specs.Times.{Recording}
 use Rattle.zy_times.specs.InTime.{IsEntrySent}
 use Rattle.zy_times.specs.Recorded.{HasLines}

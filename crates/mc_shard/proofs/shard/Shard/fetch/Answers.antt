@@ -1,11 +1,11 @@
 use Rattle.std.proofs.Common.{◌≡◌, ◌+◌, ◌^◌, ◌<◌, ◌∷◌, [], ◌++◌, List, ℕ, sym, ap, subst, ◌∙◌, arith}
 use Rattle.std.specs.Prelude.{option_copied}
 use Rattle.std.specs.FinMap.{get}
-use Rattle.zy_base.specs.declared.call.Call.TheVariants.{Get}
-use Rattle.zy_base.specs.declared.call_reply.CallReply.{CallReply}
-use Rattle.zy_base.specs.Kind.{MayAnswer}
-use Rattle.zy_base.specs.Shard.{State, tallied, outcome_of, reply_to}
-use Rattle.zy_base.proofs.KindLemmas.{outcome_answers}
+use Rattle.mc_calls.specs.declared.call.Call.TheVariants.{Get}
+use Rattle.mc_calls.specs.declared.call_reply.CallReply.{CallReply}
+use Rattle.mc_calls.specs.Kind.{MayAnswer}
+use Rattle.mc_calls.specs.Shard.{State, tallied, outcome_of, reply_to}
+use Rattle.mc_calls.proofs.KindLemmas.{outcome_answers}
 use Rattle.mc_shard.specs.Shard.{Kept, kept, last_of, entry_of, reply_of}
 use Rattle.mc_shard.proofs.CountLemmas.{few_gets, few_sets}
 use Rattle.mc_shard.proofs.SoundLemmas.{IsSound-got, state_got}

@@ -1,4 +1,4 @@
-use Rattle.zy_base.proofs.ReplayLemmas.{counts_calls}
+use Rattle.mc_calls.proofs.ReplayLemmas.{counts_calls}
 use Rattle.mc_shard.proofs.shard.Shard.history.Goals as goal
 
 pub returns-clause-count : goal.returns-clause-count

@@ -1,8 +1,8 @@
 use Rattle.std.proofs.Common.{refl, arith, sym, ap, subst, ◌∙◌, ◌<◌, ◌^◌}
 use Rattle.std.specs.Prelude.{option_copied}
-use Rattle.zy_base.specs.Kind.{MayAnswer}
-use Rattle.zy_base.specs.Shard.{State, Outcome, tallied, item_at, outcome_of, reply_to}
-use Rattle.zy_base.proofs.KindLemmas.{outcome_answers}
+use Rattle.mc_calls.specs.Kind.{MayAnswer}
+use Rattle.mc_calls.specs.Shard.{State, Outcome, tallied, item_at, outcome_of, reply_to}
+use Rattle.mc_calls.proofs.KindLemmas.{outcome_answers}
 use Rattle.mc_shard.specs.Shard.{last_of, TallyCounts}
 use Rattle.mc_shard.specs.Step.{effect_in, outcome_in}
 use Rattle.mc_shard.proofs.CountLemmas.{few_gets, few_sets}

@@ -1,6 +1,6 @@
 use Rattle.std.proofs.Common.{rules, ℕ, refl, ap, ◌∙◌, sym, subst, ◌∷◌}
-use Rattle.zy_base.specs.Kind.{MayAnswer}
-use Rattle.zy_base.proofs.KindLemmas.{reply_answers}
+use Rattle.mc_calls.specs.Kind.{MayAnswer}
+use Rattle.mc_calls.proofs.KindLemmas.{reply_answers}
 use Rattle.mc_shard.specs.Shard.{kept, state_of, entry_of}
 use Rattle.atomic_table.specs.Table.{rest}
 use Rattle.mc_store.specs.Steps.{Seated, HasTaken}

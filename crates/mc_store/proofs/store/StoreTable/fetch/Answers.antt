@@ -1,5 +1,5 @@
 use Rattle.std.proofs.Common.{◌≡◌, sym, ap, ◌∙◌}
-use Rattle.zy_base.specs.declared.call.Call.TheVariants.{Get}
+use Rattle.mc_calls.specs.declared.call.Call.TheVariants.{Get}
 use Rattle.mc_shard.specs.Shard.{entry_of}
 use Rattle.mc_store.specs.declared.fetched.Fetched.TheVariants.{Made}
 use Rattle.mc_store.proofs.CallLemmas.{held_after}

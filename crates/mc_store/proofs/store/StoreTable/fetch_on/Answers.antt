@@ -1,5 +1,5 @@
 use Rattle.std.proofs.Common.{rules, ℕ, refl, ap, ◌∙◌, sym, subst, ◌∷◌}
-use Rattle.zy_base.specs.declared.call.Call.TheVariants.{Get}
+use Rattle.mc_calls.specs.declared.call.Call.TheVariants.{Get}
 use Rattle.mc_shard.specs.Shard.{kept, entry_of, reply_of}
 use Rattle.atomic_table.specs.Table.{rest}
 use Rattle.mc_store.specs.Steps.{Seated, HasTaken}

@@ -1,5 +1,5 @@
 use Rattle.std.proofs.Common.{List, sym, subst}
-use Rattle.zy_base.specs.declared.call_reply.CallReply.{CallReply}
+use Rattle.mc_calls.specs.declared.call_reply.CallReply.{CallReply}
 use Rattle.zy_check.specs.Begun.{IsPartlyAnswered}
 use Rattle.zy_check.proofs.AskedLemmas.{kept_more}
 use Rattle.zy_check.proofs.begun.Begun.answer.Goals as goal

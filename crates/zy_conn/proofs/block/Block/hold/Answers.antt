@@ -1,5 +1,5 @@
 use Rattle.std.proofs.Common.{◌+◌, ◌<◌, List, [], ◌∷◌, ◌++◌, sym, ap, ◌∙◌, subst, arith}
-use Rattle.zy_base.specs.declared.hold.Hold.{Hold}
+use Rattle.mc_calls.specs.declared.hold.Hold.{Hold}
 use Rattle.zy_conn.specs.Work.{Mark, Worked}
 use Rattle.zy_conn.specs.Block.{Blocked}
 use Rattle.zy_conn.specs.Hold.{hold_by}

@@ -1,5 +1,5 @@
 use Rattle.std.proofs.Common.{rules, ◌≡◌, ◌<◌, ◌/◌, List, length, slice_index_or, slice_set, ◌+◌, arith, refl, sym, subst, ◌∙◌, ap}
-use Rattle.zy_base.specs.declared.entry.Entry.{Entry}
+use Rattle.mc_calls.specs.declared.entry.Entry.{Entry}
 use Rattle.zy_journal.specs.Walk.{rests_of, AreHeads, IsTakenAt}
 use Rattle.zy_journal.proofs.WalkLemmas.{list_there, entry_there, taken_at, heads_taken, bests_taken, group_of}
 use Rattle.zy_journal.proofs.rests.Rests.take.Goals as goal

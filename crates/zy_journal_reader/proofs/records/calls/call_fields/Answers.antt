@@ -1,7 +1,7 @@
 use Rattle.std.proofs.Common.{◌<◌, ◌^◌, subst}
 use Rattle.std.specs.Int.{to_be_bytes, w32, w64}
-use Rattle.zy_base.specs.declared.call_kind.CallFields.{CallFields}
-use Rattle.zy_base.specs.Bounds.{IsKey, IsValue}
+use Rattle.mc_calls.specs.declared.call_kind.CallFields.{CallFields}
+use Rattle.mc_calls.specs.Bounds.{IsKey, IsValue}
 use Rattle.zy_journal.specs.Journal.{key_text, value_text}
 use Rattle.zy_journal_reader.specs.Found.{HasField}
 use Rattle.zy_journal_reader.proofs.FoundLemmas.{call_found}

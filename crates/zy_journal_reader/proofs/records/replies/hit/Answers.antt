@@ -1,6 +1,6 @@
 use Rattle.std.proofs.Common.{List, ℕ, ◌∷◌, sym, subst}
-use Rattle.zy_base.specs.Code.{hit_code}
-use Rattle.zy_base.specs.declared.call_reply.CallReply.TheVariants.{Hit}
+use Rattle.mc_calls.specs.Code.{hit_code}
+use Rattle.mc_calls.specs.declared.call_reply.CallReply.TheVariants.{Hit}
 use Rattle.zy_journal_reader.specs.Found.{HasReply}
 use Rattle.zy_journal_reader.proofs.FoundLemmas.{hit_found}
 use Rattle.zy_journal_reader.proofs.records.replies.hit.Goals as goal

@@ -1,8 +1,8 @@
 use Rattle.std.proofs.Common.{◌≡◌, ℕ, ◌≤◌, false, List, sym, subst, arith}
 use Rattle.std.specs.Prelude.{◌==◌}
 use Rattle.std.proofs.lemmas.Bool.Decides.{nat_tests}
-use Rattle.zy_base.specs.Code.{hit_code, number_code, tally_code, last_reply_code}
-use Rattle.zy_base.specs.declared.call_reply.CallReply.{CallReply}
+use Rattle.mc_calls.specs.Code.{hit_code, number_code, tally_code, last_reply_code}
+use Rattle.mc_calls.specs.declared.call_reply.CallReply.{CallReply}
 use Rattle.zy_journal_reader.specs.Found.{HasReply}
 use Rattle.zy_journal_reader.proofs.FoundLemmas.{plain_found}
 use Rattle.zy_journal_reader.proofs.records.replies.reply.Goals as goal

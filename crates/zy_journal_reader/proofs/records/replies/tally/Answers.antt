@@ -1,6 +1,6 @@
 use Rattle.std.proofs.Common.{List, ℕ, ◌∷◌, sym, subst}
-use Rattle.zy_base.specs.Code.{tally_code}
-use Rattle.zy_base.specs.declared.call_reply.CallReply.{CallReply}
+use Rattle.mc_calls.specs.Code.{tally_code}
+use Rattle.mc_calls.specs.declared.call_reply.CallReply.{CallReply}
 use Rattle.zy_journal_reader.specs.Found.{HasReply}
 use Rattle.zy_journal_reader.proofs.FoundLemmas.{tally_found}
 use Rattle.zy_journal_reader.proofs.records.replies.tally.Goals as goal

@@ -1,6 +1,6 @@
 use Rattle.std.proofs.Common.{◌≡◌, arith, ◌≤◌, ◌<◌, ◌+◌, ◌*◌}
-use Rattle.zy_base.specs.Order.{last_stamp}
-use Rattle.zy_base.proofs.EntryLemmas.{AreAt-push, StampsRise-push, last_stamp-push}
+use Rattle.mc_calls.specs.Order.{last_stamp}
+use Rattle.mc_calls.proofs.EntryLemmas.{AreAt-push, StampsRise-push, last_stamp-push}
 use Rattle.zygos_bench.proofs.JournalLemmas.{entries_on}
 use Rattle.zygos_bench.proofs.journal.making.add_entries.Goals as goal
 

@@ -1,6 +1,6 @@
 use Rattle.std.proofs.Common.{◌+◌, ◌*◌, ◌≤◌}
 use Rattle.std.specs.List.{AllByRecursion}
-use Rattle.zy_base.specs.Order.{AreAt, StampsRise, last_stamp}
+use Rattle.mc_calls.specs.Order.{AreAt, StampsRise, last_stamp}
 use Rattle.zy_journal.specs.Journal.{IsEntry}
 use Rattle.zygos_bench.proofs.journal.making.add_entries.Given as goal
 

@@ -1,6 +1,6 @@
 use Rattle.std.proofs.Common.{◌≡◌, ℕ, length}
 use Rattle.std.specs.Prelude.{None}
-use Rattle.zy_base.specs.Order.{IsOrdered, history_of}
+use Rattle.mc_calls.specs.Order.{IsOrdered, history_of}
 use Rattle.zygos_bench.proofs.journal.making.add_histories.Given as goal
 
 abbrev pub invariant-loop-shard : goal.invariant-loop-shard

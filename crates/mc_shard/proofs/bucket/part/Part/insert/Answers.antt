@@ -1,6 +1,6 @@
 use Rattle.std.proofs.Common.{◌≡◌, subst, sym}
 use Rattle.std.specs.Prelude.{Option, IfOk}
-use Rattle.zy_base.specs.declared.item.Item.{Item}
+use Rattle.mc_calls.specs.declared.item.Item.{Item}
 use Rattle.mc_shard.proofs.RowLemmas.{within_row, item_before, item_after, row_changed}
 use Rattle.mc_shard.proofs.bucket.part.Part.insert.Goals as goal
 

@@ -1,0 +1,11 @@
+pub mod EntryLemmas
+pub mod KindLemmas
+pub mod LegalLemmas
+pub mod ReplayLemmas
+pub mod MergeLemmas
+pub mod KeyLemmas
+pub mod ReplyLemmas
+pub mod SameLemmas
+pub mod CodeLemmas
+pub mod TableLemmas
+pub mod CountedLemmas

@@ -1,0 +1,13 @@
+pub mod Key
+pub mod Table
+pub mod Call
+pub mod Counted
+pub mod Shard
+pub mod Kind
+pub mod Code
+pub mod Order
+pub mod Bounds
+pub mod Told
+pub mod Replies
+pub mod History
+pub mod Held

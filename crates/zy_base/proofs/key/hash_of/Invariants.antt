@@ -1,7 +1,0 @@
-use Rattle.std.proofs.Common.{◌≡◌, drop}
-use Rattle.zy_base.specs.Key.{hash_after, hash_of}
-use Rattle.zy_base.proofs.key.hash_of.Given as goal
-
--- the bytes that are left lead from the hash so far to the hash of all
-abbrev pub invariant-loop-byte : goal.invariant-loop-byte
-invariant-loop-byte l = hash_after l.hash (drop l.byte-index l.key) ≡ hash_of l.key
