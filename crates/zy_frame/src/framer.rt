@@ -88,7 +88,6 @@ impl Framer {
     }
 
     // Takes some bytes of a piece from a place on, at least one. If allocation fails, every later call is refused.
-    #[tactic(auto, using(zy_base::proofs::RestLemmas::rest_after))]
     fn advance(&mut self, piece: &Blob, at: usize, frames: &mut Frames) -> Result<usize, NoMemory>
         requires some { at < length piece.now }
         ensures value { Advances self.old self.new frames.old frames.new (drop at piece.now) result }

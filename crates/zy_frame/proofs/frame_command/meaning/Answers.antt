@@ -15,4 +15,4 @@ parse_read_block-requires-clause-within c =
 pub parse_large-command-requires-clause-within : goal.parse_large-command-requires-clause-within
 parse_large-command-requires-clause-within c =
     let f = subst Fits c.in-Large.is (fits c.frame.inside.kind c.frame.invariant.0) in
-    omega (arith, f.0, ap length c.bytes-in-Large.ensures.value)
+    omega (arith, f.0, ap length c.bytes.ensures.value)

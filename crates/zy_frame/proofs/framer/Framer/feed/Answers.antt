@@ -1,4 +1,4 @@
-use Rattle.std.proofs.Common.{sym, ap, ◌∙◌, subst}
+use Rattle.std.proofs.Common.{◌≤◌, List, ℕ, length, sym, ap, ◌∙◌, subst}
 use Rattle.zy_frame.specs.Feed.{AppendsFirst}
 use Rattle.zy_frame.specs.Steps.{progress_of}
 use Rattle.zy_frame.proofs.Feeding.{stands_on, appends, appends_first, appends_none, taken_all, taken_quit, quit_state, refused_state}
@@ -33,7 +33,7 @@ returns-in-Err c = record {
 
 pub returns : goal.returns
 returns c =
-    let all = taken_all c.args.self.now c.loop-at.self c.args.frames.now c.loop-at.frames c.args.piece.now c.loop-at.at c.loop-at-test.false c.loop-at.invariant.1 in
+    let all = taken_all c.args.self.now c.loop-at.self c.args.frames.now c.loop-at.frames c.args.piece.now c.loop-at.at (subst (λ (l : List ℕ). length l ≤ c.loop-at.at) c.bytes.ensures.value c.loop-at-test.false) c.loop-at.invariant.1 in
     record {
       fed = λ fed stands. stands_on c.args.self.now c.loop-at.self c.args.frames.now c.loop-at.frames fed c.args.piece.now all stands;
       due = λ fed stands. appends c.args.self.now c.loop-at.self c.args.frames.now c.loop-at.frames fed c.args.piece.now all stands;
