@@ -214,9 +214,9 @@ impl Core {
         ensures turns { self.new.turns ≡ self.old.turns + 1 }
         ensures still { is_settled self.old.home ≡ true → is_settled self.new.home ≡ true }
     {
-        self.announce(shared);
+        self.set_announcement(shared, true);
         let nap = self.rest_if_idle(rt, shared, bells, pass, gate);
-        self.withdraw(shared);
+        self.set_announcement(shared, false);
         nap
     }
 
@@ -261,21 +261,18 @@ impl Core {
         }
     }
 
-    // Announces that the core rests unless it finds something to do.
-    fn announce(&mut self, shared: &Shared)
+    // Announces that the core rests unless it finds something to do, or withdraws that.
+    fn set_announcement(&mut self, shared: &Shared, is_announced: bool)
         requires fits { Fits shared.now (identity_of self.old) }
-        ensures value { self.new ≡ with_announcement true self.new.control.trace.sleepers.value self.old }
-        ensures announced { self.new.control.role ≡ roles.Core self.old.home.core (has_counted self.old.control.role) true }
+        ensures value { self.new ≡ with_announcement is_announced self.new.control.trace.sleepers.value self.old }
+        ensures role { self.new.control.role
+            ≡ roles.Core self.old.home.core (has_counted self.old.control.role) is_announced }
     {
-        shared.control.announce(&mut self.control);
-    }
-
-    // Withdraws what it announced.
-    fn withdraw(&mut self, shared: &Shared)
-        requires fits { Fits shared.now (identity_of self.old) }
-        ensures value { self.new ≡ with_announcement false self.new.control.trace.sleepers.value self.old }
-    {
-        shared.control.withdraw(&mut self.control);
+        if is_announced {
+            shared.control.announce(&mut self.control);
+        } else {
+            shared.control.withdraw(&mut self.control);
+        }
     }
 
     // Whether it has counted itself.
