@@ -72,7 +72,7 @@ module _ (shards count : ℕ) (records : List Record) (journal : Journal) (outpu
         let conn = e.tag.conn in
         let commands = commands_held checked.streams conn in
         let low = due_there (length commands) (length (of_connection conn (take p journal.entries))) (due_in checked conn) _
-            (due_below shards conn 0 (length commands) commands (omega arith)) (next_call right p e is).call in
+        (due_below shards conn 0 (length commands) commands (omega arith)) (next_call right p e is).call in
         subst (λ (l : List Command). e.tag.index < length l) (held_commands count conn records (within right p e is)) low;
   }
 
