@@ -1,4 +1,4 @@
--- How the top call ends: what each answer says of the words and of what the call saw.
+-- How the top call ends: what each answer says of the arguments and of what the call saw.
 use Rattle.std.specs.Prelude.{◌≡◌, ◌⊎◌, ℕ, List, Option, None, ⊤, option_map, IsSomeAnd}
 use Rattle.zy_command_line.specs.declared.request.Request.{Request}
 use Rattle.zy_command_line.specs.declared.request.Request.TheVariants.{Check}
@@ -16,27 +16,28 @@ use Rattle.zygos_linear.specs.Lines.{finding_line}
 abbrev pub check_with : Option ℕ → Option Request
 check_with shards = option_map Check shards
 
--- the words ask for a number of shards; this is so of the recording whose bytes `Of` says, and this of a text
+-- the arguments request a number of shards; `Holds` holds of the recording in the input, whose bytes `Of` selects, and
+-- `Writes` holds
 abbrev pub Finds : Option ℕ → ((List ℕ → Type 0) → Type 0) → (Given → Recording → ℕ → Type 0) → Type 0 → Type 0
 Finds shards Of Holds Writes = IsSomeAnd shards (λ number. Of (λ bytes. OfRecording number bytes Holds × Writes))
 
--- the finding is that on the recording whose bytes `Of` says, and this is so of its line
-abbrev pub Judges : Option ℕ → ((List ℕ → Type 0) → Type 0) → (List ℕ → Type 0) → Finding → Type 0
-Judges shards Of Writes finding =
+-- the finding is that on the recording in the input, and `Writes` holds of its line
+abbrev pub JudgesAs : Option ℕ → ((List ℕ → Type 0) → Type 0) → (List ℕ → Type 0) → Finding → Type 0
+JudgesAs shards Of Writes finding =
     Finds shards Of (λ g r count. HasFinding g r count finding) (Writes (finding_line finding))
 
 -- a prefix of the line of the finding was written
 abbrev pub JudgesPart : Option ℕ → Seen → Type 0
-JudgesPart shards call = (finding : Finding) × Judges shards (OfGiven call.source) (TakesPart call.sink) finding
+JudgesPart shards call = (finding : Finding) × JudgesAs shards (OfGiven call.source) (TakesPart call.sink) finding
 
 -- each answer has its cause
-abbrev pub EndsAs : Option ℕ → Seen → Answer → Type 0
-EndsAs shards call (Judged finding) = Judges shards (OfGiven call.source) (WasWritten call.sink) finding
-EndsAs shards call Usage = shards ≡ None
-EndsAs shards call (Refused refusal) = IsFaultOf (check_with shards) call.source.before refusal
-EndsAs shards call ReadFault = ReadsInput (check_with shards) × HasRisen call.source
-EndsAs shards call WriteFault = JudgesPart shards call × HasRisen call.sink
-EndsAs shards call OutOfMemory = ⊤
+abbrev pub HasCause : Option ℕ → Seen → Answer → Type 0
+HasCause shards call (Judged finding) = JudgesAs shards (OfGiven call.source) (WasWritten call.sink) finding
+HasCause shards call Usage = shards ≡ None
+HasCause shards call (Refused refusal) = IsFaultOf (check_with shards) call.source.before refusal
+HasCause shards call ReadFault = ReadsInput (check_with shards) × HasRisen call.source
+HasCause shards call WriteFault = JudgesPart shards call × HasRisen call.sink
+HasCause shards call OutOfMemory = ⊤
 
 -- ---- answers that must come
 

@@ -34,8 +34,8 @@ HasFinding g r count (Run (InTime commands ended)) = IsLinearizable g r count co
 abbrev pub recording_of : List Record → List Entry → Recording
 recording_of records entries = record { records = records; entries = entries }
 
--- the bytes are a capture, a journal and a replies file, one after the other, and this is so of what `check` is given
--- by them, of the recording, and of the number of its connections
+-- the bytes are a capture, a journal and a replies file, one after the other; `Holds` holds of what `check` is given by
+-- them, of the recording, and of the number of its connections
 pub record OfRecording (shards : ℕ) (bytes : List ℕ) (Holds : Given → Recording → ℕ → Type 0) : Type 0 where
   pub streams : List (List (List ℕ))
   pub journal : Journal

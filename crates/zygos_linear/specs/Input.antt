@@ -17,7 +17,7 @@ pub record AreOfRecords (streams : List (List (List ℕ))) (times : Times) (coun
   pub joined : streams ≡ with_records (no_bytes count) records
   pub times_hold : TimesHold times count records
 
--- this was found of the input, or it was read no further
+-- this was found of the input, or reading stopped
 abbrev pub FindsIn : ℕ → Side → Result Finding (Stop Refusal) → Type 0
 FindsIn shards source (Ok finding) =
     OfGiven source (λ bytes. OfRecording shards bytes (λ g r count. HasFinding g r count finding))

@@ -12,15 +12,15 @@ use zy_times::Timing;
 pub enum Answer {
     /// The input was read to its end, this was found of it, and its line was written.
     Judged(Finding),
-    /// The words are invalid. Nothing was read or written.
+    /// The arguments are invalid. Nothing was read or written.
     Usage,
-    /// The input has this fault. Nothing was written.
+    /// The input has this error. Nothing was written.
     Refused(Refusal),
     /// Reading failed. Nothing was written.
     ReadFault,
     /// Writing failed. A prefix of the line was written.
     WriteFault,
-    /// Memory was refused. Nothing was written.
+    /// An allocation failed. Nothing was written.
     OutOfMemory,
 }
 

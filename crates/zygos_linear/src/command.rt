@@ -1,11 +1,11 @@
-//! What the words ask for.
+//! What the arguments request.
 ghost use Rattle.std.specs.Prelude.{◌≡◌, ◌≤◌, None};
 ghost use Rattle.zy_command_line.specs.Request.{shards_asked};
 ghost use Rattle.zy_serving.specs.Seen.{side, both_sides};
 ghost use Rattle.zygos_run.specs.Ends.{LeavesSink};
 ghost use Rattle.zygos_run.specs.Finish.{FinishesOnce};
 ghost use Rattle.zygos_linear.specs.Answers.{answer_of_check};
-ghost use Rattle.zygos_linear.specs.Ends.{EndsAs};
+ghost use Rattle.zygos_linear.specs.Ends.{HasCause};
 
 use crate::answer::Answer;
 use crate::input::judge_input;
@@ -14,7 +14,7 @@ use zy_base::{Blob, Sink, Source};
 use zy_command_line::laws::requests_are_in_their_ranges;
 use zy_command_line::shards_asked;
 
-/// Judges the input, on the number of shards that the words ask for.
+/// Judges the input, on the number of shards that the arguments request.
 pub(crate) fn carry_out<S: Source, K: Sink>(
     alloc: Global,
     words: &[Blob],
@@ -23,7 +23,7 @@ pub(crate) fn carry_out<S: Source, K: Sink>(
 ) -> Answer
     ensures reads { S.faults source.old ≤ S.faults source.new }
     ensures writes { K.faults sink.old ≤ K.faults sink.new }
-    ensures ends { EndsAs (shards_asked words.now)
+    ensures ends { HasCause (shards_asked words.now)
         (both_sides (side S.rest S.faults source.old source.new) (side K.holds K.faults sink.old sink.new)) result }
     ensures sink_kept { LeavesSink (answer_of_check result) → sink.new ≡ sink.old }
     ensures finished { FinishesOnce (answer_of_check result) (K.finishes sink.old) (K.finishes sink.new)

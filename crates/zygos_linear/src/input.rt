@@ -5,7 +5,7 @@ ghost use Rattle.zy_serving.specs.Seen.{side, both_sides};
 ghost use Rattle.zygos_run.specs.Ends.{LeavesSink};
 ghost use Rattle.zygos_run.specs.Finish.{FinishesOnce};
 ghost use Rattle.zygos_linear.specs.Answers.{answer_of_check};
-ghost use Rattle.zygos_linear.specs.Ends.{EndsAs};
+ghost use Rattle.zygos_linear.specs.Ends.{HasCause};
 ghost use Rattle.zygos_linear.specs.Input.{FindsIn};
 
 use crate::answer::Answer;
@@ -27,7 +27,7 @@ pub(crate) fn judge_input<S: Source, K: Sink>(
     requires shards { AreShards shards }
     ensures reads { S.faults source.old ≤ S.faults source.new }
     ensures writes { K.faults sink.old ≤ K.faults sink.new }
-    ensures ends { EndsAs (Some shards)
+    ensures ends { HasCause (Some shards)
         (both_sides (side S.rest S.faults source.old source.new) (side K.holds K.faults sink.old sink.new)) result }
     ensures sink_kept { LeavesSink (answer_of_check result) → sink.new ≡ sink.old }
     ensures finished { FinishesOnce (answer_of_check result) (K.finishes sink.old) (K.finishes sink.new)

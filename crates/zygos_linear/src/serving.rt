@@ -14,7 +14,7 @@ ghost use Rattle.zygos_run.specs.Said.{Said};
 ghost use Rattle.zygos_run.specs.Served.{IsToldGood, IsToldBad};
 ghost use Rattle.zygos_linear.specs.declared.finding.Finding.TheVariants.{NoRun, Run};
 ghost use Rattle.zygos_linear.specs.Answers.{answer_of_check};
-ghost use Rattle.zygos_linear.specs.Ends.{check_with, Finds, Judges, JudgesPart, IsThisOr, IsJudgedOr};
+ghost use Rattle.zygos_linear.specs.Ends.{check_with, Finds, JudgesAs, JudgesPart, IsThisOr, IsJudgedOr};
 ghost use Rattle.zygos_linear.specs.Finding.{IsLinearizable};
 ghost use Rattle.zygos_linear.specs.Lines.{finding_line, line_for};
 
@@ -29,10 +29,10 @@ use zy_input::{parts_have_no_fault, there_is_one_part_fault};
 /// Judges a recording: whether `check` says yes, and each call can be given a moment between its command and its
 /// answer, in the order of the journal.
 ///
-/// `words` are the words after the program's name: the options of `zygos check`. A capture, a journal and a replies
+/// `words` are the arguments: the options of `zygos check`. A capture, a journal and a replies
 /// file are read from `source` to its end, and one line is written to `sink`, which is finished once.
 ///
-/// A line on an answer that is no finding goes to `says`; a fault there changes nothing. The answer may always be
+/// A line on an answer that is no finding goes to `says`; a failure there changes nothing. The answer may always be
 /// `OutOfMemory`, but only before the first byte is written.
 pub fn serve_linear<S: Source, K: Sink, E: Sink>(
     alloc: Global,
@@ -61,7 +61,7 @@ pub fn serve_linear<S: Source, K: Sink, E: Sink>(
 
     // The headline: the same for the bytes that the source reported.
     ensures headline { (finding : _) → result ≡ Answer.Judged finding
-        → Judges (shards_asked words.now) (OfTold (side S.rest S.faults source.old source.new))
+        → JudgesAs (shards_asked words.now) (OfTold (side S.rest S.faults source.old source.new))
         (WasWritten (side K.holds K.faults sink.old sink.new)) finding }
 
     // The other answers, each with its cause.

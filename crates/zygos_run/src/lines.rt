@@ -40,11 +40,7 @@ fn write_piece<K: Sink>(sink: &mut K, piece: Piece) -> Result<(), Failed>
 }
 
 /// Writes a line with a number at its end.
-pub fn write_number<K: Sink>(
-    sink: &mut K,
-    text: &'static [u8],
-    number: u64,
-) -> Result<(), Failed>
+pub fn write_number<K: Sink>(sink: &mut K, text: &'static [u8], number: u64) -> Result<(), Failed>
     ensures writes { Writes K.holds K.faults K.finishes sink.old sink.new result (line_with text.now number) }
 {
     let pieces = [Piece::Text(text), Piece::Number(number), Piece::Text(b"\n")];

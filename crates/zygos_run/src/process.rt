@@ -1,4 +1,4 @@
-//! What a program does with its process: its words, and its end without memory.
+//! What a program does with its process: its arguments, and its end without memory.
 
 use crate::standard::StdSink;
 use std::alloc::Global;
@@ -12,8 +12,7 @@ const OUT_OF_MEMORY: u8 = 6;
 
 const OUT_OF_MEMORY_LINE: &[u8] = b"zygos: out of memory\n";
 
-/// Writes to standard error that there is no memory for the words themselves, or for a buffer; the exit status.
-/// Takes no memory.
+/// Writes to standard error that there is no memory for the arguments or for a buffer; the exit status. Takes no memory.
 pub fn without_memory<W: Write + Drop>(error: W) -> ExitCode {
     let mut says = StdSink::new(error);
     // The status is the same if the line cannot be written.
@@ -22,7 +21,7 @@ pub fn without_memory<W: Write + Drop>(error: W) -> ExitCode {
     ExitCode::from(OUT_OF_MEMORY)
 }
 
-/// The words after the program's name, as bytes.
+/// The arguments, as bytes.
 pub fn words<R: Env>(rt: &R, alloc: Global) -> Result<Vec<Blob>, NoMemory> {
     let mut words = Vec::new(alloc);
     match add_words(rt, alloc, &mut words) {

@@ -14,10 +14,7 @@ pub(crate) fn write_last<K: Sink>(sink: &mut K, piece: &[u8]) -> Result<(), Fail
 }
 
 /// Finishes the sink, if all of a text was written to it.
-pub fn finish_written<K: Sink>(
-    sink: &mut K,
-    written: Result<(), Failed>,
-) -> Result<(), Failed>
+pub fn finish_written<K: Sink>(sink: &mut K, written: Result<(), Failed>) -> Result<(), Failed>
     ensures writes { (first : _) (text : List ℕ)
         → Writes K.holds K.faults K.finishes first sink.old written text
         → WritesLast K.holds K.faults K.finishes K.is_finished first sink.new result text }
