@@ -9,7 +9,7 @@ ghost use Rattle.zy_park.specs.Pass.{ringing_each};
 ghost use Rattle.zy_core.specs.Core.{AreOfOne, CoreKeeps, Fits, cored, stepped, with_count, with_announcement, identity_of};
 ghost use Rattle.zy_core.specs.Turn.{HasSteps, TurnTo, CameTo, ShowsBusy};
 ghost use Rattle.zy_core.specs.Nap.{NapTo, RestTo, bell_after};
-ghost use Rattle.zy_rx.specs.Feed.{rings_of};
+ghost use Rattle.zy_rx.specs.Feed.{rings_of, HasMet};
 
 use crate::nap::Nap;
 use crate::shared::Shared;
@@ -147,6 +147,7 @@ impl Core {
     /// Shows the outlet and the feeder's inlet what the other end did.
     pub fn meet<F: Feeder>(&mut self, feeder: &mut F)
         requires ring { slice_get (rings_of (F.inlets feeder.old)) self.old.home.core ≡ Some self.old.outlet.ring }
+        ensures all { HasMet self.old.home.core (F.inlets feeder.new) self.new.outlet }
         ensures core { self.new ≡ record self.old {
           outlet = record self.old.outlet { known = self.new.outlet.known };
         } }
