@@ -12,7 +12,10 @@ failures = []
 
 def path():
     """Where the program is."""
-    return sys.argv[1] if len(sys.argv) > 1 else os.path.join(TOP, "crates/zygos/out/zygos")
+    return PATH
+
+
+PATH = os.path.realpath(sys.argv[1]) if len(sys.argv) > 1 else os.path.join(TOP, "crates/zygos/out/zygos")
 
 
 def run(words, given, output=subprocess.PIPE, **how):
