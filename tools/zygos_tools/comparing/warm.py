@@ -25,11 +25,12 @@ import sys
 from collections.abc import Iterable, Iterator, Mapping, Sequence
 
 from zygos_tools.cli import ends
+from zygos_tools.cli.screen import Screen
 from zygos_tools.comparing.apart import keys_of, stored_by
 from zygos_tools.comparing.arrivals import Arrival, Arrivals, Texts, ends_of, recorded, streams_of, with_answers
 from zygos_tools.files.formats import END, Close, Output, capture_start, close, pieces, segment
-from zygos_tools.judging.events import Verdict
-from zygos_tools.judging.judge import Judge
+from zygos_tools.judging.events import Verdict, brief
+from zygos_tools.judging.judge import Clock, Judge
 from zygos_tools.protocol.answers import MOST_NUMBER, items, meta, number
 from zygos_tools.protocol.meaning import Command, line_of
 from zygos_tools.protocol.table import does, is_there
@@ -166,7 +167,7 @@ def shown_by(command: Command, name: bytes, answer: bytes | None) -> Shown | Non
     return None
 
 
-def items_before(arrivals: Arrivals, name: str) -> dict[bytes, Item]:
+def items_before(arrivals: Arrivals, name: str, clock: Clock) -> dict[bytes, Item]:
     """The items from before a capture, by key; `name` is that of its replies."""
     texts = recorded(arrivals, name)
     given = list(with_answers(arrivals, streams_of(arrivals.records()), texts))
@@ -181,22 +182,24 @@ def items_before(arrivals: Arrivals, name: str) -> dict[bytes, Item]:
     for one, end in zip(given, ends_of(arrivals, given)):
         found.take(one.arrival, one.answer, end)
     there = {key: item for key, item in found.found.items() if item.is_there}
-    for key, (flags, value) in numbers_before(arrivals, texts, sorted(counted & there.keys())):
+    for key, (flags, value) in numbers_before(arrivals, texts, sorted(counted & there.keys()), clock):
         there[key].flags, there[key].value = flags, value
     return there
 
 
-def numbers_before(arrivals: Arrivals, texts: Texts, keys: Iterable[bytes]) -> Iterator[tuple[bytes, tuple[int, bytes]]]:
+def numbers_before(arrivals: Arrivals, texts: Texts, keys: Iterable[bytes],
+                   clock: Clock) -> Iterator[tuple[bytes, tuple[int, bytes]]]:
     """The flags and the numbers that counters had before a capture, from orders of their calls that judge finds: several
     clients may have counted at one time, some of them without an answer."""
     if not keys:
         return
     try:
         judge = Judge(arrivals.capture(), [Output(*key, text) for key, text in sorted(texts.items())], is_warm=True,
-                      has_reasons=False, is_first=False)
+                      clock=clock, has_reasons=False, is_first=False)
     except Verdict:
         return
     for key in keys:
+        clock.set(f"key {brief(key)}")
         try:
             judge.keys.search([key])
         except Verdict:
@@ -224,8 +227,9 @@ def main(words: list[str]) -> None:
     _, files = ends.options(words, {})
     if len(files) != 2 or files[0] == "-":
         ends.stop("a capture, which is a file, and its replies are read; --help says more", 2)
-    arrivals = Arrivals(files[0])
-    found = items_before(arrivals, files[1])
+    arrivals, screen = Arrivals(files[0]), Screen()
+    found = items_before(arrivals, files[1], Clock(show=screen.ticker()))
+    screen.clear()
     sys.stdout.buffer.writelines(warmed(arrivals, found))
     unknown = sum(item.value is None for item in found.values())
     sys.stdout.flush()
