@@ -14,7 +14,11 @@ failures = []
 
 def path():
     """Where the program is."""
-    return sys.argv[1] if len(sys.argv) > 1 else os.path.join(TOP, "crates", name, "out", name)
+    return GIVEN or os.path.join(TOP, "crates", name, "out", name)
+
+
+# the program that the script was given, if any
+GIVEN = os.path.realpath(sys.argv[1]) if len(sys.argv) > 1 else None
 
 
 def run(words, given, output=subprocess.PIPE, **how):

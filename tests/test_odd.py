@@ -7,9 +7,11 @@ one, which takes little time.
 import contextlib
 import io
 import itertools
+import json
 import os
 import random
 import re
+import signal
 import struct
 import subprocess
 import sys
@@ -20,6 +22,7 @@ from importlib import import_module
 import packets
 from checks import cases, fail, path_of, same, written
 from zygos_tools.cli import ends, screen
+from zygos_tools.comparing.search import FIRST_LINE, digest, order_text
 from zygos_tools.files.formats import Call, Entry, Hold, Reply, capture, close, journal, replies, segment
 
 MODULES = {
@@ -136,11 +139,26 @@ def wrong_files():
                     files(capture=CAPTURE, replies=REPLIES) as other:
                 for words in readers(path, other)[name]:
                     looks(f"{name}, {what}", words)
-        for what in ("/", "/none/file"):
+        for what in ("/", "/none/file", "/proc/self/mem"):
             path = dict.fromkeys(("capture", "replies", "journal"), what)
             with files(capture=CAPTURE, replies=REPLIES) as other:
                 for words in readers(path, other)[name]:
                     looks(f"{name}, {what}", words, must_fail=True, wanted=re.escape(what))
+
+
+def faults_by_json():
+    """judge --json has a line also for a file that cannot be judged, with what is wrong in it."""
+    with files(capture=CAPTURE, replies=REPLIES, cut=CAPTURE[:20]) as path:
+        for one, other, why in ((path["cut"], path["replies"], "capture: truncated at 20"),
+                                ("/none/file", path["replies"], "No such file or directory"),
+                                (path["capture"], path["capture"], "capture: not expected here")):
+            status, output, said = forked(["judge", "--json", one, other])
+            told = json.loads(output)
+            name = other if one == path["capture"] else one
+            same(f"judge --json of {why}", (1, "", "fault", f"{name}: {why}"),
+                 (status, said, told["verdict"], told["fault"]))
+    looks("an option in place of a file", ["packets", "--in-order", "--ends", "t.cap"], must_fail=True,
+          wanted="--in-order takes .*, not --ends")
 
 
 def bytes_after():
@@ -153,6 +171,41 @@ def bytes_after():
                     is_single = words[0] not in ("show", "top", "part")
                     if is_single or what != "joined":
                         looks(f"{name} with {what} after it", words, must_fail=True, wanted=f"{len(text)}|not expected|two of them")
+
+
+def orders():
+    """Orders that are cut, spoiled, of another recording, or go on after their end are refused, with the file and the
+    line."""
+    texts = {(0, 0): TOLD, (1, 0): b"END\r\n"}
+    right = b"".join(order_text([0, 0, 1, 0, 0, 0, 0], digest(CAPTURE, texts)))
+    other = b"".join(order_text([0, 0, 1, 0, 0, 0, 0], digest(LATER, texts)))
+    odd = {**{f"cut at {at}": right[:at] for at in (*range(len(FIRST_LINE)), 40, 90, 99, len(right) - 1, len(right) - 3)},
+           "of another recording": other, "joined": right + right, "with a byte after it": right + b"x",
+           "of a command too many": right.replace(b"1 1", b"1 2"), "of a command too few": right.replace(b"0 2", b"0 1"),
+           "of no connection": right.replace(b"1 1", b"7 1"), "with a huge count": right.replace(b"1 1", b"1 99999999999"),
+           "garbage": bytes(range(256)), "a capture": CAPTURE, "with a negative count": right.replace(b"1 1", b"1 -1")}
+    for name, text in {"right": right, **odd}.items():
+        with files(capture=CAPTURE, replies=REPLIES, order=text) as path:
+            for words in (["inline", "--order", path["order"], path["capture"], path["replies"]],
+                          ["compare", "--capture", path["capture"], "--order", path["order"], path["replies"], "-"]):
+                looks(f"an order that is {name}", words, given=replies([b"STORED\r\nEND\r\n" + TOLD[26:], b"END\r\n"]),
+                      must_fail=name != "right", wanted="" if name == "right" else re.escape(path["order"]))
+
+
+def interrupted():
+    """A tool that is ended by Ctrl-C says nothing, and leaves nothing."""
+    with tempfile.TemporaryDirectory() as folder:
+        pipe, kept = os.path.join(folder, "pipe"), os.path.join(folder, "kept")
+        os.mkfifo(pipe)
+        for words in (["judge", "--out", kept, pipe, "/dev/null"], ["inline", "--write-order", kept, pipe, "/dev/null"],
+                      ["compare", "--capture", "/dev/null", pipe, "/dev/null"], ["warm", pipe, "/dev/null"], ["show", pipe],
+                      ["packets", "--in-order", kept, pipe]):
+            with subprocess.Popen([path_of(words[0]), *words[1:]], stdout=subprocess.PIPE, stderr=subprocess.PIPE) as tool:
+                with open(pipe, "wb"):  # the tool has opened it
+                    tool.send_signal(signal.SIGINT)
+                    said = tool.communicate(timeout=120)
+            same(f"{words[0]} at Ctrl-C", (-signal.SIGINT, (b"", b"")), (tool.returncode, said))
+            same(f"what {words[0]} leaves", ["pipe"], os.listdir(folder))
 
 
 def full_disks():
@@ -279,7 +332,7 @@ def unforeseen():
         same("the traces", 2, sum(name.endswith(".trace") for name in os.listdir(folder)))
 
 
-Tests = cases(cut_files, wrong_files, bytes_after, full_disks, encodings, hostile_answers, deep_pipelines, spoiled_packets,
+Tests = cases(cut_files, wrong_files, faults_by_json, bytes_after, orders, interrupted, full_disks, encodings, hostile_answers, deep_pipelines, spoiled_packets,
               unforeseen)
 
 if __name__ == "__main__":

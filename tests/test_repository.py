@@ -11,7 +11,7 @@ import unittest
 from checks import TOP, built_program, cases, fail, run, same, skip, written
 
 # the packages of the tools whose types are checked
-TYPED = ("cli", "files", "protocol")
+TYPED = ("cli", "files", "protocol", "judging", "comparing")
 
 
 def read(name):

@@ -10,8 +10,9 @@ from checks import built_program, cases, fail, prints, program_path, run, same, 
 import drawn
 import plain
 import traffic
-from zygos_tools.comparing.arrivals import Arrivals, answered as with_recorded, ends_of
+from zygos_tools.comparing.arrivals import Arrivals, ends_of, recorded, streams_of, with_answers
 from zygos_tools.comparing.orders import near as near_arrival
+from zygos_tools.comparing.seen import Seen
 from zygos_tools.files.formats import (Close, capture, close, pieces, read_capture, read_replies, replies, segment,
                                        sessions)
 from zygos_tools.files.part import Part
@@ -266,11 +267,13 @@ def orders_of_their_own():
         with tempfile.TemporaryDirectory() as folder:
             paths = written(folder, sent=given, recorded=replies(texts))
             arrivals = Arrivals(paths["sent"])
-            found = list(with_recorded(arrivals, paths["recorded"]))
+            texts_of = recorded(arrivals, paths["recorded"])
+            found = list(with_answers(arrivals, streams_of(arrivals.records()), texts_of))
             ends = ends_of(arrivals, found)
+        seen = [Seen(one.arrival.command, one.answer) for one in found]
         for is_single in (True, False):
-            order = near_arrival(found, ends, is_single)
-            same(f"the commands of {number}", sorted(one.record for one, _ in found), sorted(one.record for one in order))
+            order = [found[at].arrival for at in near_arrival(found, seen, ends, is_single)]
+            same(f"the commands of {number}", sorted(one.arrival.record for one in found), sorted(one.record for one in order))
             for connection in range(len(texts)):
                 own = [one.record for one in order if one.connection == connection]
                 same(f"those of a connection of {number}", sorted(own), own)

@@ -90,6 +90,8 @@ def options(words: Iterable[str], known: dict[str, Option | None]) -> tuple[dict
         elif name not in known:
             unknown(name)
         elif (option := known[name]) is not None:
+            if not joined and rest and rest[0].startswith("--"):
+                stop(f"{name} takes {option[0]}, not {rest[0]}", 2)
             found[name] = value_of(name, option, [value] if joined else rest)
         elif joined:
             stop(f"{name} takes no value", 2)
@@ -128,6 +130,11 @@ def unforeseen(error: BaseException) -> str:
     except OSError as fault:
         return f"{what}; its trace could not be written: {fault.strerror}"
     return f"{what}; please report it with the trace in {name}"
+
+
+def of_system(error: OSError) -> str:
+    """A line about a file that cannot be read or written."""
+    return f"{error.filename or STANDARD_OUTPUT}: {error.strerror or one_line(error)}"
 
 
 def signalled(number: int, _: object) -> NoReturn:
@@ -186,6 +193,6 @@ def run(main: Callable[[list[str]], object], page: str) -> NoReturn:
     except MemoryError:
         leave("out of memory; record a shorter time", 1)
     except OSError as error:
-        leave(f"{error.filename or STANDARD_OUTPUT}: {error.strerror or one_line(error)}", 1)
+        leave(of_system(error), 1)
     except Exception as error:
         leave(unforeseen(error), UNFORESEEN)

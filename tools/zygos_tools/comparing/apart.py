@@ -2,12 +2,22 @@
 
 Other keys depend on the order in which connections are served, and so do all of them after a `flush_all`, and `stats`.
 """
+from __future__ import annotations
+
+from collections.abc import Iterable, Mapping, Sequence
+from typing import Union
+
 from zygos_tools.files.formats import shown
-from zygos_tools.protocol.meaning import frames_of, line_of, words_of
+from zygos_tools.protocol.meaning import Command, Frame, frames_of, line_of, words_of
 from zygos_tools.protocol.table import BY_WORD, COUNTING, JOINING, MAKING, NO_KIND, STORING, does, kind_of
 
 
-def frames_in(stream):
+# the bytes of a session, or its frames
+Stream = Union[bytes, tuple[Frame, ...]]
+Streams = Mapping[tuple[int, int], Stream]
+
+
+def frames_in(stream: Stream) -> tuple[Frame, ...]:
     """The frames of a stream, which may be given as its frames."""
     return stream if isinstance(stream, tuple) else frames_of(stream)
 
@@ -15,10 +25,16 @@ def frames_in(stream):
 class Callers:
     """Which connections call which keys, and which keys are stored at all."""
 
-    def __init__(self, streams):
+    def __init__(self, streams: Streams):
         """Of streams by connection and session, or of their frames; `counted` are keys with a counter."""
-        self.of_key, self.second, self.stored, self.flush, self.connections = {}, {}, set(), None, set()
-        self.counted, self.streams, self.values, self.joined = set(), streams, None, set()
+        self.of_key: dict[bytes, int] = {}
+        self.second: dict[bytes, int] = {}
+        self.stored: set[bytes] = set()
+        self.counted: set[bytes] = set()
+        self.connections: set[int] = set()
+        self.flush: tuple[int, int] | None = None
+        self.streams, self.joined = streams, set[bytes]()
+        self.values: set[int] | None = None
         number, last = 0, None
         for connection, session in sorted(streams):
             number, last = number if connection == last else 0, connection
@@ -34,7 +50,20 @@ class Callers:
                         self.second.setdefault(key, connection)
                 number += 1
 
-    def order(self, command):
+    def as_one(self) -> Callers:
+        """The same keys as if one connection called them all."""
+        found = Callers({})
+        found.stored, found.counted = self.stored, self.counted
+        return found
+
+    def has_order(self, command: Command) -> bool:
+        """Whether the answer to a command may depend on the order of connections."""
+        if len(self.connections) < 2:
+            return False
+        return command.verb == "stats" or any(key in self.second for key in command.keys) or \
+            self.flush is not None and bool(command.keys)
+
+    def order(self, command: Command) -> str | None:
         """Why the answer to a command may depend on the order of connections; None if it does not."""
         if len(self.connections) < 2:
             return None
@@ -47,29 +76,28 @@ class Callers:
             return "connection {} sends flush_all, command {}".format(*self.flush)
         return None
 
-    def may_store(self, key, value):
+    def may_store(self, key: bytes, value: bytes) -> bool:
         """Whether the capture may store this value under a key that several connections call."""
         if self.values is None:
             self.values = set()
             for stream in self.streams.values():
                 for command, frame in frames_in(stream):
-                    self.look(command, frame)
+                    self.look(command, frame, self.values)
         is_counted = key in self.counted and value.rstrip(b" ").isdigit()
         return is_counted or key in self.joined or hash((key, value)) in self.values
 
-    def look(self, command, frame):
+    def look(self, command: Command, frame: bytes, values: set[int]) -> None:
         """What a command stores under shared keys: a value, or one that it joins to what is there."""
         action = action_of(command, frame)
         for key in keys_of(command, line_of(frame)):
             if key in self.second:
                 if command.value is not None and action in STORING:
-                    self.values.add(hash((key, command.value)))
+                    values.add(hash((key, command.value)))
                 elif action in JOINING or command.verb == "fault" and not is_touching(line_of(frame)):
                     self.joined.add(key)
 
 
-
-def action_of(command, frame):
+def action_of(command: Command, frame: bytes) -> str:
     """What a command does to the item of its key; of a faulty line, what it may do on another server."""
     if command.verb != "fault":
         return does(command)
@@ -77,13 +105,13 @@ def action_of(command, frame):
     return kind.does if kind else ""
 
 
-def is_touching(line):
+def is_touching(line: bytes) -> bool:
     """Whether a line gives an item another exptime, and does no more to it."""
     kind = kind_of(line)
     return kind is not None and kind.touches
 
 
-def keys_of(command, line):
+def keys_of(command: Command, line: bytes) -> Sequence[bytes]:
     """The keys of a command; those of a line that is faulty here too, for a memcached may serve it."""
     if command.verb != "fault":
         return command.keys
@@ -92,7 +120,7 @@ def keys_of(command, line):
     return words[kind.key :] if kind.key > 1 else words[1:2]
 
 
-def timed_by(command, frame):
+def timed_by(command: Command, frame: bytes) -> Iterable[bytes]:
     """The keys to whose items a command gives an exptime, and of faulty ones those that may get one."""
     if command.verb == "fault":
         line = line_of(frame)
@@ -100,7 +128,7 @@ def timed_by(command, frame):
     return command.keys if command.numbers.get("exptime", 0) else ()
 
 
-def stored_by(command, frame):
+def stored_by(command: Command, frame: bytes) -> Sequence[bytes]:
     """The keys of which a command may make items where there are none; a faulty line may do so on another server."""
     if action_of(command, frame) not in MAKING:
         return ()

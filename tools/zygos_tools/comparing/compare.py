@@ -27,20 +27,25 @@ connections call, several causes may be named.
 
 Without a difference the line begins with `same` and the status is 0. With one, or an error in a file, the status is 1.
 """
+from __future__ import annotations
+
 import gc
 import re
 from collections import Counter
+from collections.abc import Callable, Iterable, Iterator, Mapping, Sequence
 
 from zygos_tools.cli import ends
 from zygos_tools.cli.screen import Screen
 from zygos_tools.comparing import causes
 from zygos_tools.comparing import steps
 from zygos_tools.comparing.apart import Callers
-from zygos_tools.comparing.arrivals import Kept
+from zygos_tools.comparing.arrivals import Kept, Key
+from zygos_tools.comparing.causes import Expected
 from zygos_tools.comparing.in_order import InOrder
 from zygos_tools.comparing.search import Search
+from zygos_tools.comparing.steps import Exchange
 from zygos_tools.files import inputs
-from zygos_tools.files.formats import shown
+from zygos_tools.files.formats import Output, shown
 from zygos_tools.protocol.answers import answers
 from zygos_tools.protocol.table import TELLING
 
@@ -54,12 +59,13 @@ NEAR = ": causes are those near the order of arrival; --seconds searches longer"
 ENDED, BEYOND, ALONE, LEFT, OUTPUTS, UNKNOWN = "ended", "beyond", "alone", "left", "outputs", "unknown"
 
 
-def named(word):
+def named(word: str) -> list[str] | None:
     names = word.split(",")
     return names if all(re.fullmatch("[a-z_]{2,16}", name) for name in names) else None
 
 
-OPTIONS = {"--capture": ("a file", lambda word: word or None), "--all": None,
+OPTIONS: dict[str, ends.Option | None] = {
+           "--capture": ("a file", lambda word: word or None), "--all": None,
            "--except": ("the names of commands, joined by commas", named), "--no-causes": None,
            "--seconds": ends.number(1), "--order": ends.FILE}
 
@@ -67,25 +73,20 @@ OPTIONS = {"--capture": ("a file", lambda word: word or None), "--all": None,
 # ---- what is read
 
 
-def outputs(name):
+def outputs(name: str) -> tuple[list[Output], bool]:
     """The outputs of a replies file in their order, and whether a journal comes before them."""
     return inputs.outputs_in(name, "; `zygos run` writes one", ": a capture is given by --capture",
                              ": one replies file is compared")
 
 
-def paired(one, other):
+def paired(one: Iterable[Output], other: Iterable[Output]) -> Iterator[tuple[Key, bytes | None, bytes | None]]:
     """The outputs of two files by connection and session: both texts, with None for one that is not there."""
-    one, other = iter(one), iter(other)
-    first, second = next(one, None), next(other, None)
-    while first or second:
-        key = min(some[:2] for some in (first, second) if some)
-        texts = [some.text if some and some[:2] == key else None for some in (first, second)]
-        yield key, *texts
-        first = first if texts[0] is None else next(one, None)
-        second = second if texts[1] is None else next(other, None)
+    ones, others = ({some[:2]: some.text for some in found} for found in (one, other))
+    for key in sorted(ones.keys() | others.keys()):
+        yield key, ones.get(key), others.get(key)
 
 
-def is_of_zygos(found, has_journal):
+def is_of_zygos(found: Iterable[Output], has_journal: bool) -> bool:
     """Whether outputs are those of zygos, as far as they show it."""
     return has_journal or any(b"VERSION zygos-" in output.text for output in found)
 
@@ -93,7 +94,7 @@ def is_of_zygos(found, has_journal):
 # ---- what is printed
 
 
-def agreeing(one, other):
+def agreeing(one: bytes, other: bytes) -> int:
     """How many first bytes of two texts agree."""
     least, most = 0, min(len(one), len(other))
     while least < most:
@@ -105,7 +106,7 @@ def agreeing(one, other):
     return least
 
 
-def around(text, at):
+def around(text: bytes | None, at: int) -> str:
     """A text near a place, to be printed; its usual end is left out."""
     if text is None:
         return "nothing"
@@ -118,25 +119,31 @@ def around(text, at):
     return (".." if begin else "") + shown(part.removesuffix(b"\r\n") if not end else part) + end
 
 
-def texts_of(exchange):
+def texts_of(exchange: Exchange) -> list[str]:
     """What is printed of both sides."""
-    pair = exchange.one[1], exchange.other[1]
+    one, other = exchange.one[1], exchange.other[1]
     if exchange.kind in (steps.ENDED, steps.LEFT):
-        texts = [around(text, 0) for text in pair]
+        texts = [around(text, 0) for text in (one, other)]
         if exchange.kind == steps.ENDED:
-            texts[pair.index(None)] = f"ends here, with {counted_as(exchange.last, 'answer')} missing"
+            texts[one is not None] = f"ends here, with {counted_as(exchange.last, 'answer')} missing"
         return texts
-    at = 0 if None in pair else agreeing(*pair)
-    return [around(text, at) for text in pair]
+    at = 0 if one is None or other is None else agreeing(one, other)
+    return [around(text, at) for text in (one, other)]
 
 
-def counted(names):
+def counted(names: Counter[str]) -> str:
     """Numbers of differences by command, the greatest first; nothing where no command is known."""
     return ", ".join(f"{name} {count}" for name, count in names.most_common() if name)
 
 
-def counted_as(count, name):
+def counted_as(count: int, name: str) -> str:
     return f"{count} {name}" + "s" * (count != 1)
+
+
+# a difference as it is printed: its number, its place, and what both sides have
+Told = tuple[int, str, list[str]]
+# the causes of a difference, by which they are counted
+Causes = tuple[str, ...]
 
 
 class Found:
@@ -145,23 +152,29 @@ class Found:
     What is printed has its number among all differences, its place, both texts, and whether both are in step again.
     """
 
-    def __init__(self, why):
-        self.names, self.told, self.why = Counter(), [], why
+    def __init__(self, why: str | None):
+        self.names, self.why = Counter[str](), why
+        self.told: list[Told] = []
 
 
 class Comparison:
     """What is found, and printed once all is known. `pair` has the outputs of both files, of which the one of the number
     `recorded` is taken to have been recorded, and the other one to be zygos's."""
 
-    def __init__(self, files, sent, pair, recorded, prints_all, left_out, search):
+    def __init__(self, files: Iterable[str], sent: Kept | None, pair: Sequence[Sequence[Output]], recorded: int,
+                 prints_all: bool, left_out: Sequence[str], search: Search | None):
         self.files, self.sent, self.prints_all, self.left_out = list(map(inputs.name_of, files)), sent, prints_all, left_out
         self.pair, self.recorded, self.search = pair, recorded, search  # without a search there are no causes
-        self.connections, self.sessions, self.answers = [set(), set()], [0, 0], 0
-        self.differences, self.found, self.excepted = 0, {}, Counter()
-        self.missing, self.alone = [Counter(), Counter()], [Counter(), Counter()]  # what one of the files has alone
-        self.causes, self.before, self.expected = None, [], None
+        self.connections: tuple[set[int], set[int]] = set(), set()
+        self.sessions, self.answers, self.differences = [0, 0], 0, 0
+        self.found: dict[Causes, Found] = {}
+        self.excepted = Counter[str]()
+        self.missing, self.alone = ([Counter[str](), Counter[str]()] for _ in range(2))  # what one of the files has alone
+        self.causes: causes.Causes | None = None
+        self.before: list[Key] = []
+        self.expected: Mapping[tuple[int, int, int], Expected] | None = None
 
-    def compare(self, key, one, other):
+    def compare(self, key: Key, one: bytes | None, other: bytes | None) -> None:
         """An output of both files."""
         for at, text in enumerate((one, other)):
             if text is not None:
@@ -180,81 +193,84 @@ class Comparison:
 
     # ---- sessions
 
-    def stream(self, key):
-        return self.sent.streams.get(key, b"")
+    def stream(self, key: Key) -> bytes:
+        """What was sent in a session."""
+        return self.sent.streams.get(key, b"") if self.sent else b""
 
-    def same(self, key):
+    def same(self, key: Key) -> None:
         """A session without a difference. What its commands did counts if a later session of it has one."""
         if self.before and self.before[0][0] != key[0]:
             self.before = []
         self.before.append(key)
 
-    def session_begins(self, key):
-        if self.causes is None:
-            self.causes = causes.Causes(Callers(self.sent.streams), self.in_order)
+    def session_begins(self, key: Key, known: causes.Causes) -> None:
+        """A session with a difference begins."""
         for earlier in self.before:
             if earlier[0] == key[0]:
-                self.causes.begin(*earlier, self.stream(earlier))
+                known.begin(*earlier, self.stream(earlier))
         self.before = []
-        self.causes.begin(*key, self.stream(key))
+        known.begin(*key, self.stream(key))
 
-    def in_order(self):
+    def in_order(self) -> Mapping[tuple[int, int, int], Expected]:
         """What zygos answers near the order of arrival; that is asked of the first difference that may come of the order."""
         if self.expected is None:
-            texts = [{output[:2]: output.text for output in found} for found in self.pair]
+            assert self.sent and self.causes and self.search
+            texts = [{(one.connection, one.session): one.text for one in found} for found in self.pair]
             self.expected = InOrder(self.sent, texts[self.recorded], texts[1 - self.recorded], self.causes.callers,
                                     self.search).found
         return self.expected
 
-    def exchanges(self, key, one, other):
-        if self.sent is None:
-            found = steps.by_answers(one, other)
-        else:
-            if self.search:
-                self.session_begins(key)
-            found = steps.by_commands(self.stream(key), one, other)
+    def exchanges(self, key: Key, one: bytes, other: bytes) -> None:
+        """A session with a difference."""
+        if self.sent and self.search:
+            self.causes = self.causes or causes.Causes(Callers(self.sent.streams), self.in_order)
+            self.session_begins(key, self.causes)
+        found = steps.by_commands(self.stream(key), one, other) if self.sent else steps.by_answers(one, other)
         for exchange in found:
-            one, other = exchange.one[1], exchange.other[1]
-            if exchange.kind == steps.BOTH and (one == other or None not in (one, other) and steps.alike(one, other)):
-                self.excepted["uniques"] += one != other
+            mine, its = exchange.one[1], exchange.other[1]
+            if exchange.kind == steps.BOTH and (mine == its or mine is not None and its is not None and
+                                                steps.alike(mine, its)):
+                self.excepted["uniques"] += mine != its
                 if exchange.group and self.causes:
                     self.causes.agreed(exchange)
             else:
                 self.exchange(key, exchange)
 
-    def exchange(self, key, exchange):
+    def exchange(self, key: Key, exchange: Exchange) -> None:
         """A difference, or what is left out of it."""
         found, why = self.blame(exchange)
-        if exchange.name in self.left_out and exchange.kind in (steps.BOTH, steps.ALONE):
-            self.excepted[exchange.name] += 1
+        name = exchange.name or ""
+        if name in self.left_out and exchange.kind in (steps.BOTH, steps.ALONE):
+            self.excepted[name] += 1
         else:
             self.note(found[0], exchange)
-            self.differ(found, why, exchange.name, exchange.last if exchange.kind in (steps.ENDED, steps.LEFT) else 1,
+            self.differ(found, why, name, exchange.last if exchange.kind in (steps.ENDED, steps.LEFT) else 1,
                         lambda: (f"connection {key[0]}, session {key[1]}{place_of(exchange)}", texts_of(exchange)))
 
-    def blame(self, exchange):
+    def blame(self, exchange: Exchange) -> tuple[Causes, str | None]:
         """The causes of a difference, and why it depends on the order."""
         if exchange.kind == steps.ENDED:
             return (ENDED if exchange.group or self.sent is None else BEYOND,), None
         if exchange.kind in (steps.LEFT, steps.ALONE):
             return (exchange.kind,), None
-        if exchange.group is None:
+        if not exchange.group:
             return (UNKNOWN if self.sent is None else BEYOND,), None
         if self.causes is None:
             return (UNKNOWN,), None
         is_swapped = self.recorded == 1
         return self.causes.differed(exchange._replace(one=exchange.other, other=exchange.one) if is_swapped else exchange)
 
-    def note(self, cause, exchange):
+    def note(self, cause: str, exchange: Exchange) -> None:
         """Counts what only one side has."""
         at = int(exchange.one[1] is not None and exchange.other[1] is None)
         if cause == ENDED:
             self.missing[at]["answer"] += exchange.last
             self.missing[at]["session"] += 1
         if cause == ALONE:
-            self.alone[1 - at][exchange.name] += 1
+            self.alone[1 - at][exchange.name or ""] += 1
 
-    def differ(self, causes_of, why, name, count, told):
+    def differ(self, causes_of: Causes, why: str | None, name: str, count: int,
+               told: Callable[[], tuple[str, list[str]]]) -> None:
         """Counts a difference, and keeps what `told` gives, its place and both texts, where that may be printed."""
         found = self.found.setdefault(causes_of, Found(why))
         if self.prints_all or not found.told:
@@ -264,7 +280,7 @@ class Comparison:
 
     # ---- what is printed in the end
 
-    def print(self):
+    def print(self) -> None:
         """Prints the first difference of each cause, or all of them."""
         for (_, place, texts), key in sorted((told, key) for key, found in self.found.items()
                                              for told in (found.told if self.prints_all else found.told[:1])):
@@ -276,7 +292,7 @@ class Comparison:
             elif key[0] in NAMED:
                 print("  why: " + " or ".join(NAMED[cause] for cause in key))
 
-    def end(self):
+    def end(self) -> bool:
         """What is printed; gives whether there is no difference."""
         self.print()
         if (line := self.other_traffic()) is not None:
@@ -291,7 +307,7 @@ class Comparison:
             print(line)
         return False
 
-    def other_traffic(self):
+    def other_traffic(self) -> str | None:
         """What is said where the files cannot be of the same traffic."""
         counts = list(zip(self.files, map(len, self.connections), self.sessions))
         if self.sent is not None:
@@ -302,15 +318,18 @@ class Comparison:
             f"{name} has {counted_as(seen, 'connection')} and {counted_as(sessions, 'session')}"
             for name, seen, sessions in counts)
 
-    def total(self):
+    def total(self) -> None:
         """How many differences there are besides those that were not recorded."""
-        names = sum((found.names for key, found in self.found.items() if key not in ((ENDED,), (BEYOND,))), Counter())
+        names = Counter[str]()
+        for key, found in self.found.items():
+            if key not in ((ENDED,), (BEYOND,)):
+                names.update(found.names)
         if (total := sum(names.values())) > 1:
             by_name = counted(names) if self.sent is not None else ""
             more = "" if self.prints_all else "; --all prints them"
             print(f"{total} differences" + (f": {by_name}" if by_name else "") + more)
 
-    def lines(self):
+    def lines(self) -> Iterator[str]:
         """A line for each cause that was found."""
         for file, missing in zip(self.files, self.missing):
             if missing["answer"]:
@@ -369,13 +388,13 @@ ONE_OF = {
 AFTER = "; tools/inline takes the order of arrival; what is left after it: tools/judge --warm --may-forget"
 
 
-def said(key, why):
+def said(key: Causes, why: str | None) -> str:
     """What is said of the differences that may have these causes; `why` is a reason why the order may be one."""
     text = SAID[key[0]] if len(key) == 1 else "may come of " + ", or of ".join(ONE_OF[cause] for cause in key) + AFTER
     return text.format(why)
 
 
-def place_of(exchange):
+def place_of(exchange: Exchange) -> str:
     """Where a difference is, in its session."""
     place = f", answer {max(exchange.one[0], exchange.other[0])}" if exchange.kind == steps.BOTH else \
         f", answer {exchange.one[0]}"
@@ -386,7 +405,7 @@ def place_of(exchange):
     return f"{place}, {numbers}: {around(exchange.line, 0)}"
 
 
-def main(words):
+def main(words: list[str]) -> None:
     given, files = ends.options(words, OPTIONS)
     capture, left_out = given.get("--capture"), given.get("--except", [])
     if len(files) != 2 or [*files, capture].count("-") > 1:

@@ -4,20 +4,24 @@ So it is known of a difference in a shared key whether it comes of the order: ne
 those of one connection, whose answers have their causes in causes.py. What is left open is the order of commands that
 came before others on their key had ended, for a server may have taken these in another one.
 """
-from collections import Counter, namedtuple
+from __future__ import annotations
+
+from collections import Counter
+from collections.abc import Iterable, Mapping, Sequence
 
 from zygos_tools.comparing import causes as why
 from zygos_tools.comparing.apart import Callers
-from zygos_tools.comparing.arrivals import ends_of, with_answers
-from zygos_tools.comparing.orders import again, ordered
+from zygos_tools.comparing.arrivals import Arrival, Given, Kept, Texts, ends_of, with_answers
+from zygos_tools.comparing.causes import Expected
+from zygos_tools.comparing.orders import ordered
 from zygos_tools.comparing.replaying import DONE, Replay
+from zygos_tools.comparing.search import Search
 from zygos_tools.comparing.steps import BOTH, Exchange, alike
 from zygos_tools.protocol.meaning import line_of
 from zygos_tools.protocol.table import READING, SHOWING, does
 
-# what zygos answers to a command near the order of arrival, and by key why the recorded answer is another
-Expected = namedtuple("Expected", "text causes")
 
+NO_CAUSES: Mapping[bytes, tuple[str, ...]] = {}
 
 # ---- commands that came at one time
 
@@ -28,20 +32,23 @@ class Going:
 
     __slots__ = "changed", "last", "open"
 
-    def __init__(self):
-        self.changed, self.last, self.open = -1, -1, []
+    def __init__(self) -> None:
+        self.changed, self.last = -1, -1
+        self.open: list[int] = []
 
 
-def open_ones(given, ends):
+def open_ones(given: Sequence[Given], ends: Sequence[int]) -> set[int]:
     """The commands that a server may have taken after one of another connection that came later, or before one that came
     earlier, on the same key, where one of both changes it."""
-    if any(arrival.command.verb == "flush_all" for arrival, *_ in given):
+    if any(one.arrival.command.verb == "flush_all" for one in given):
         return set(range(len(given)))
-    found, going = set(), {}
-    for at, (arrival, *_) in enumerate(given):
+    found: set[int] = set()
+    going: dict[bytes, dict[int, Going]] = {}
+    for at, (arrival, _, _) in enumerate(given):
         changes = does(arrival.command) not in READING
         for key in arrival.command.keys:
-            by_connection, over = going.setdefault(key, {}), []
+            by_connection = going.setdefault(key, {})
+            over: list[int] = []
             for connection, other in by_connection.items():
                 if other.last < arrival.record:
                     over.append(connection)
@@ -68,47 +75,54 @@ class InOrder:
     """What zygos answers near the order of arrival to the commands whose answers depend on the order: `found` by
     connection, session and number."""
 
-    def __init__(self, arrivals, ones, others, callers, search):
+    def __init__(self, arrivals: Kept, ones: Texts, others: Texts, callers: Callers, search: Search):
         given = list(with_answers(arrivals, arrivals.streams, ones, others))
         ends = ends_of(arrivals, given)
-        self.open, self.callers, self.found, self.unsure = open_ones(given, ends), callers, {}, {}
-        order = list(again(ordered(arrivals, given, ones, search), [(*one, at) for at, one in enumerate(given)]))
-        frames = tuple((arrival.command, arrival.frame) for arrival, *_ in order)
-        self.causes = why.Causes(Callers({(0, 0): frames}))
+        self.open, self.callers = open_ones(given, ends), callers
+        self.found: dict[tuple[int, int, int], Expected] = {}
+        self.unsure: dict[bytes, int] = {}
+        order = ordered(arrivals, given, ones, search)
+        frames = tuple((given[at].arrival.command, given[at].arrival.frame) for at in order)
+        self.causes = why.Causes(callers.as_one())
         self.causes.begin(0, 0, frames)
-        self.replay(order, numbers_of(given), ends)
+        self.replay(given, order, numbers_of(given), ends)
 
-    def replay(self, order, numbers, ends):
+    def replay(self, given: Sequence[Given], order: Iterable[int], numbers: Sequence[int], ends: Sequence[int]) -> None:
         """Carries out all commands. A `cas` that succeeded in the recording alone named no unique of the other server."""
         replay = Replay()
-        for place, (arrival, one, other, at) in enumerate(order):
+        for place, at in enumerate(order):
+            arrival, one, other = given[at]
             command = arrival.command
             is_translated = one == other or not (one or b"").startswith(DONE)
             _, text = replay.carry_out(command, arrival.frame, one, is_translated)
             if one is not None and command.verb != "stats":
-                line = line_of(arrival.frame)
-                exchange = Exchange(BOTH, place, place, None, line, [(place, line, command)], (0, one), (0, text))
-                found = self.compared(exchange, arrival, at in self.open)
-                if self.callers.order(command):
-                    self.found[(*arrival[:2], numbers[at])] = Expected(text, found)
+                found = self.compared(place, arrival, one, text, at in self.open)
+                if self.callers.has_order(command):
+                    self.found[(*arrival.key, numbers[at])] = Expected(text, found)
             if does(command) not in READING and at in self.open:
                 for key in command.keys:
                     self.unsure[key] = max(self.unsure.get(key, 0), ends[at])
 
-    def compared(self, exchange, arrival, is_open):
+    def compared(self, place: int, arrival: Arrival, one: bytes, text: bytes,
+                 is_open: bool) -> Mapping[bytes, tuple[str, ...]]:
         """By key why the recorded answer is not this one."""
-        one, text, command = exchange.one[1], exchange.other[1], arrival.command
+        command = arrival.command
         if alike(one, text):
-            self.causes.agreed(exchange)
+            self.causes.agreed_on(command)
             for key in command.keys:
                 if self.unsure.get(key, arrival.record) < arrival.record and (does(command) in SHOWING or command.verb == "ms"):
                     del self.unsure[key]
-            return {}
+            return NO_CAUSES
+        line = line_of(arrival.frame)
+        exchange = Exchange(BOTH, place, place, None, line, [(place, line, command)], (0, one), (0, text))
         shown = self.causes.seen(command, one, text)
         return {key: self.all_of(cause, key, shown.get(key), is_open) for key, cause in self.causes.by_key(exchange).items()}
 
-    def all_of(self, cause, key, shown, is_open):
+    def all_of(self, cause: str | tuple[str, ...], key: bytes, shown: why.Seen | None,
+               is_open: bool) -> tuple[str, ...]:
         """A cause, with the times where commands that came at one time may be another one."""
+        if isinstance(cause, tuple):
+            return cause
         if cause not in (why.BEFORE, why.EXPIRY, why.LOST, why.SERVERS):
             return (cause,)
         value = shown.values[0] if shown and key in self.callers.second else None
@@ -119,10 +133,10 @@ class InOrder:
         return (why.TIMES,) if cause == why.SERVERS else (cause, why.TIMES)
 
 
-def numbers_of(given):
+def numbers_of(given: Iterable[Given]) -> list[int]:
     """The number of each command among those of its session."""
-    seen, found = Counter(), []
-    for arrival, *_ in given:
-        found.append(seen[arrival[:2]])
-        seen[arrival[:2]] += 1
+    seen, found = Counter[tuple[int, int]](), []
+    for one in given:
+        found.append(seen[one.arrival.key])
+        seen[one.arrival.key] += 1
     return found

@@ -9,16 +9,20 @@ and its answer does not fit, a few that wait go before it, after which it does. 
 anybody sees it: then it goes right before the next one that stores or deletes. If such an order explains fewer answers
 than that of arrival, which the plain model says, that is taken.
 """
-from collections import Counter, deque, namedtuple
+from __future__ import annotations
+
+from collections import Counter, deque
+from collections.abc import Iterable, Iterator, Sequence
 from heapq import heappop, heappush
 from itertools import chain, count
 from time import monotonic
+from typing import NamedTuple
 
 from zygos_tools.comparing.apart import is_touching, keys_of
-from zygos_tools.comparing.arrivals import ends_of
+from zygos_tools.comparing.arrivals import Arrival, Arrivals, Given, Texts, ends_of
 from zygos_tools.comparing.replaying import Replay
-from zygos_tools.comparing.search import connections_of, digest, read_order
-from zygos_tools.comparing.seen import UNKNOWN, WRONG, Seen
+from zygos_tools.comparing.search import Search, connections_of, digest, read_order
+from zygos_tools.comparing.seen import UNKNOWN, WRONG, Item, Known, Mark, Seen
 from zygos_tools.comparing.steps import alike
 from zygos_tools.files.formats import Output
 from zygos_tools.files.inputs import name_of
@@ -31,42 +35,62 @@ from zygos_tools.protocol.meaning import line_of
 LIMIT = 10000
 # how many commands go before one that has to go, so that it fits, and how many items are tried for that
 MOST, TRIED = 3, 400
-# the last command on a key that stores or deletes whatever was there: its place, what it was, and the item before it
-Last = namedtuple("Last", "place seen item")
+
+
+class Last(NamedTuple):
+    """The last command on a key that stores or deletes whatever was there: its place, what it was, and the item before
+    it."""
+
+    place: int
+    seen: Seen
+    item: Known
 
 
 class Waiting:
     """A command that came and has no place yet, with what is known of it; `number` is its place among those that came."""
 
-    __slots__ = "arrival", "keys", "seen", "since", "number", "is_waiting"
+    __slots__ = "connection", "keys", "seen", "since", "number", "is_waiting"
 
-    def __init__(self, arrival, seen, since, number):
-        self.arrival, self.seen, self.since, self.number, self.is_waiting = arrival, seen, since, number, True
+    def __init__(self, arrival: Arrival, seen: Seen, since: int, number: int):
+        self.connection, self.seen, self.since, self.number, self.is_waiting = (
+            arrival.connection, seen, since, number, True)
         self.keys = dict.fromkeys(arrival.command.keys)
 
 
-def wanted_of(key, item):
+# what is counted of an item that a retrieval shows: its key, and its flags and value
+Wanted = tuple[bytes, "tuple[int, bytes] | None"]
+
+
+def wanted_of(key: bytes, item: Known) -> Wanted | None:
     """What is counted of an item that a retrieval shows."""
-    return (key, item and item[:2]) if item is not UNKNOWN else None
+    if isinstance(item, Mark):
+        return None
+    return key, item and item[:2]
 
 
 class Order:
     """The order, as commands come; `wanted` counts what retrievals show that have no place yet."""
 
-    def __init__(self, wanted, is_single):
+    def __init__(self, wanted: Counter[Wanted | None], is_single: bool):
         self.is_single, self.wanted, self.is_unknown = is_single, wanted, False
+        self.items: dict[bytes, Known] = {}
         # of each key, the commands that wait, in the order in which they came, and those of them that are the first of
         # their connections; and those that wait of each connection
-        self.items, self.waiting, self.first, self.by_connection = {}, {}, {}, {}
-        # commands, each after those that are put right before it
-        self.places, self.last = [], {}
+        self.waiting: dict[bytes, dict[Waiting, None]] = {}
+        self.first: dict[bytes, dict[Waiting, None]] = {}
+        self.by_connection: dict[int, deque[Waiting]] = {}
+        # commands by their numbers, each after those that are put right before it
+        self.places: list[list[int]] = []
+        self.last: dict[bytes, Last] = {}
         # the place of the last command of each connection that has one
-        self.placed = {}
+        self.placed: dict[int, int] = {}
         # those that wait, by the record at whose time they had ended at the latest
-        self.ends, self.count = [], count()
+        self.ends: list[tuple[int, int, Waiting]] = []
+        self.count = count()
 
-    def add(self, arrival, seen, end):
+    def add(self, arrival: Arrival, seen: Seen, end: int) -> None:
         """Another command came, which had ended at the time of a record."""
+        number = next(self.count)
         while self.ends and self.ends[0][0] < arrival.record:
             *_, one = heappop(self.ends)
             self.force(one)
@@ -74,9 +98,9 @@ class Order:
         while own and (self.is_single or not arrival.command.keys):
             self.force(own[0])
         if not arrival.command.keys:
-            self.other(arrival)
+            self.other(arrival, number)
             return
-        one = Waiting(arrival, seen, len(self.places), next(self.count))
+        one = Waiting(arrival, seen, len(self.places), number)
         own.append(one)
         for key in one.keys:
             self.waiting.setdefault(key, {})[one] = None
@@ -85,43 +109,43 @@ class Order:
         heappush(self.ends, (end, one.number, one))
         self.settle(one.keys)
 
-    def all(self):
-        """All commands in the order, once all have come."""
+    def all(self) -> Iterator[int]:
+        """All commands in the order by their numbers, once all have come."""
         while self.ends:
             *_, one = heappop(self.ends)
             self.force(one)
-        return (arrival for place in self.places for arrival in place)
+        return chain.from_iterable(self.places)
 
     # ---- places
 
-    def item(self, key):
+    def item(self, key: bytes) -> Known:
         """The item of a key now."""
         return self.items.get(key, UNKNOWN if self.is_unknown else None)
 
-    def can_go(self, one):
+    def can_go(self, one: Waiting) -> bool:
         """Whether a command changes nothing, and fits the items of its keys."""
         fits = one.seen.is_reading and self.is_first(one)
         return fits and all(one.seen.after(key, self.item(key)) is not WRONG for key in one.keys)
 
-    def is_first(self, one):
+    def is_first(self, one: Waiting) -> bool:
         """Whether a command waits, and no other one of its connection before it."""
-        return one.is_waiting and self.by_connection[one.arrival.connection][0] is one
+        return one.is_waiting and self.by_connection[one.connection][0] is one
 
-    def be_first(self, one):
+    def be_first(self, one: Waiting) -> None:
         """A command is the first that waits of its connection."""
         for key in one.keys:
             self.first.setdefault(key, {})[one] = None
 
-    def first_on(self, key):
+    def first_on(self, key: bytes) -> list[Waiting]:
         """The commands that wait for a key and are the first of their connections, in the order in which they came."""
         return sorted(self.first.get(key, ()), key=lambda one: one.number)
 
-    def leave(self, one, place):
+    def leave(self, one: Waiting, place: int) -> None:
         """A command waits no more, and has this place."""
         one.is_waiting = False
-        own = self.by_connection[one.arrival.connection]
+        own = self.by_connection[one.connection]
         own.popleft()
-        self.placed[one.arrival.connection] = place
+        self.placed[one.connection] = place
         for key in one.keys:
             del self.waiting[key][one]
             del self.first[key][one]
@@ -130,7 +154,7 @@ class Order:
         if own:
             self.be_first(own[0])
 
-    def go(self, one):
+    def go(self, one: Waiting) -> list[bytes]:
         """A command comes next. Gives the keys in which others may go now."""
         self.leave(one, len(self.places))
         for key in one.keys:
@@ -139,18 +163,18 @@ class Order:
             self.items[key] = one.seen.left(key, old) if new is WRONG else new
             if not one.seen.is_reading:
                 self.note(key, one.seen, old)
-        self.places.append([one.arrival])
-        own = self.by_connection[one.arrival.connection]
+        self.places.append([one.number])
+        own = self.by_connection[one.connection]
         return [*one.keys, *(own[0].keys if own else ())]
 
-    def note(self, key, seen, old):
+    def note(self, key: bytes, seen: Seen, old: Known) -> None:
         """A command that changed a key has its place next."""
         if seen.name in ("set", "delete"):
             self.last[key] = Last(len(self.places), seen, old)
         else:
             self.last.pop(key, None)
 
-    def settle(self, keys):
+    def settle(self, keys: Iterable[bytes]) -> None:
         """Each command goes that changes nothing and fits; where an item is not known, after the one that left what it
         shows, if that waits."""
         left = list(keys)
@@ -166,17 +190,17 @@ class Order:
             if self.is_first(one):
                 left += self.go(one)
 
-    def source(self, one, key):
+    def source(self, one: Waiting, key: bytes) -> Waiting | None:
         """The first command that waits and stores what another one shows."""
-        item = one.seen.items and one.seen.items[key]
-        if not item or item is UNKNOWN:
+        item = one.seen.items[key] if one.seen.items else None
+        if not isinstance(item, Item):
             return None
         return next((other for other in self.first_on(key) if other.seen.name == "set" and not other.seen.is_reading
-                     and other.seen.stored()[:2] == item[:2]), None)
+                     and is_same(other.seen.stored(), item)), None)
 
-    def force(self, one):
+    def force(self, one: Waiting) -> None:
         """A command goes now at the latest."""
-        own = self.by_connection[one.arrival.connection]
+        own = self.by_connection[one.connection]
         while one.is_waiting and own[0] is not one:
             self.force(own[0])
         if not one.is_waiting or not one.seen.is_reading and self.hide(one):
@@ -189,17 +213,17 @@ class Order:
                     self.put(other)
         self.put(one)
 
-    def put(self, one):
+    def put(self, one: Waiting) -> None:
         """A command goes, if it still waits, and no other one of its connection before it."""
         if self.is_first(one):
             self.settle(self.go(one))
 
-    def hide(self, one):
+    def hide(self, one: Waiting) -> bool:
         """Puts a command right before the last one on its key that stores or deletes, if that came later, it fits there, and
         what there is now is still shown, or what it leaves is not. Gives whether it did."""
         [key] = one.keys
         last, now = self.last.get(key), self.item(key)
-        if last is None or last.place < one.since or last.place <= self.placed.get(one.arrival.connection, -1):
+        if last is None or last.place < one.since or last.place <= self.placed.get(one.connection, -1):
             return False
         new = one.seen.after(key, last.item)
         if new is WRONG or new is UNKNOWN or last.seen.after(key, new) is WRONG:
@@ -211,11 +235,11 @@ class Order:
         if one.seen.after(key, now) is not WRONG and not is_shown and (one.seen.name != "set" or is_new_shown):
             return False
         self.leave(one, last.place)
-        self.places[last.place].insert(0, one.arrival)
+        self.places[last.place].insert(0, one.number)
         self.last[key] = last._replace(item=new)
         return True
 
-    def show_others(self, one):
+    def show_others(self, one: Waiting) -> None:
         """Before a `set`, those others go that only waiting retrievals show."""
         [key] = one.keys
         waiting = self.waiting[key]
@@ -225,13 +249,14 @@ class Order:
             if item and item != wanted_of(key, one.seen.stored()) and 0 < shown[item] == self.wanted[item]:
                 self.put(other)
 
-    def changing(self, one, key):
+    def changing(self, one: Waiting, key: bytes) -> list[Waiting]:
         """The other commands that wait, may go now and change a key."""
         return [other for other in self.first_on(key) if other is not one and not other.seen.is_reading]
 
-    def path(self, one, key):
+    def path(self, one: Waiting, key: bytes) -> list[Waiting]:
         """The fewest commands that wait after which one fits a key; none where none are found."""
-        others, found, tried = self.changing(one, key), deque([(self.item(key), [])]), 0
+        others, tried = self.changing(one, key), 0
+        found = deque[tuple[Known, list[Waiting]]]([(self.item(key), [])])
         while found and tried < TRIED:
             item, path = found.popleft()
             for other in others:
@@ -245,7 +270,7 @@ class Order:
                     found.append((new, [*path, other]))
         return []
 
-    def other(self, arrival):
+    def other(self, arrival: Arrival, number: int) -> None:
         """A command without a key goes where it came: a `flush_all` and one that zygos does not serve after all that wait
         for the keys that it may change."""
         command, line, is_wide = arrival.command, line_of(arrival.frame), arrival.command.verb == "flush_all"
@@ -254,7 +279,7 @@ class Order:
             while self.waiting.get(key):
                 self.force(next(iter(self.waiting[key])))
         self.placed[arrival.connection] = len(self.places)
-        self.places.append([arrival])
+        self.places.append([number])
         if is_wide:
             self.items, self.is_unknown, self.last = {}, True, {}
         for key in keys:
@@ -265,10 +290,16 @@ class Order:
 # ---- the order that is taken
 
 
-def unexplained(arrivals, answered, most):
+def is_same(one: Known, other: Known) -> bool:
+    """Whether two items have the same flags and value."""
+    return isinstance(one, Item) and isinstance(other, Item) and one[:2] == other[:2]
+
+
+def unexplained(order: Iterable[int], given: Sequence[Given], most: int) -> int:
     """How many commands in this order are not answered as it was recorded; no more than `most` are counted."""
     replay, count_of = Replay(), 0
-    for arrival, answer, *_ in again(arrivals, answered):
+    for at in order:
+        arrival, answer, _ = given[at]
         _, text = replay.carry_out(arrival.command, arrival.frame, answer)
         count_of += answer is not None and arrival.command.verb != "stats" and not alike(answer, text)
         if count_of == most:
@@ -276,29 +307,22 @@ def unexplained(arrivals, answered, most):
     return count_of
 
 
-def again(arrivals, answered):
-    """The commands in an order of their own, each with what it has among `answered`, which is in that of arrival."""
-    left = {}
-    for arrival, *more in answered:
-        left.setdefault(arrival.connection, deque()).append(more)
-    for arrival in arrivals:
-        yield arrival, *left[arrival.connection].popleft()
-
-
-def ordered(arrivals, answered, texts, search):
-    """The commands in an order that explains most of their recorded answers; `texts` are the recorded outputs."""
-    by_arrival = [arrival for arrival, *_ in answered]
+def ordered(arrivals: Arrivals, given: Sequence[Given], texts: Texts, search: Search) -> list[int]:
+    """The commands, by their places among those given, in an order that explains most of their recorded answers;
+    `texts` are the recorded outputs."""
+    by_arrival = list(range(len(given)))
     if search.order is not None:
-        return in_turn(by_arrival, read_order(search.order, digest(arrivals.capture(), texts)), search.order)
-    found = judged(arrivals, answered, texts, search)
+        return in_turn(given, read_order(search.order, digest(arrivals.capture(), texts)), search.order)
+    found = judged(arrivals, given, texts, search)
     if found:
         orders = iter([found, by_arrival])
     else:
-        ends = ends_of(arrivals, answered)
-        orders = chain((near(answered, ends, is_single) for is_single in (True, False)), [by_arrival])
-    best, least = by_arrival, len(answered) + 1
+        ends = ends_of(arrivals, given)
+        seen = [Seen(one.arrival.command, one.answer) for one in given]
+        orders = chain((near(given, seen, ends, is_single) for is_single in (True, False)), [by_arrival])
+    best, least = by_arrival, len(given) + 1
     for order in orders:
-        count_of = unexplained(order, answered, least)
+        count_of = unexplained(order, given, least)
         if count_of < least:
             best, least = order, count_of
         if not least:
@@ -306,21 +330,22 @@ def ordered(arrivals, answered, texts, search):
     return best
 
 
-def in_turn(arrivals, connections, name):
+def in_turn(given: Sequence[Given], connections: Iterable[int], name: str) -> list[int]:
     """Commands in the order in which their connections come."""
-    left, order = {}, []
-    for arrival in arrivals:
-        left.setdefault(arrival.connection, deque()).append(arrival)
+    left: dict[int, deque[int]] = {}
+    order: list[int] = []
+    for at, one in enumerate(given):
+        left.setdefault(one.arrival.connection, deque()).append(at)
     for connection in connections:
         if not left.get(connection):
             raise Fault(f"{name_of(name)}: more commands of connection {connection} than the capture has")
         order.append(left[connection].popleft())
-    if len(order) < len(arrivals):
-        raise Fault(f"{name_of(name)}: {len(order)} commands, and the capture has {len(arrivals)}")
+    if len(order) < len(given):
+        raise Fault(f"{name_of(name)}: {len(order)} commands, and the capture has {len(given)}")
     return order
 
 
-def judged(arrivals, answered, texts, search):
+def judged(arrivals: Arrivals, given: Sequence[Given], texts: Texts, search: Search) -> list[int] | None:
     """The order that judge finds, if it finds one soon; a retrieval of several keys is where its last call is."""
     outputs = [Output(*key, text) for key, text in sorted(texts.items())]
     clock = Clock(search.seconds, search.tick)
@@ -331,15 +356,14 @@ def judged(arrivals, answered, texts, search):
         if search.seconds is not None and monotonic() - clock.begun > search.seconds:
             search.say(f"no order was found in {search.seconds:g} seconds")
         return None
-    by_arrival = [arrival for arrival, *_ in answered]
-    counts = Counter(arrival.connection for arrival in by_arrival)
-    return in_turn(by_arrival, connections_of(list(judge.places()), counts), arrivals.name)
+    counts = Counter(one.arrival.connection for one in given)
+    return in_turn(given, connections_of(list(judge.places()), counts), arrivals.name)
 
 
-def near(answered, ends, is_single):
-    """An order near that of arrival; with `is_single` no two commands of a connection wait at one time."""
-    seen = [Seen(arrival.command, answer) for arrival, answer, *_ in answered]
+def near(given: Sequence[Given], seen: Sequence[Seen], ends: Sequence[int], is_single: bool) -> list[int]:
+    """An order near that of arrival; `seen` is what answers show. With `is_single` no two commands of a connection wait
+    at one time."""
     order = Order(Counter(wanted_of(key, item) for one in seen for key, item in (one.items or {}).items()), is_single)
-    for (arrival, *_), one, end in zip(answered, seen, ends):
-        order.add(arrival, one, end)
+    for place, one, end in zip(given, seen, ends):
+        order.add(place.arrival, one, end)
     return list(order.all())

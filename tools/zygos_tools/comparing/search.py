@@ -9,6 +9,7 @@ import re
 from collections import Counter
 from collections.abc import Callable, Iterable, Iterator, Mapping, Sequence
 from dataclasses import dataclass
+from itertools import repeat
 
 from zygos_tools.files.inputs import name_of, read
 from zygos_tools.files.part import Fault
@@ -65,11 +66,15 @@ def read_order(name: str, recording: str) -> Iterator[int]:
         raise Fault(f"{name_of(name)}: the order of another recording; tools/judge --order writes that of this one")
     for number, line in enumerate(lines[2:], 3):
         if line == "end":
-            return
+            if lines[number:] == [""]:
+                return
+            if lines[number:]:
+                raise Fault(f"{name_of(name)}: line {number + 1}: not expected after the end")
+            break
         run = RUN.fullmatch(line)
         if run is None:
             raise Fault(f"{name_of(name)}: line {number}: no connection and count of commands")
-        yield from [int(run[1])] * min(int(run[2]), 1 << 32)
+        yield from repeat(int(run[1]), int(run[2]))
     raise Fault(f"{name_of(name)}: cut off after line {len(lines)}; write it again by tools/judge --order")
 
 

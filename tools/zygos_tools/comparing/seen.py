@@ -2,60 +2,86 @@
 
 The server is a memcached: a number that became shorter keeps its length, with spaces.
 """
+from __future__ import annotations
+
 import re
-from collections import namedtuple
+from enum import Enum
+from typing import Final, NamedTuple, Union
 
 from zygos_tools.protocol.answers import first_word, items, meta
+from zygos_tools.protocol.meaning import Command
 from zygos_tools.protocol.table import COUNTING, JOINING, SAME, classic_word, does
 
-# the item of a key, with its unique where that was shown; None where there is none
-Item = namedtuple("Item", "flags value unique", defaults=[None])
-UNKNOWN, WRONG = object(), object()
+
+class Item(NamedTuple):
+    """The item of a key, with its unique where that was shown."""
+
+    flags: int
+    value: bytes
+    unique: int | None = None
+
+
+class Mark(Enum):
+    """What there is in place of an item: one of which nothing is known; none, as the server would answer otherwise."""
+
+    UNKNOWN = "unknown"
+    WRONG = "wrong"
+
+
+UNKNOWN: Final = Mark.UNKNOWN
+WRONG: Final = Mark.WRONG
+# what is known of a key: its item, None where it has none
+Known = Union[Item, Mark, None]
 NUMBER = re.compile(rb"([0-9]{1,20}) *")
 
 
-def shown(command, answer):
+def shown(command: Command, answer: bytes) -> dict[bytes, Known]:
     """The items that an answer to a retrieval shows, by key: None for a miss, UNKNOWN for one that is not shown whole."""
-    found = dict.fromkeys(command.keys)
+    found: dict[bytes, Known] = dict.fromkeys(command.keys)
     if answer.startswith(b"VALUE "):
         for item in items(answer):
-            if item.is_right():
+            if item.is_right() and item.flags is not None:
                 found[item.key] = Item(item.flags, item.value, item.unique)
     elif answer.startswith((b"HD", b"VA ")):
         shows = meta(answer)
-        is_shown = None not in (shows.flags, shows.value)
-        found[command.keys[0]] = Item(shows.flags, shows.value) if is_shown else UNKNOWN
+        is_shown = shows.flags is not None and shows.value is not None
+        found[command.keys[0]] = Item(shows.flags or 0, shows.value or b"") if is_shown else UNKNOWN
+    elif answer.startswith(b"TOUCHED"):
+        found[command.keys[0]] = UNKNOWN
     return found
 
 
 class Seen:
     """What is known of a command by its answer, which may be None where it is not known."""
 
-    def __init__(self, command, answer):
+    def __init__(self, command: Command, answer: bytes | None):
         self.command, self.name = command, does(command)
-        self.is_retrieval = self.name == "get"
+        self.is_retrieval = self.name in ("get", "touch")
         self.items = shown(command, answer) if self.is_retrieval and answer is not None else None
         self.word = classic_word(self.name, first_word(answer)) if answer and answer.strip() else None
         self.is_reading = self.is_retrieval or self.word in SAME
 
-    def after(self, key, item):
+    def after(self, key: bytes, item: Known) -> Known:
         """The item of a key after the command, if there was this one before; WRONG if a server then answers otherwise."""
-        if item is UNKNOWN:
+        if isinstance(item, Mark):
             return self.left(key, item)
         if self.is_retrieval:
             return self.read(key, item)
         word, new = self.made(item)
         return new if self.word in (None, word) else WRONG
 
-    def read(self, key, item):
+    def read(self, key: bytes, item: Item | None) -> Known:
+        """The item of a key after a retrieval."""
         found = self.items[key] if self.items else item
-        if (found is None) != (item is None) or found is UNKNOWN or found is None:
-            return WRONG if (found is None) != (item is None) else item
+        if item is None or found is None:
+            return item if found is item else WRONG
+        if isinstance(found, Mark):
+            return item
         if item[:2] != found[:2] or None not in (item.unique, found.unique) and item.unique != found.unique:
             return WRONG
         return item if found.unique is None else found
 
-    def made(self, item):
+    def made(self, item: Item | None) -> tuple[bytes, Known]:
         """What a server with this item answers, and the item after it."""
         name, command = self.name, self.command
         if name == "delete":
@@ -67,16 +93,19 @@ class Seen:
         if name in JOINING:
             if not item:
                 return b"NOT_STORED", None
-            value = item.value + command.value if name == "append" else command.value + item.value
+            piece = command.value or b""
+            value = item.value + piece if name == "append" else piece + item.value
             return b"STORED", Item(item.flags, value)
         if name in ("add", "replace") and bool(item) == (name == "add"):
             return b"NOT_STORED", item
         return b"STORED", self.stored()
 
-    def stored(self):
+    def stored(self) -> Item | Mark:
+        """The item that the command stores."""
         return Item(self.command.numbers["flags"], self.command.value) if self.command.value is not None else UNKNOWN
 
-    def exchanged(self, item):
+    def exchanged(self, item: Item | None) -> tuple[bytes, Known]:
+        """The same of a `cas`."""
         if not item:
             return b"NOT_FOUND", None
         is_same = item.unique == self.command.numbers["unique"]
@@ -84,7 +113,8 @@ class Seen:
             return b"STORED", self.stored()
         return b"EXISTS", item
 
-    def counted(self, item):
+    def counted(self, item: Item | None) -> tuple[bytes, Known]:
+        """The same of a command that counts."""
         if not item:
             return b"NOT_FOUND", None
         number = NUMBER.fullmatch(item.value)
@@ -94,7 +124,7 @@ class Seen:
         new = b"%d" % ((old + amount) % (1 << 64) if self.name == "incr" else max(0, old - amount))
         return new, Item(item.flags, new.ljust(len(item.value)))
 
-    def left(self, key, item):
+    def left(self, key: bytes, item: Known) -> Known:
         """The item of a key after the command, by the answer alone."""
         if self.is_retrieval:
             return self.items[key] if self.items else item
@@ -103,5 +133,5 @@ class Seen:
         if self.name == "delete" or self.word == b"NOT_FOUND" or self.word == b"NOT_STORED" and self.name != "add":
             return None
         if self.name in COUNTING and self.word and self.word.isdigit():
-            return Item(item.flags if item and item is not UNKNOWN else 0, self.word)
+            return Item(item.flags if isinstance(item, Item) else 0, self.word)
         return UNKNOWN

@@ -19,16 +19,20 @@ exptimes, so 30 days are written; tools/compare then says of a lost item that it
 
 CAPTURE is a file, and REPLIES may be -, standard input. Standard error has the number of items.
 """
+from __future__ import annotations
+
 import sys
+from collections.abc import Iterable, Iterator, Mapping, Sequence
 
 from zygos_tools.cli import ends
+from zygos_tools.cli.screen import Screen
 from zygos_tools.comparing.apart import keys_of, stored_by
-from zygos_tools.comparing.arrivals import Arrivals, ends_of, recorded, streams_of, with_answers
+from zygos_tools.comparing.arrivals import Arrival, Arrivals, Texts, ends_of, recorded, streams_of, with_answers
 from zygos_tools.files.formats import END, Close, Output, capture_start, close, pieces, segment
-from zygos_tools.judging.events import Verdict
-from zygos_tools.judging.judge import Judge
+from zygos_tools.judging.events import Verdict, brief
+from zygos_tools.judging.judge import Clock, Judge
 from zygos_tools.protocol.answers import MOST_NUMBER, items, meta, number
-from zygos_tools.protocol.meaning import line_of
+from zygos_tools.protocol.meaning import Command, line_of
 from zygos_tools.protocol.table import does, is_there
 
 # the seconds of 30 days, the most that memcached takes for a time from now on
@@ -44,11 +48,13 @@ class Item:
 
     __slots__ = "connection", "is_there", "before", "after", "counted", "value", "flags", "is_done"
 
-    def __init__(self, connection):
+    def __init__(self, connection: int):
         self.connection, self.is_there, self.before, self.after, self.counted = connection, False, b"", b"", 0
-        self.value, self.flags, self.is_done = None, None, False
+        self.value: bytes | None = None
+        self.flags: int | None = None
+        self.is_done = False
 
-    def show(self, flags, value):
+    def show(self, flags: int | None, value: bytes | None) -> None:
         """The flags or the value of the item are shown, with what was joined to it; None for what is not shown."""
         if self.flags is None:
             self.flags = flags
@@ -58,12 +64,12 @@ class Item:
             self.is_done = not fits
         self.is_done = self.is_done or None not in (self.flags, self.value)
 
-    def at_first(self, value):
+    def at_first(self, value: bytes) -> bytes:
         """A value without what was added to it."""
         found = number(value.rstrip(b" ")) if self.counted else None
         return value if found is None else b"%d" % ((found - self.counted) % MOST_NUMBER)
 
-    def note(self, command, there, answer):
+    def note(self, command: Command, there: bool | None, answer: bytes | None) -> None:
         """A command that was answered as if there was an item, as if there was none, or in a way that shows neither."""
         name, is_stored = does(command), answer is not None and answer.startswith((b"STORED", b"HD"))
         self.is_there = self.is_there or there is True
@@ -72,41 +78,48 @@ class Item:
         elif name in ("replace", "cas"):
             self.is_done = is_stored
         elif name == "append":
-            self.after += command.value
+            self.after += command.value or b""
         elif name == "prepend":
-            self.before = command.value + self.before
+            self.before = (command.value or b"") + self.before
         elif name in ("incr", "decr") and command.quiet:
             self.counted += command.numbers["amount"] * (1 if name == "incr" else -1)
         else:  # a counter whose number is not shown, or a faulty line
             self.is_done = command.quiet or command.verb == "fault" and not there
 
 
+# the flags and the value of an item, None for what is not known
+Shown = tuple["int | None", "bytes | None"]
+# what commands store by key: the value, after the record and the connection
+Stored = Mapping[bytes, Sequence[tuple[int, int, "bytes | None"]]]
+
+
 class Items:
     """The items from before a capture, by key; `stored` has what its commands store, each after its record and its
     connection."""
 
-    def __init__(self, stored):
-        self.found, self.is_flushed, self.stored = {}, False, stored
+    def __init__(self, stored: Stored):
+        self.found: dict[bytes, Item] = {}
+        self.is_flushed, self.stored = False, stored
 
-    def take(self, arrival, answer, end):
+    def take(self, arrival: Arrival, answer: bytes | None, end: int) -> None:
         """A command, and what answered it, None where that is not known or there is no answer; and the record at whose time
         it had ended."""
         command = arrival.command
         if command.verb == "flush_all":
             self.is_flushed = True
-            for item in self.found.values():
-                item.is_done = True
+            for old in self.found.values():
+                old.is_done = True
         for name in dict.fromkeys(keys_of(command, line_of(arrival.frame))):
+            if not self.is_flushed:
+                self.found.setdefault(name, Item(arrival.connection))
             item = self.found.get(name)
-            if item is None and not self.is_flushed:
-                item = self.found[name] = Item(arrival.connection)
             if item and not item.is_done:
                 if not item.is_there and self.may_be_stored(name, arrival, answer, end):
                     item.is_done = True
                 else:
                     self.look(item, name, command, answer)
 
-    def may_be_stored(self, name, arrival, answer, end):
+    def may_be_stored(self, name: bytes, arrival: Arrival, answer: bytes | None, end: int) -> bool:
         """Whether what a command shows of a key may be what another client stored meanwhile."""
         shown = shown_by(arrival.command, name, answer)
         value = shown and shown[1]
@@ -114,7 +127,7 @@ class Items:
                    for record, connection, other in self.stored.get(name, ()))
 
     @staticmethod
-    def look(item, name, command, answer):
+    def look(item: Item, name: bytes, command: Command, answer: bytes | None) -> None:
         """What a command shows of an item."""
         if answer is None and not command.quiet:
             item.is_done = command.value is not None
@@ -127,9 +140,9 @@ class Items:
         item.show(*shown)
 
 
-def there_by(command, answer):
+def there_by(command: Command, answer: bytes | None) -> bool | None:
     """Whether an answer that shows no item says that there is one; None where it does not."""
-    if command.quiet:
+    if command.quiet or answer is None:
         return None
     if command.verb in ("get", "gets") or answer.startswith(b"END"):
         return False
@@ -138,7 +151,7 @@ def there_by(command, answer):
     return is_there(does(command), answer)
 
 
-def shown_by(command, name, answer):
+def shown_by(command: Command, name: bytes, answer: bytes | None) -> Shown | None:
     """The flags and the value of an item that an answer shows, None for what it does not show; None where it shows
     none."""
     if answer is None:
@@ -154,35 +167,39 @@ def shown_by(command, name, answer):
     return None
 
 
-def items_before(arrivals, name):
+def items_before(arrivals: Arrivals, name: str, clock: Clock) -> dict[bytes, Item]:
     """The items from before a capture, by key; `name` is that of its replies."""
     texts = recorded(arrivals, name)
-    given, stored, counted = list(with_answers(arrivals, streams_of(arrivals.records()), texts)), {}, set()
-    for arrival, _ in given:
+    given = list(with_answers(arrivals, streams_of(arrivals.records()), texts))
+    stored: dict[bytes, list[tuple[int, int, bytes | None]]] = {}
+    counted: set[bytes] = set()
+    for arrival, _, _ in given:
         for key in stored_by(arrival.command, arrival.frame):
             stored.setdefault(key, []).append((arrival.record, arrival.connection, arrival.command.value))
         if does(arrival.command) in ("incr", "decr"):
             counted.update(arrival.command.keys)
     found = Items(stored)
     for one, end in zip(given, ends_of(arrivals, given)):
-        found.take(*one, end)
+        found.take(one.arrival, one.answer, end)
     there = {key: item for key, item in found.found.items() if item.is_there}
-    for key, (flags, value) in numbers_before(arrivals, texts, sorted(counted & there.keys())):
+    for key, (flags, value) in numbers_before(arrivals, texts, sorted(counted & there.keys()), clock):
         there[key].flags, there[key].value = flags, value
     return there
 
 
-def numbers_before(arrivals, texts, keys):
+def numbers_before(arrivals: Arrivals, texts: Texts, keys: Iterable[bytes],
+                   clock: Clock) -> Iterator[tuple[bytes, tuple[int, bytes]]]:
     """The flags and the numbers that counters had before a capture, from orders of their calls that judge finds: several
     clients may have counted at one time, some of them without an answer."""
     if not keys:
         return
     try:
         judge = Judge(arrivals.capture(), [Output(*key, text) for key, text in sorted(texts.items())], is_warm=True,
-                      has_reasons=False, is_first=False)
+                      clock=clock, has_reasons=False, is_first=False)
     except Verdict:
         return
     for key in keys:
+        clock.set(f"key {brief(key)}")
         try:
             judge.keys.search([key])
         except Verdict:
@@ -192,7 +209,7 @@ def numbers_before(arrivals, texts, keys):
             yield key, item
 
 
-def warmed(arrivals, found):
+def warmed(arrivals: Arrivals, found: Mapping[bytes, Item]) -> Iterator[bytes]:
     """The pieces of the capture, after the sets."""
     records = arrivals.records()
     first = next(records, None)
@@ -206,12 +223,13 @@ def warmed(arrivals, found):
     yield END
 
 
-def main(words):
+def main(words: list[str]) -> None:
     _, files = ends.options(words, {})
     if len(files) != 2 or files[0] == "-":
         ends.stop("a capture, which is a file, and its replies are read; --help says more", 2)
-    arrivals = Arrivals(files[0])
-    found = items_before(arrivals, files[1])
+    arrivals, screen = Arrivals(files[0]), Screen()
+    found = items_before(arrivals, files[1], Clock(show=screen.ticker()))
+    screen.clear()
     sys.stdout.buffer.writelines(warmed(arrivals, found))
     unknown = sum(item.value is None for item in found.values())
     sys.stdout.flush()

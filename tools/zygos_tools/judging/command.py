@@ -21,7 +21,7 @@ CAPTURE, REPLIES  what clients sent and what the server answered, best as `tools
 --keys GLOBS  judges the keys that match one of these patterns, parted by spaces, as 'user:* count:*'
 --except-keys GLOBS  judges all keys but those that match
 --first       stops at the first fault; without it, all keys are searched
---json        prints one line with the verdict and the counts, and nothing else
+--json        prints one line with the verdict and the counts, or with the fault of a file, and nothing else
 --seconds N   gives up after N seconds (if left out, 600)
 --states N    gives up a key after N states of it (if left out, 200,000)
 --processes N  searches keys in N processes (if left out, as many as there are processors that are not busy)
@@ -52,6 +52,7 @@ from zygos_tools.comparing.search import connections_of, digest, order_text
 from zygos_tools.files.formats import Output, shown
 from zygos_tools.files.inputs import capture_alone, outputs_in
 from zygos_tools.files.outputs import Beside, refuse_full, told_apart
+from zygos_tools.files.part import Fault
 from zygos_tools.judging import sharing
 from zygos_tools.judging.certificate import Certificate
 from zygos_tools.judging.events import No, Unknown, Verdict, counted
@@ -278,6 +279,12 @@ class Judging:
                 "seconds": round(time.monotonic() - self.begun, 1)}
         print(json.dumps(line))
 
+    def print_fault(self, fault: Fault | OSError) -> None:
+        """Prints a line with a fault of a file in place of a verdict."""
+        self.screen.clear()
+        why = ends.of_system(fault) if isinstance(fault, OSError) else f"{fault}{fault.hint}"
+        print(json.dumps({"verdict": "fault", "fault": why, "seconds": round(time.monotonic() - self.begun, 1)}))
+
 
 def main(words: list[str]) -> None:
     """Judges a recording."""
@@ -292,4 +299,11 @@ def main(words: list[str]) -> None:
     told_apart(written, names)
     for name in () if "--over" in given else written:
         refuse_full(name)
-    ends.end(judging.run())
+    try:
+        status = judging.run()
+    except (Fault, OSError) as fault:
+        if not judging.is_json:
+            raise
+        judging.print_fault(fault)
+        status = 1
+    ends.end(status)

@@ -14,10 +14,10 @@ if TYPE_CHECKING:
 
 FOREVER = 1 << 62
 
-# the kinds of calls
+# the kinds of calls; one that only says whether there is an item is a get
 GET, SET, ADD, REPLACE, APPEND, PREPEND, CAS, INCR, DECR, DELETE, FLUSH = range(11)
 KINDS = {"get": GET, "set": SET, "add": ADD, "replace": REPLACE, "append": APPEND, "prepend": PREPEND, "cas": CAS,
-         "incr": INCR, "decr": DECR, "delete": DELETE, "flush": FLUSH}
+         "incr": INCR, "decr": DECR, "delete": DELETE, "flush": FLUSH, "touch": GET}
 
 # how many bytes of a line and of a value are shown
 MOST_LINE, MOST_VALUE = 60, 40

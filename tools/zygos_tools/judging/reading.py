@@ -16,6 +16,7 @@ from zygos_tools.files.part import Part
 from zygos_tools.judging.events import FLUSH, GET, KINDS
 from zygos_tools.judging.table import DROPPED, NO_KEY, QUIET, REPLACED, V_FAULT, V_FLUSH, V_STATS, VERB_OF, Table
 from zygos_tools.protocol.meaning import KEY, STORAGE, Command, command_in, line_of, stored, words_of
+from zygos_tools.protocol.table import does
 
 # a usual line: of a retrieval, or of a command that stores
 USUAL_KEY = KEY.replace(rb"\r", rb"\r\0")
@@ -207,7 +208,7 @@ class Recording:
     def add_calls(self, number: int, command: Command, frame_at: int, line_size: int) -> None:
         """The calls of a command on its keys."""
         table, numbers = self.table, command.numbers
-        kind = KINDS["get" if command.verb == "gets" else command.call or command.verb]
+        kind = KINDS[does(command)]
         given = numbers.get("unique", 0) if kind == KINDS["cas"] else numbers.get("amount", 0)
         value_at = frame_at + line_size if frame_at >= 0 else frame_at - line_size
         for key in command.keys:

@@ -23,8 +23,8 @@ from zygos_tools.files.formats import CALLS, ENTRY, MOST_VALUE, REPLIES, Reply
 from zygos_tools.judging.events import (ADD, APPEND, CAS, DECR, DELETE, FLUSH, GET, INCR, PREPEND, REPLACE, SET,
                                         Unknown, brief, first_line)
 from zygos_tools.judging.seeing import all_items
-from zygos_tools.judging.table import (ANSWERED, DROPPED, HAS_UNIQUE, LOST, QUIET, REPLACED, V_FAULT, V_GET, V_GETS,
-                                       V_MG, V_VERSION, WANT_BITS, WANTS, Table)
+from zygos_tools.judging.table import (ANSWERED, DROPPED, HAS_UNIQUE, LOST, METAS, QUIET, REPLACED, V_FAULT, V_GET,
+                                       V_GETS, V_MG, V_VERSION, WANT_BITS, WANTS, Table)
 from zygos_tools.protocol.model import text_of
 
 # the codes of calls and of replies
@@ -256,7 +256,7 @@ class Replay:
         """Looks whether an answer that is a line is zygos's too."""
         table = self.table
         ours = LINES.get(name)
-        if ours is None or table.verb[command] > V_MG or ours != table.answer(command):
+        if ours is None or table.verb[command] in METAS or ours != table.answer(command):
             self.finish(command, [Reply(name)])
 
     def take(self, call: int, command: int, reply: Reply) -> None:
@@ -314,7 +314,7 @@ class Replay:
             return self.in_items(command, ours, theirs, replies)
         if verb == V_MG and table.state[command] & REPLACED and table.original(command).startswith(b"touch"):
             return ""
-        if verb >= V_MG:
+        if verb in METAS:
             return self.in_meta(command, ours, theirs, replies)
         if table.kind[table.first_call[command]] in (INCR, DECR) and theirs.rstrip() == ours.rstrip():
             return "padded values"

@@ -5,14 +5,16 @@ import re
 from collections.abc import Iterator
 from typing import NamedTuple
 
-from zygos_tools.judging.events import (ADD, APPEND, CAS, DECR, DELETE, INCR, PREPEND, REPLACE, SET, No, Unknown,
+from zygos_tools.judging.events import (ADD, APPEND, CAS, DECR, DELETE, GET, INCR, PREPEND, REPLACE, SET, No, Unknown,
                                         Verdict)
 from zygos_tools.judging.reading import Recording
 from zygos_tools.judging.table import (ANSWERED, DROPPED, HAS_FLAGS, HAS_UNIQUE, HAS_VALUE, LOST, QUIET, V_DECR,
-                                       V_FAULT, V_FLUSH, V_GET, V_GETS, V_INCR, V_MD, V_MG, V_MN, V_MS, V_VERBOSITY,
-                                       V_VERSION, VERBS, W_HIT, W_MISS, WANT_BITS, WANT_OF)
+                                       V_FAULT, V_FLUSH, V_GET, V_GETS, V_INCR, V_MD, V_MN, V_MS, V_VERBOSITY,
+                                       V_VERSION, VERB_OF, VERBS, W_HIT, W_MISS, WANT_BITS, WANT_OF)
 from zygos_tools.protocol.answers import MOST_FLAGS, line_end, meta, number
 from zygos_tools.protocol.meaning import words_of
+from zygos_tools.protocol.table import KINDS
+from zygos_tools.protocol.table import READING as READS
 
 WORDS = {b"STORED": "stored", b"NOT_STORED": "not stored", b"EXISTS": "exists", b"NOT_FOUND": "not found",
          b"DELETED": "deleted", b"SERVER_ERROR object too large for cache": "too large",
@@ -27,7 +29,7 @@ REPLIES = {SET: ("stored",), ADD: ("stored", "not stored"), REPLACE: ("stored", 
 LINES = {(kind, line): WANT_OF[want] for kind, wants in REPLIES.items() for line, want in WORDS.items()
          if want in wants}
 MUTE = {V_VERBOSITY: b"OK\r\n", V_MN: b"MN\r\n"}
-READING = (V_GET, V_GETS, V_MG, V_VERSION, V_VERBOSITY, V_MN, V_FAULT)
+READING = {VERB_OF[name] for name, kind in KINDS.items() if kind.does in READS} | {V_FAULT}
 FAULT = re.compile(rb"((CLIENT|SERVER)_)?ERROR\b")
 TOO_LARGE = "an item was too large, and memcached may have removed it"
 LEFT_OUT = "a command that the profile leaves out"
@@ -87,11 +89,11 @@ class Seeing:
             self.expect(one, verb)
         elif verb == V_FLUSH:
             self.flush(one)
-        elif verb == V_MG:
-            if not state & LOST:
-                self.see_meta(one)
         elif verb in (V_GET, V_GETS):
             self.see_items(one, text)
+        elif self.table.kind[self.table.first_call[one]] == GET:
+            if not state & (LOST | QUIET):
+                self.see_meta(one)
         elif state & ANSWERED:
             self.see_line(one, verb, text)
         elif verb == V_MS and not state & (LOST | QUIET):  # hidden by q; whether an md found an item is not known
@@ -225,7 +227,7 @@ class Seeing:
                 self.recording.unsure.setdefault(table.keys[table.key[call]], TWICE)
 
     def see_meta(self, one: int) -> None:
-        """The answer to an `mg`, or to a `touch` that is read as one."""
+        """The answer to an `mg` or a `touch`."""
         table, call = self.table, self.table.first_call[one]
         answer = table.answer(one) or b"EN\r\n"
         shown = meta(answer)
@@ -234,7 +236,7 @@ class Seeing:
             return
         is_wrong = b"f" in shown.marks and shown.flags is None or b"c" in shown.marks and shown.unique is None
         if shown.code not in (b"HD", b"VA", b"TOUCHED") or is_wrong:
-            self.refuse(one, "no run answers mg so")
+            self.refuse(one, f"no run answers {VERBS[table.verb[one]]} so")
             return
         at = table.answer_at[one] + line_end(answer, 0) if shown.value is not None else None
         self.show(call, shown.flags, at, len(shown.value or b""), shown.unique)

@@ -11,13 +11,15 @@ from collections.abc import Iterable
 from zygos_tools.judging.events import CAS, GET, Asked, Event
 from zygos_tools.protocol.meaning import Command, command_in
 from zygos_tools.protocol.model import shard_of
+from zygos_tools.protocol.table import KINDS
 
-# the names of commands, by number
-VERBS = ("get", "gets", "set", "add", "replace", "append", "prepend", "cas", "incr", "decr", "delete", "flush_all",
-         "version", "verbosity", "mn", "mg", "ms", "md", "stats", "fault")
+# the names of commands, by number: those of the table, and a line that is none
+VERBS = (*KINDS, "fault")
 VERB_OF = {verb: number for number, verb in enumerate(VERBS)}
-(V_GET, V_GETS, V_SET, V_ADD, V_REPLACE, V_APPEND, V_PREPEND, V_CAS, V_INCR, V_DECR, V_DELETE, V_FLUSH, V_VERSION,
- V_VERBOSITY, V_MN, V_MG, V_MS, V_MD, V_STATS, V_FAULT) = range(len(VERBS))
+V_GET, V_GETS, V_INCR, V_DECR = map(VERB_OF.__getitem__, ("get", "gets", "incr", "decr"))
+V_FLUSH, V_VERSION, V_VERBOSITY = map(VERB_OF.__getitem__, ("flush_all", "version", "verbosity"))
+V_MN, V_MG, V_MS, V_MD = METAS = tuple(map(VERB_OF.__getitem__, ("mn", "mg", "ms", "md")))
+V_STATS, V_FAULT = map(VERB_OF.__getitem__, ("stats", "fault"))
 
 # what is known of a command: it is not answered; it should have been answered; it is not in the certificate; another
 # one takes its place; it has an answer
