@@ -5,7 +5,7 @@ use Rattle.std.specs.Prelude.{Option, Some, None, IsSome}
 use Rattle.zy_pcap.specs.Session.{longest, byte_of, byte_at, byte_or_other}
 use Rattle.zy_pcap.specs.Packet.{Packet}
 use Rattle.format_laws.specs.Copies.{stream_of_packets, IsCovered, Agree}
-use Rattle.zy_pcap.proofs.ChunkLemmas.{first_assoc}
+use Rattle.zy_pcap.proofs.CoverLemmas.{first_assoc}
 
 -- the same byte at each offset
 pub same_longest : (f g : ℕ → Option ℕ) → ((d : ℕ) → f d ≡ g d) → longest f ≡ longest g

@@ -1,52 +1,36 @@
--- Bytes that are kept in a row and in chunks: what is there after some were added, or went from chunks into the row.
-use Rattle.std.proofs.Common.{◌≡◌, ℕ, ◌+◌, ◌-◌, ◌/◌, ◌%◌, ◌<◌, ◌≤◌, List, [], ◌++◌, length, drop, get_or, refl, sym, ap, ◌∙◌, inl, inr, arith}
-use Rattle.std.specs.Prelude.{Option, Some, None, Result, Ok, Err, OnOk, OnErr, ⊤, true, false, cond}
-use Rattle.std.specs.BTreeMap.{BTreeMap, get, is_at}
-use Rattle.std.specs.Ordering.{nat_cmp}
-use Rattle.std.proofs.lemmas.Bool.{cases_lt, cases_eq}
-use Rattle.std.proofs.lemmas.Bool.Decides.{nat_tests}
+-- Bytes that are kept in a row and in runs: what is there after some were added, and which of them are the stream.
+use Rattle.std.proofs.Common.{◌≡◌, ℕ, zero, suc, ◌+◌, ◌-◌, ◌<◌, ◌≤◌, List, [], ◌∷◌, ◌++◌, length, drop, get_or, refl, sym, ap, ◌∙◌, subst, inl, inr, true≢false, arith}
+use Rattle.std.specs.Prelude.{Option, Some, None, IsSome, IfSome, ◌↔◌, true, false, slice_get}
+use Rattle.std.specs.List.{AllByRecursion}
+use Rattle.std.proofs.lemmas.Bool.{cases_lt}
 use Rattle.std.proofs.lemmas.List.{get_or-drop, get_or_append_left, get_or-append_right, length-append, length-drop}
-use Rattle.zy_pcap.specs.declared.chunk.Chunk.{Chunk}
-use Rattle.zy_pcap.specs.Session.{byte_or_other}
-use Rattle.zy_pcap.specs.Chunk.{byte_in, held_at, byte_in_chunks, covered, HoldsSame, HoldsBoth, AreThere, HoldsFrom, HeldBytes, byte_held}
-use Rattle.zy_pcap.proofs.ChunkLemmas.{first_none, first_assoc}
-use Rattle.zy_pcap.proofs.CoverLemmas.{covered_in, covered_above}
+use Rattle.zy_pcap.specs.Session.{byte_or_other, longest_from, longest}
+use Rattle.std.specs.BTreeMap.{insert_entry}
+use Rattle.std.specs.Ordering.{nat_cmp}
+use Rattle.zy_pcap.specs.declared.held.HeldBytes.{HeldBytes}
+use Rattle.zy_pcap.specs.Held.{Run, Rise, covered, runs_at, byte_in, byte_held, parts, row_limit, IsWholeRow, IsWhole, IsOver, woven_at, has_run, HoldsSame, HoldsBoth, AreThere, AreAll}
+use Rattle.zy_pcap.proofs.CoverLemmas.{covered_in, covered_above, covered_below, first_none, first_assoc, both_none}
+use Rattle.zy_pcap.proofs.WeaveLemmas.{all_at, all_long}
+use Rattle.zy_pcap.proofs.InsertLemmas.{between, between_at, had_already, put_among}
 
 -- ---- the row
 
--- a byte of the row
-front_in : (front : List ℕ) (at : ℕ) → at < length front → covered front 0 at ≡ Some (get_or front at 0)
-front_in front at within =
-    covered_in front 0 at (omega arith) (omega (arith, within)) ∙ ap (λ (i : ℕ). Some (get_or front i 0)) (omega arith)
+in_row : (front : List ℕ) (runs : List Run) (at : ℕ) → at < length front → byte_in front runs at ≡ Some (get_or front at 0)
+in_row front runs at within =
+    let place : at - 0 ≡ at = omega arith in
+    rw (covered_in front 0 at (omega arith) (omega (arith, within))) (ap (λ (i : ℕ). Some (get_or front i 0)) place)
 
--- no byte of the row
-front_out : (front : List ℕ) (at : ℕ) → length front ≤ at → covered front 0 at ≡ None
-front_out front at above = covered_above front 0 at (omega (arith, above))
-
-in_row : (h : HeldBytes) (at : ℕ) → at < length h.front → byte_held h at ≡ Some (get_or h.front at 0)
-unfolding byte_held
-in_row h at within = rw (front_in h.front at within) refl
-
-out_of_row : (h : HeldBytes) (at : ℕ) → length h.front ≤ at → byte_held h at ≡ byte_in_chunks h.chunks at
-unfolding byte_held
-out_of_row h at above = rw (front_out h.front at above) refl
-
-no_chunk : (at : ℕ) → byte_in_chunks [] at ≡ None
-unfolding byte_in_chunks
-no_chunk at = refl
-
--- no byte is kept
-pub none_held : (chunks : List (ℕ × Chunk)) → ((at : ℕ) → byte_in_chunks chunks at ≡ None) → (at : ℕ) → byte_held (record { front = []; chunks = chunks }) at ≡ None
-none_held chunks none at = out_of_row (record { front = []; chunks = chunks }) at (omega arith) ∙ none at
+past_row : (front : List ℕ) (runs : List Run) (at : ℕ) → length front ≤ at → byte_in front runs at ≡ runs_at runs at
+past_row front runs at above = rw (covered_above front 0 at (omega (arith, above))) refl
 
 -- ---- bytes that are added
 
--- all of them were there
-pub held_all : (h : HeldBytes) (bytes : List ℕ) (from : ℕ) → from + length bytes ≤ length h.front → HoldsBoth (byte_held h) (byte_held h) (covered bytes from)
-held_all h bytes from within at =
-    elim (cases_lt at (length h.front)) [
-      | inl row ↦ rw (in_row h at row) refl
-      | inr out ↦ sym (ap (byte_or_other (byte_held h at)) (covered_above bytes from at (omega (arith, out, within))) ∙ first_none (byte_held h at))
+-- the row has all of them
+pub held_all : (front bytes : List ℕ) (runs : List Run) (from : ℕ) → from + length bytes ≤ length front → HoldsBoth (byte_in front runs) (byte_in front runs) (covered bytes from)
+held_all front bytes runs from within at =
+    elim (cases_lt at (length front)) [
+      | inl row ↦ rw (in_row front runs at row) refl
+      | inr out ↦ rw (covered_above bytes from at (omega (arith, out, within))) (sym (first_none (byte_in front runs at)))
     ]
 
 -- those that come after the row are the bytes from its end on
@@ -61,156 +45,206 @@ rest_covered bytes from have at next some out =
       | inr above ↦ covered_above (drop (have - from) bytes) have at (omega (arith, size, next, above)) ∙ sym (covered_above bytes from at above)
     ]
 
--- bytes went to the end of the row, where there are no others
-pub appended : (front bytes : List ℕ) (from : ℕ) → from ≤ length front → length front < from + length bytes
-    → HoldsBoth (byte_held (record { front = front; chunks = [] })) (byte_held (record { front = front ++ drop (length front - from) bytes; chunks = [] })) (covered bytes from)
-appended front bytes from next some at =
-    let more : List ℕ = drop (length front - from) bytes in
-    let old : HeldBytes = record { front = front; chunks = [] } in
-    let new : HeldBytes = record { front = front ++ more; chunks = [] } in
-    let size : length (front ++ more) ≡ length front + length more = length-append front more in
-    let size_more : length more ≡ length bytes - (length front - from) = length-drop (length front - from) bytes in
-    elim (cases_lt at (length front)) [
-      | inl row ↦ in_row new at (omega (arith, size, row)) ∙ ap (λ (b : ℕ). Some b) (get_or_append_left front more 0 at row) ∙ rw (in_row old at row) refl
-      | inr out ↦ elim (cases_lt at (from + length bytes)) [
-        | inl within ↦ (let place : length front - from + (at - length front) ≡ at - from = omega (arith, next, out) in
-            in_row new at (omega (arith, size, size_more, next, some, within))
-            ∙ ap (λ (b : ℕ). Some b) (get_or-append_right front more (length front) at 0 refl out ∙ get_or-drop (length front - from) bytes (at - length front) 0 ∙ ap (λ (i : ℕ). get_or bytes i 0) place)
-            ∙ sym (covered_in bytes from at (omega (arith, next, out)) within)
-            ∙ rw (out_of_row old at out, no_chunk at) refl)
-        | inr above ↦ out_of_row new at (omega (arith, size, size_more, next, above)) ∙ no_chunk at
-            ∙ rw (out_of_row old at out, no_chunk at, covered_above bytes from at above) refl
+-- all that is there comes to the row, up to its limit
+module _ (front bytes next : List ℕ) (runs : List Run) (from : ℕ) (begins : from ≤ length front) (some : length front < from + length bytes) (fits : from + length bytes ≤ row_limit)
+    (all : AreAll (woven_at runs (drop (length front - from) bytes) (length front)) (length front) row_limit next) where
+  abbrev coming : List ℕ
+  coming = drop (length front - from) bytes
+
+  size : length (front ++ next) ≡ length front + length next
+  size = length-append front next
+
+  size_more : length coming ≡ length bytes - (length front - from)
+  size_more = length-drop (length front - from) bytes
+
+  long : length coming ≤ length next
+  long = all_long runs coming next (length front) row_limit (omega (arith, size_more, begins, some, fits)) all
+
+  pub row_grows : HoldsBoth (byte_in front runs) (byte_in (front ++ next) runs) (covered bytes from)
+  row_grows at =
+      elim (cases_lt at (length front)) [
+        | inl row ↦ in_row (front ++ next) runs at (omega (arith, size, row)) ∙ ap (λ (b : ℕ). Some b) (get_or_append_left front next 0 at row) ∙ rw (in_row front runs at row) refl
+        | inr out ↦ elim (cases_lt at (length front + length next)) [
+          | inl within ↦ in_row (front ++ next) runs at (omega (arith, size, within))
+              ∙ ap (λ (b : ℕ). Some b) (get_or-append_right front next (length front) at 0 refl out)
+              ∙ sym (covered_in next (length front) at out within)
+              ∙ sym (all_at (woven_at runs coming (length front)) (length front) row_limit at next all out within)
+              ∙ rw (past_row front runs at out) (ap (byte_or_other (runs_at runs at)) (rest_covered bytes from (length front) at begins some out))
+          | inr above ↦ past_row (front ++ next) runs at (omega (arith, size, above))
+              ∙ rw (past_row front runs at out, covered_above bytes from at (omega (arith, above, long, size_more, begins, some))) (sym (first_none (runs_at runs at)))
+        ]
       ]
-    ]
 
--- bytes that come after the row went to chunks
-pub next_added : (front : List ℕ) (old new : List (ℕ × Chunk)) (bytes : List ℕ) (from : ℕ) → from ≤ length front → length front < from + length bytes
-    → HoldsBoth (byte_in_chunks old) (byte_in_chunks new) (covered (drop (length front - from) bytes) (length front))
-    → HoldsBoth (byte_held (record { front = front; chunks = old })) (byte_held (record { front = front; chunks = new })) (covered bytes from)
-next_added front old new bytes from next some both at =
-    let was : HeldBytes = record { front = front; chunks = old } in
-    let is : HeldBytes = record { front = front; chunks = new } in
+  pub row_whole : IsWholeRow (front ++ next) runs
+  row_whole = (
+    omega (arith, size, all.within),
+    λ low. ap (runs_at runs) size ∙ (both_none (runs_at runs (length front + length next)) (covered coming (length front) (length front + length next)) (all.ends (omega (arith, size, low)))).0,
+  )
+
+-- bytes that come next where there are no runs
+pub alone_all : (bytes : List ℕ) (from limit : ℕ) → from + length bytes ≤ limit → AreAll (woven_at [] bytes from) from limit bytes
+alone_all bytes from limit fits = record {
+  there = λ d low. (let place : from + d - from ≡ d = omega arith in covered_in bytes from (from + d) (omega arith) (omega (arith, low)) ∙ ap (λ (i : ℕ). Some (get_or bytes i 0)) place);
+  within = fits;
+  ends = λ low. covered_above bytes from (from + length bytes) (omega arith);
+}
+
+-- runs that begin before the limit are all that count there
+pub between_all_at : (runs : List Run) (bytes next : List ℕ) (from limit : ℕ) → AreAll (woven_at (between 0 limit runs) bytes from) from limit next → AllByRecursion (λ (run : Run). 0 ≤ run.0) runs → AreAll (woven_at runs bytes from) from limit next
+between_all_at runs bytes next from limit all any =
+    let same = λ (at : ℕ) (low : at < limit). ap (λ (b : Option ℕ). byte_or_other b (covered bytes from at)) (between_at 0 limit at runs any low) in
+    record {
+      there = λ d low. sym (same (from + d) (omega (arith, low, all.within))) ∙ all.there d low;
+      within = all.within;
+      ends = λ low. sym (same (from + length next) low) ∙ all.ends low;
+    }
+
+pub any_begin : (runs : List Run) → AllByRecursion (λ (run : Run). 0 ≤ run.0) runs
+any_begin [] = tt
+any_begin (run ∷ runs) = (omega arith, any_begin runs)
+
+-- bytes that come after a gap
+pub apart_added : (front bytes : List ℕ) (old new : List Run) (from : ℕ) → ((at : ℕ) → runs_at new at ≡ woven_at old bytes from at) → HoldsBoth (byte_in front old) (byte_in front new) (covered bytes from)
+apart_added front bytes old new from both at =
+    ap (byte_or_other (covered front 0 at)) (both at) ∙ sym (first_assoc (covered front 0 at) (runs_at old at) (covered bytes from at))
+
+pub apart_whole : (front bytes : List ℕ) (old new : List Run) (from : ℕ) → length front < from → ((at : ℕ) → runs_at new at ≡ woven_at old bytes from at) → IsWholeRow front old → IsWholeRow front new
+apart_whole front bytes old new from gap both whole =
+    (whole.0, λ low. both (length front) ∙ rw (whole.1 low) (covered_below bytes from (length front) gap))
+
+-- ---- runs that the row has come to
+
+pub over_same : (front : List ℕ) (run : Run) (runs : List Run) → run.0 + length run.1 ≤ length front → HoldsSame (byte_in front (run ∷ runs)) (byte_in front runs)
+over_same front run runs over at =
     elim (cases_lt at (length front)) [
-      | inl row ↦ rw (in_row is at row, in_row was at row) refl
-      | inr out ↦ out_of_row is at out ∙ both at ∙ ap (byte_or_other (byte_in_chunks old at)) (rest_covered bytes from (length front) at next some out)
-          ∙ ap (λ (b : Option ℕ). byte_or_other b (covered bytes from at)) (sym (out_of_row was at out))
+      | inl row ↦ in_row front runs at row ∙ sym (in_row front (run ∷ runs) at row)
+      | inr out ↦ past_row front runs at out ∙ sym (past_row front (run ∷ runs) at out ∙ rw (covered_above run.1 run.0 at (omega (arith, over, out))) refl)
     ]
 
-pub next_as : (front : List ℕ) (old new : List (ℕ × Chunk)) (bytes more : List ℕ) (from have : ℕ) → have ≡ length front → from ≤ length front → length front < from + length bytes → more ≡ drop (have - from) bytes
-    → HoldsBoth (byte_in_chunks old) (byte_in_chunks new) (covered more have)
-    → HoldsBoth (byte_held (record { front = front; chunks = old })) (byte_held (record { front = front; chunks = new })) (covered bytes from)
-next_as front old new bytes more from have size next some is both =
-    next_added front old new bytes from next some (λ at. both at ∙ ap (λ (l : List ℕ). byte_or_other (byte_in_chunks old at) (covered l have at)) is ∙ ap (λ (n : ℕ). byte_or_other (byte_in_chunks old at) (covered (drop (n - from) bytes) n at)) size)
+pub same_whole : (front : List ℕ) (old new : List Run) → HoldsSame (byte_in front old) (byte_in front new) → IsWholeRow front old → IsWholeRow front new
+same_whole front old new same whole =
+    (whole.0, λ low. sym (past_row front new (length front) (omega arith)) ∙ same (length front) ∙ past_row front old (length front) (omega arith) ∙ whole.1 low)
 
--- all bytes went to chunks
-pub apart_added : (front : List ℕ) (old new : List (ℕ × Chunk)) (bytes : List ℕ) (from : ℕ) → HoldsBoth (byte_in_chunks old) (byte_in_chunks new) (covered bytes from)
-    → HoldsBoth (byte_held (record { front = front; chunks = old })) (byte_held (record { front = front; chunks = new })) (covered bytes from)
+-- ---- the stream
+
+stream_on : (byte : ℕ → Option ℕ) (at count b : ℕ) → byte at ≡ Some b → longest_from byte at (suc count) ≡ b ∷ longest_from byte (at + 1) count
+stream_on byte at count b is = rw (is, longest_from) refl
+
+stream_over : (byte : ℕ → Option ℕ) (at count : ℕ) → byte at ≡ None → longest_from byte at count ≡ []
+stream_over byte at zero none = refl
+stream_over byte at (suc count) none = rw (none, longest_from) refl
+
+stream_from : (byte : ℕ → Option ℕ) (at count : ℕ) (bytes : List ℕ) → length bytes ≤ count → AreThere byte at bytes → (length bytes < count → byte (at + length bytes) ≡ None) → longest_from byte at count ≡ bytes
+stream_from byte at count [] few there ends = first count ends
+  where
+    first : (n : ℕ) → (0 < n → byte (at + 0) ≡ None) → longest_from byte at n ≡ []
+    first zero none = refl
+    first (suc n) none = stream_over byte at (suc n) (let place : at ≡ at + 0 = omega arith in ap byte place ∙ none (omega arith))
+stream_from byte at zero (b ∷ bytes) few there ends = absurd (omega (arith, few))
+stream_from byte at (suc count) (b ∷ bytes) few there ends =
+    let here : at ≡ at + 0 = omega arith in
+    stream_on byte at count b (ap byte here ∙ there 0 (omega arith))
+    ∙ ap (λ (l : List ℕ). b ∷ l) (stream_from byte (at + 1) count bytes (omega (arith, few))
+    (λ d low. (let place : at + 1 + d ≡ at + suc d = omega arith in ap byte place ∙ there (suc d) (omega (arith, low))))
+    (λ low. (let place : at + 1 + length bytes ≡ at + suc (length bytes) = omega arith in ap byte place ∙ ends (omega (arith, low)))))
+
+-- a whole row is the stream
+pub stream_is : (front : List ℕ) (runs : List Run) → IsWholeRow front runs → longest (byte_in front runs) ≡ front
+unfolding longest
+stream_is front runs whole =
+    let place : (d : ℕ) → 0 + d ≡ d = λ d. omega arith in
+    stream_from (byte_in front runs) 0 row_limit front whole.0 (λ d low. ap (byte_in front runs) (place d) ∙ in_row front runs d low)
+    (λ low. ap (byte_in front runs) (place (length front)) ∙ past_row front runs (length front) (omega arith) ∙ whole.1 low)
+
+-- ---- what is kept, after each call
+
+-- the row has all of them
+pub held_already : (held : HeldBytes) (bytes : List ℕ) (from : ℕ) → from + length bytes ≤ length held.front.items → HoldsBoth (byte_held (parts held)) (byte_held (parts held)) (covered bytes from)
 unfolding byte_held
-apart_added front old new bytes from both at =
-    ap (byte_or_other (covered front 0 at)) (both at) ∙ sym (first_assoc (covered front 0 at) (byte_in_chunks old at) (covered bytes from at))
+held_already held bytes from within = held_all held.front.items bytes held.runs.entries from within
 
--- the chunks have the same bytes
-pub same_added : (front : List ℕ) (old new : List (ℕ × Chunk)) → HoldsSame (byte_in_chunks old) (byte_in_chunks new) → HoldsSame (byte_held (record { front = front; chunks = old })) (byte_held (record { front = front; chunks = new }))
+-- all that comes next came to the row
+pub held_grown : (old new : HeldBytes) (bytes more next : List ℕ) (from : ℕ) → from ≤ length old.front.items → length old.front.items < from + length bytes → from + length bytes ≤ row_limit → more ≡ drop (length old.front.items - from) bytes
+    → AreAll (woven_at old.runs.entries more (length old.front.items)) (length old.front.items) row_limit next → new.front.items ≡ old.front.items ++ next → new.runs.entries ≡ old.runs.entries
+    → HoldsBoth (byte_held (parts old)) (byte_held (parts new)) (covered bytes from) × IsWhole new
 unfolding byte_held
-same_added front old new same at = ap (byte_or_other (covered front 0 at)) (same at)
+held_grown old new bytes more next from begins some fits is all grew same =
+    let whole = subst (λ (l : List ℕ). AreAll (woven_at old.runs.entries l (length old.front.items)) (length old.front.items) row_limit next) is all in (
+      rw (grew, same) (row_grows old.front.items bytes next old.runs.entries from begins some fits whole),
+      rw (grew, same) (row_whole old.front.items bytes next old.runs.entries from begins some fits whole),
+    )
 
--- the same by the answer
-pub apart_ok : {E : Type 0} (front : List ℕ) (old new : List (ℕ × Chunk)) (bytes : List ℕ) (from : ℕ) (result : Result ⊤ E) → OnOk result (HoldsBoth (byte_in_chunks old) (byte_in_chunks new) (covered bytes from))
-    → OnOk result (HoldsBoth (byte_held (record { front = front; chunks = old })) (byte_held (record { front = front; chunks = new })) (covered bytes from))
-apart_ok front old new bytes from (Ok u) both = apart_added front old new bytes from both
-apart_ok front old new bytes from (Err e) both = tt
+-- the same where there are no runs
+pub held_alone : (old new : HeldBytes) (bytes more : List ℕ) (from : ℕ) → from ≤ length old.front.items → length old.front.items < from + length bytes → from + length bytes ≤ row_limit → more ≡ drop (length old.front.items - from) bytes
+    → old.runs.entries ≡ [] → new.front.items ≡ old.front.items ++ more → new.runs.entries ≡ old.runs.entries → HoldsBoth (byte_held (parts old)) (byte_held (parts new)) (covered bytes from) × IsWhole new
+held_alone old new bytes more from begins some fits is alone grew same =
+    let size : length more ≡ length bytes - (length old.front.items - from) = ap length is ∙ length-drop (length old.front.items - from) bytes in
+    held_grown old new bytes more more from begins some fits is
+    (subst (λ (l : List Run). AreAll (woven_at l more (length old.front.items)) (length old.front.items) row_limit more) (sym alone) (alone_all more (length old.front.items) row_limit (omega (arith, size, begins, some, fits)))) grew same
 
-pub same_err : {E : Type 0} (front : List ℕ) (old new : List (ℕ × Chunk)) (result : Result ⊤ E) → OnErr result (HoldsSame (byte_in_chunks old) (byte_in_chunks new))
-    → OnErr result (HoldsSame (byte_held (record { front = front; chunks = old })) (byte_held (record { front = front; chunks = new })))
-same_err front old new (Ok u) same = tt
-same_err front old new (Err e) same = same_added front old new same
+-- the same where there are runs, all of which that begin before the limit were asked
+pub held_next : (old new : HeldBytes) (runs : List Run) (bytes more next : List ℕ) (from have : ℕ) → have ≡ length old.front.items → from ≤ length old.front.items → length old.front.items < from + length bytes → from + length bytes ≤ row_limit
+    → runs ≡ between 0 row_limit old.runs.entries → more ≡ drop (have - from) bytes → AreAll (woven_at runs more have) have row_limit next → new.front.items ≡ old.front.items ++ next → new.runs.entries ≡ old.runs.entries
+    → HoldsBoth (byte_held (parts old)) (byte_held (parts new)) (covered bytes from) × IsWhole new
+held_next old new runs bytes more next from have size begins some fits are is all grew same =
+    let here = subst (λ (n : ℕ). AreAll (woven_at (between 0 row_limit old.runs.entries) more n) n row_limit next) size (subst (λ (l : List Run). AreAll (woven_at l more have) have row_limit next) are all) in
+    held_grown old new bytes more next from begins some fits (is ∙ ap (λ (n : ℕ). drop (n - from) bytes) size) (between_all_at old.runs.entries more next (length old.front.items) row_limit here (any_begin old.runs.entries)) grew same
 
-pub appended_as : (old new : HeldBytes) (bytes more : List ℕ) (from : ℕ) → from ≤ length old.front → length old.front < from + length bytes → old.chunks ≡ [] → new.chunks ≡ old.chunks
-    → more ≡ drop (length old.front - from) bytes → new.front ≡ old.front ++ more → HoldsBoth (byte_held old) (byte_held new) (covered bytes from)
+-- a run has all bytes that come
+pub held_long : (held : HeldBytes) (bytes : List ℕ) (from : ℕ) → has_run held.runs.entries from (length bytes) ≡ true → HoldsBoth (byte_held (parts held)) (byte_held (parts held)) (covered bytes from)
 unfolding byte_held
-appended_as old new bytes more from next some alone same is grew = λ at.
-    let both : HoldsBoth (byte_held (record { front = old.front; chunks = [] })) (byte_held (record { front = old.front ++ drop (length old.front - from) bytes; chunks = [] })) (covered bytes from) = appended old.front bytes from next some in
-    let front_is : new.front ≡ old.front ++ drop (length old.front - from) bytes = grew ∙ ap (λ (l : List ℕ). old.front ++ l) is in
-    let chunks_are : new.chunks ≡ [] = same ∙ alone in
-    rw (front_is, chunks_are, alone) (both at)
+held_long held bytes from has =
+    apart_added held.front.items bytes held.runs.entries held.runs.entries from (λ at. had_already held.runs.entries bytes from at has)
 
--- the same bytes, and then the same
+-- a run of the bytes that come was put among the others
+pub held_apart : (old new : HeldBytes) (runs : List Run) (bytes run : List ℕ) (from end : ℕ) → length old.front.items < from → IsWhole old → Rise old.runs.entries → has_run old.runs.entries from (length bytes) ≡ false → end ≡ from + length bytes
+    → runs ≡ between from end old.runs.entries → AreAll (woven_at runs bytes from) from end run → new.runs.entries ≡ insert_entry nat_cmp old.runs.entries from run → new.front.items ≡ old.front.items
+    → HoldsBoth (byte_held (parts old)) (byte_held (parts new)) (covered bytes from) × IsWhole new
+unfolding byte_held
+held_apart old new runs bytes run from end gap whole rise short is are all put same =
+    let here = subst (λ (l : List Run). AreAll (woven_at l bytes from) from end run) are all in
+    let both : (at : ℕ) → runs_at new.runs.entries at ≡ woven_at old.runs.entries bytes from at = λ at. ap (λ (l : List Run). runs_at l at) put ∙ put_among old.runs.entries bytes run from end at rise short is here in (
+      rw same (apart_added old.front.items bytes old.runs.entries new.runs.entries from both),
+      rw same (apart_whole old.front.items bytes old.runs.entries new.runs.entries from gap both whole),
+    )
+
+-- nothing was changed
+pub held_same : (old new : HeldBytes) → new.front.items ≡ old.front.items → new.runs.entries ≡ old.runs.entries → HoldsSame (byte_held (parts old)) (byte_held (parts new))
+unfolding byte_held
+held_same old new front runs at = rw (front, runs) refl
+
+not_empty : (runs : List Run) (run : Run) → slice_get runs 0 ≡ Some run → 0 < length runs
+not_empty [] run is = cc
+not_empty (first ∷ runs) run is = omega arith
+
+first_is : (all runs : List Run) (run first : Run) → all ≡ run ∷ runs → slice_get all 0 ≡ Some first → run ≡ first
+first_is all runs run first is there = (let here : slice_get (run ∷ runs) 0 ≡ Some first = subst (λ (l : List Run). slice_get l 0 ≡ Some first) is there in cc)
+
+-- a run went to whose end the row had come
+pub held_over : (old new : HeldBytes) (run : Run) → old.runs.entries ≡ run ∷ new.runs.entries → new.front ≡ old.front → run.0 + length run.1 ≤ length old.front.items → HoldsSame (byte_held (parts old)) (byte_held (parts new))
+unfolding byte_held
+held_over old new run is same over at =
+    rw (same, is) (over_same old.front.items run new.runs.entries over at)
+
+-- the first run was taken out, to whose end the row had come
+pub held_popped : (old new : HeldBytes) (popped : Option Run) → IsOver old → (IsSome popped ↔ (0 < length old.runs.entries)) → IfSome popped (λ run. old.runs.entries ≡ run ∷ new.runs.entries) → new.front ≡ old.front → HoldsSame (byte_held (parts old)) (byte_held (parts new))
+held_popped old new None over some removed same = absurd (true≢false (sym (some.1 (not_empty old.runs.entries over.0 over.1.0))))
+held_popped old new (Some run) over some removed same =
+    let first : run ≡ over.0 = first_is old.runs.entries new.runs.entries run over.0 removed over.1.0 in
+    held_over old new run removed same (rw first over.1.1)
+
+-- a row that was whole is so where all bytes are the same
+pub still_whole : (old new : HeldBytes) → new.front ≡ old.front → HoldsSame (byte_held (parts old)) (byte_held (parts new)) → IsWhole old → IsWhole new
+unfolding byte_held
+still_whole old new front same whole =
+    let row : new.front.items ≡ old.front.items = ap (λ f. f.items) front in
+    rw row (same_whole old.front.items old.runs.entries new.runs.entries (λ at. sym (ap (λ (l : List ℕ). byte_in l new.runs.entries at) row) ∙ same at) whole)
+
+-- more bytes, and then the same
 pub both_same : (old now new : ℕ → Option ℕ) (more : ℕ → Option ℕ) → HoldsBoth old now more → HoldsSame now new → HoldsBoth old new more
 both_same old now new more both same at = same at ∙ both at
 
--- ---- bytes that go from chunks into the row
-
-pub absorbed : (front part : List ℕ) (old new : List (ℕ × Chunk)) → AreThere (byte_in_chunks old) (length front) part → HoldsFrom (length front + length part) (byte_in_chunks old) (byte_in_chunks new)
-    → HoldsSame (byte_held (record { front = front; chunks = old })) (byte_held (record { front = front ++ part; chunks = new }))
-absorbed front part old new there rest at =
-    let was : HeldBytes = record { front = front; chunks = old } in
-    let is : HeldBytes = record { front = front ++ part; chunks = new } in
-    let size : length (front ++ part) ≡ length front + length part = length-append front part in
-    elim (cases_lt at (length front)) [
-      | inl row ↦ in_row is at (omega (arith, size, row)) ∙ ap (λ (b : ℕ). Some b) (get_or_append_left front part 0 at row) ∙ sym (in_row was at row)
-      | inr out ↦ elim (cases_lt at (length front + length part)) [
-        | inl within ↦ (let place : length front + (at - length front) ≡ at = omega (arith, out) in
-            in_row is at (omega (arith, size, within)) ∙ ap (λ (b : ℕ). Some b) (get_or-append_right front part (length front) at 0 refl out)
-            ∙ sym (there (at - length front) (omega (arith, out, within))) ∙ ap (byte_in_chunks old) place ∙ sym (out_of_row was at out))
-        | inr above ↦ out_of_row is at (omega (arith, size, above)) ∙ rest at above ∙ sym (out_of_row was at out)
-      ]
-    ]
-
--- ---- bytes that are there
-
--- the rest of the row
-pub row_there : (front : List ℕ) (chunks : List (ℕ × Chunk)) (at : ℕ) → AreThere (byte_held (record { front = front; chunks = chunks })) at (drop at front)
-row_there front chunks at d within =
-    let size : length (drop at front) ≡ length front - at = length-drop at front in
-    in_row (record { front = front; chunks = chunks }) (at + d) (omega (arith, size, within)) ∙ ap (λ (b : ℕ). Some b) (sym (get_or-drop at front d 0))
-
--- bytes of chunks
-pub chunks_there : (front : List ℕ) (chunks : List (ℕ × Chunk)) (at : ℕ) (bytes : List ℕ) → length front ≤ at → AreThere (byte_in_chunks chunks) at bytes → AreThere (byte_held (record { front = front; chunks = chunks })) at bytes
-chunks_there front chunks at bytes out there d within = out_of_row (record { front = front; chunks = chunks }) (at + d) (omega (arith, out)) ∙ there d within
-
-pub chunks_none : (front : List ℕ) (chunks : List (ℕ × Chunk)) (at : ℕ) → length front ≤ at → byte_in_chunks chunks at ≡ None → byte_held (record { front = front; chunks = chunks }) at ≡ None
-chunks_none front chunks at out none = out_of_row (record { front = front; chunks = chunks }) at out ∙ none
-
--- ---- one chunk
-
--- the bytes of a chunk that are there in a row
-pub part_there : (chunks : BTreeMap ℕ Chunk) (chunk : Chunk) (at : ℕ) (bytes : List ℕ) → get nat_cmp chunks (at / 64) ≡ Some chunk → at % 64 + length bytes ≤ 64 → AreThere (byte_in chunk) (at % 64) bytes
-    → AreThere (held_at chunks) at bytes
-unfolding byte_in_chunks
-part_there chunks chunk at bytes found fits there d within =
-    let same : (at + d) / 64 ≡ at / 64 = omega (arith, fits, within) in
-    let place : (at + d) % 64 ≡ at % 64 + d = omega (arith, fits, within) in
-    rw (same, place, found) (there d within)
-
-pub part_none : (chunks : BTreeMap ℕ Chunk) (chunk : Chunk) (at : ℕ) → get nat_cmp chunks (at / 64) ≡ Some chunk → byte_in chunk (at % 64) ≡ None → held_at chunks at ≡ None
-unfolding byte_in_chunks
-part_none chunks chunk at found none = rw found none
-
-pub no_part : (chunks : BTreeMap ℕ Chunk) (at : ℕ) → get nat_cmp chunks (at / 64) ≡ None → held_at chunks at ≡ None
-unfolding byte_in_chunks
-no_part chunks at found = rw found refl
-
--- a chunk has no byte from an offset on
-pub done_within : (chunks : BTreeMap ℕ Chunk) (chunk : Chunk) (number end : ℕ) → 0 < end → number ≡ (end - 1) / 64 → get nat_cmp chunks number ≡ Some chunk → (end % 64 ≡ 0 → ⊥) → ((at : ℕ) → end % 64 ≤ at → byte_in chunk at ≡ None)
-    → (at : ℕ) → end ≤ at → at / 64 ≡ number → held_at chunks at ≡ None
-done_within chunks chunk number end some is found part none at above here =
-    let found_here : get nat_cmp chunks (at / 64) ≡ Some chunk = rw here found in
-    part_none chunks chunk at found_here (none (at % 64) (omega (arith, some, is, part, above, here)))
-
-at_other : (number q : ℕ) → (q ≡ number → ⊥) → is_at (nat_cmp number) q ≡ false
-at_other number q other = grind (arith, nat_tests)
-
-at_self : (number : ℕ) → is_at (nat_cmp number) number ≡ true
-at_self number = grind (arith, nat_tests)
-
--- a chunk was forgotten that has none
-pub forgotten : (old new : BTreeMap ℕ Chunk) (number end : ℕ) → ((q : ℕ) → get nat_cmp new q ≡ cond (is_at (nat_cmp number) q) None (get nat_cmp old q))
-    → ((at : ℕ) → end ≤ at → at / 64 ≡ number → held_at old at ≡ None) → HoldsFrom end (held_at old) (held_at new)
-unfolding byte_in_chunks
-forgotten old new number end updates done at above =
-    elim (cases_eq (at / 64) number) [
-      | inl here ↦ (let gone : get nat_cmp new (at / 64) ≡ None = updates (at / 64) ∙ rw (here, at_self number) refl in
-          rw gone (sym (done at above here)))
-      | inr other ↦ (let stays : get nat_cmp new (at / 64) ≡ get nat_cmp old (at / 64) = updates (at / 64) ∙ rw (at_other number (at / 64) other) refl in
-          rw stays refl)
-    ]
+-- the row is the stream
+pub held_stream : (held : HeldBytes) → IsWhole held → longest (byte_held (parts held)) ≡ held.front.items
+unfolding byte_held
+held_stream held whole = stream_is held.front.items held.runs.entries whole

@@ -1,8 +1,7 @@
 pub mod ByteLemmas
-pub mod ChunkLemmas
 mod CostLemmas
 pub mod CountLemmas
-mod CoverLemmas
+pub mod CoverLemmas
 mod DueLemmas
 pub mod FileLemmas
 mod FitLemmas
@@ -10,15 +9,15 @@ mod FlowLemmas
 mod FrameLemmas
 mod GoodLemmas
 mod HeldLemmas
-mod KeptLemmas
+mod InsertLemmas
 mod LengthLemmas
 mod MeetLemmas
 mod PairLemmas
 mod PieceLemmas
 mod ReadLemmas
-mod RunLemmas
 mod SessionLemmas
 mod SlotLemmas
 pub mod StreamLemmas
 mod TextLemmas
+mod WeaveLemmas
 pub mod WholeLemmas

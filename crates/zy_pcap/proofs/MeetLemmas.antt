@@ -10,9 +10,9 @@ use Rattle.zy_pcap.specs.declared.judged.Segment.{Segment}
 use Rattle.zy_pcap.specs.declared.kept_session.KeptSession.{KeptSession}
 use Rattle.zy_pcap.specs.Packet.{Packet, packet_with}
 use Rattle.zy_pcap.specs.Session.{Session, number_after, first_number, reaches, byte_of, byte_or_other, byte_at, session_begun_by}
-use Rattle.zy_pcap.specs.Chunk.{HeldBytes, byte_held, covered, HoldsSame, HoldsBoth}
+use Rattle.zy_pcap.specs.Held.{HeldParts, byte_held, covered, HoldsSame, HoldsBoth}
 use Rattle.zy_pcap.specs.Kept.{KeepsSession, Adds, MeetsSession, apart, session_next}
-use Rattle.zy_pcap.proofs.ChunkLemmas.{first_none, first_assoc}
+use Rattle.zy_pcap.proofs.CoverLemmas.{first_none, first_assoc}
 use Rattle.zy_pcap.proofs.SessionLemmas.{start, near_ends, before_ends, far_reaches, byte_near, byte_before, none_covered}
 
 -- ---- one further packet
@@ -96,7 +96,7 @@ apart_same n few = (let whole : n + (2 ^ 32 - n) ≡ 2 ^ 32 = omega (arith, few)
 start_zero : (packet : Packet) → start packet packet ≡ 0
 start_zero packet = apart_same (first_number packet) (omega arith)
 
-pub begun_keeps : (segment : Segment) (payload : List ℕ) (old new : HeldBytes) → length payload < 65536 → ((at : ℕ) → byte_held old at ≡ None) → HoldsBoth (byte_held old) (byte_held new) (covered payload 0)
+pub begun_keeps : (segment : Segment) (payload : List ℕ) (old new : HeldParts) → length payload < 65536 → ((at : ℕ) → byte_held old at ≡ None) → HoldsBoth (byte_held old) (byte_held new) (covered payload 0)
     → KeepsSession (record { sequence = segment.sequence; is_syn = segment.is_syn; bytes = new }) (session_begun_by (packet_with segment payload))
 begun_keeps segment payload old new few none both =
     let packet : Packet = packet_with segment payload in

@@ -5,7 +5,7 @@ use Rattle.std.proofs.lemmas.Bool.{cases_lt, cases_eq}
 use Rattle.std.proofs.lemmas.Bool.Decides.{nat_tests}
 use Rattle.zy_pcap.specs.Packet.{Packet}
 use Rattle.zy_pcap.specs.Session.{first_number, offset, is_far, reaches_with, byte_from, byte_of}
-use Rattle.zy_pcap.specs.Chunk.{covered}
+use Rattle.zy_pcap.specs.Held.{covered}
 use Rattle.zy_pcap.specs.Kept.{apart}
 use Rattle.zy_pcap.proofs.CoverLemmas.{covered_in, covered_below, covered_above}
 

@@ -6,7 +6,7 @@ use Rattle.zy_pcap.specs.declared.kept_flow.KeptFlow.{KeptFlow}
 use Rattle.zy_pcap.specs.Session.{Session, byte_at, longest_from, longest, session_stream}
 use Rattle.zy_pcap.specs.Flow.{Flow, Flows, streams_of_flow, streams_of_flows}
 use Rattle.zy_pcap.specs.Pairs.{BothOrNone, AllPairs}
-use Rattle.zy_pcap.specs.Chunk.{byte_held}
+use Rattle.zy_pcap.specs.Held.{byte_held}
 use Rattle.zy_pcap.specs.Kept.{KeepsSession, KeepsFlow, KeepsFlows}
 use Rattle.zy_pcap.specs.Streams.{kept_stream, streams_by, kept_streams}
 

@@ -1,20 +1,19 @@
 -- The texts of which the capture is made: segment after segment, session after session, connection after connection.
-use Rattle.std.proofs.Common.{◌≡◌, ℕ, zero, suc, ◌+◌, ◌-◌, ◌^◌, ◌<◌, ◌≤◌, List, [], ◌∷◌, ◌++◌, length, map, take, drop, add-one, refl, sym, ap, ◌∙◌, append_assoc, arith}
-use Rattle.std.specs.Prelude.{Option, Some, None, flat_map, min}
+use Rattle.std.proofs.Common.{◌≡◌, ℕ, zero, suc, ◌+◌, ◌-◌, ◌<◌, ◌≤◌, List, [], ◌∷◌, ◌++◌, length, map, take, drop, add-one, refl, sym, ap, ◌∙◌, append_assoc, inl, inr, arith}
+use Rattle.std.specs.Prelude.{Option, Some, None, flat_map, min, slice_range}
 use Rattle.std.specs.Int.{to_be_bytes, w32}
 use Rattle.std.proofs.lemmas.Grind.{flat_map-append}
-use Rattle.std.proofs.lemmas.List.{append-nil, length-drop}
+use Rattle.std.proofs.lemmas.Bool.{cases_lt}
+use Rattle.std.proofs.lemmas.List.{append-nil, length-drop, take_all, drop_all, drop-drop}
 use Rattle.zy_capture.specs.declared.record.Record.{Record}
 use Rattle.zy_capture.specs.declared.record.Record.TheVariants as Kinds
 use Rattle.zy_capture.specs.Capture.{segment_limit, capture_magic, spelled, spelling}
 use Rattle.zy_capture.specs.Replies.{numbered_from}
 use Rattle.zy_pcap.specs.declared.kept_flow.KeptFlow.{KeptFlow}
-use Rattle.zy_pcap.specs.Session.{longest_from, longest}
 use Rattle.zy_pcap.specs.Made.{capture_of, segments_of, session_records, connection_records, records_from}
 use Rattle.zy_pcap.specs.Streams.{kept_stream, streams_by, kept_streams}
 use Rattle.zy_pcap.specs.Texts.{start_text, close_text, segment_head, segment_text, stream_text, text_of_session, kept_connection}
 use Rattle.zy_pcap.proofs.StreamLemmas.{streams_length}
-use Rattle.zy_pcap.proofs.RunLemmas.{few_from, longer, nothing_there, Segment, segment_taken}
 
 -- ---- segments
 
@@ -118,27 +117,23 @@ capture_written flows streams count are is =
 
 -- ---- a stream, segment after segment
 
--- what is left of a stream from an offset on
-pub stream_steps : (f : ℕ → Option ℕ) (conn at most size : ℕ) → at ≤ 2 ^ 31 → most ≡ min 65535 (2 ^ 31 - at) → size ≡ length (longest_from f at most) → 0 < size
-    → stream_text conn (longest_from f at (2 ^ 31 - at)) ≡ segment_text conn (longest_from f at size) ++ stream_text conn (longest_from f (at + size) (2 ^ 31 - (at + size)))
-stream_steps f conn at most size within is size_is some =
-    let n : ℕ = 2 ^ 31 - at in
-    let taken : Segment f at n 65535 size = segment_taken f at n 65535 most size (omega (arith, is)) (omega (arith, is)) (λ cut. omega (arith, is, cut)) size_is in
-    let there : 0 < length (longest_from f at n) = longer f at size n some (omega (arith, size_is, is, few_from f at most)) taken.all in
-    let left : 2 ^ 31 - at - size ≡ 2 ^ 31 - (at + size) = omega arith in
-    stream_more conn (longest_from f at n) there
-    ∙ ap (λ (l : List ℕ). segment_text conn l ++ stream_text conn (drop 65535 (longest_from f at n))) taken.takes
-    ∙ ap (λ (l : List ℕ). segment_text conn (longest_from f at size) ++ stream_text conn l) (taken.leaves ∙ ap (longest_from f (at + size)) left)
+-- what is left of a stream from a place on
+pub stream_steps : (conn at end : ℕ) (bytes : List ℕ) → at < length bytes → end ≡ min (length bytes) (at + 65535)
+    → stream_text conn (drop at bytes) ≡ segment_text conn (slice_range bytes at end) ++ stream_text conn (drop end bytes)
+stream_steps conn at end bytes some is =
+    let rest : List ℕ = drop at bytes in
+    let size : length rest ≡ length bytes - at = length-drop at bytes in
+    let left : drop segment_limit rest ≡ drop (at + segment_limit) bytes = drop-drop segment_limit at bytes in
+    stream_more conn rest (omega (arith, size, some))
+    ∙ elim (cases_lt (length bytes) (at + 65535)) [
+      | inl short ↦ (let taken : take segment_limit rest ≡ slice_range bytes at end = take_all segment_limit rest (omega (arith, size, short)) ∙ sym (take_all (end - at) rest (omega (arith, size, is, short))) in
+          let none : drop segment_limit rest ≡ drop end bytes = left ∙ drop_all (at + segment_limit) bytes (omega (arith, short)) ∙ sym (drop_all end bytes (omega (arith, is, short))) in
+          ap (λ (l : List ℕ). segment_text conn l ++ stream_text conn (drop segment_limit rest)) taken ∙ ap (λ (l : List ℕ). segment_text conn (slice_range bytes at end) ++ stream_text conn l) none)
+      | inr full ↦ (let to : end ≡ at + 65535 = omega (arith, is, full) in
+          let count : 65535 ≡ end - at = omega (arith, to) in
+          ap (λ (n : ℕ). segment_text conn (take n rest) ++ stream_text conn (drop segment_limit rest)) count ∙ ap (λ (l : List ℕ). segment_text conn (slice_range bytes at end) ++ stream_text conn l) (left ∙ ap (λ (n : ℕ). drop n bytes) (sym to)))
+    ]
 
 -- nothing is left
-pub stream_ends : (f : ℕ → Option ℕ) (conn at most size : ℕ) → at < 2 ^ 31 → most ≡ min 65535 (2 ^ 31 - at) → size ≡ length (longest_from f at most) → size ≡ 0 → stream_text conn (longest_from f at (2 ^ 31 - at)) ≡ []
-stream_ends f conn at most size within is size_is none =
-    ap (stream_text conn) (nothing_there f at (2 ^ 31 - at) most (omega (arith, within, is)) (sym size_is ∙ none)) ∙ stream_none conn
-
-pub stream_over : (f : ℕ → Option ℕ) (conn at : ℕ) → 2 ^ 31 ≤ at → stream_text conn (longest_from f at (2 ^ 31 - at)) ≡ []
-stream_over f conn at over = (let none : 2 ^ 31 - at ≡ 0 = omega (arith, over) in ap (λ (k : ℕ). stream_text conn (longest_from f at k)) none ∙ stream_none conn)
-
--- from the first offset on
-pub stream_whole : (f : ℕ → Option ℕ) (conn : ℕ) → stream_text conn (longest_from f 0 (2 ^ 31 - 0)) ≡ stream_text conn (longest f)
-unfolding longest
-stream_whole f conn = refl
+pub stream_over : (conn at : ℕ) (bytes : List ℕ) → length bytes ≤ at → stream_text conn (drop at bytes) ≡ []
+stream_over conn at bytes over = ap (stream_text conn) (drop_all at bytes over) ∙ stream_none conn

@@ -14,7 +14,7 @@ use Rattle.zy_pcap.specs.declared.kept_flow.KeptFlow.{KeptFlow}
 use Rattle.zy_pcap.specs.Packet.{Packet}
 use Rattle.zy_pcap.specs.Session.{Session, reaches, byte_at, session_begun_by, with_packet}
 use Rattle.zy_pcap.specs.Flow.{Flow, Flows, Keys, put_at, grown_flow, length_fault, flow_fault, flows_with}
-use Rattle.zy_pcap.specs.Chunk.{byte_held, covered, HoldsSame, HoldsBoth}
+use Rattle.zy_pcap.specs.Held.{byte_held, covered, HoldsSame, HoldsBoth}
 use Rattle.zy_pcap.specs.Pairs.{BothOrNone, AllPairs}
 
 -- ---- what is kept

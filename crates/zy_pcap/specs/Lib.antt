@@ -1,6 +1,6 @@
-pub mod Chunk
 pub mod Flow
 pub mod Frame
+pub mod Held
 pub mod Kept
 pub mod Made
 pub mod Moves

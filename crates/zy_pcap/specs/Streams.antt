@@ -3,7 +3,7 @@ use Rattle.std.specs.Prelude.{ℕ, List, [], map, Option, None, Some}
 use Rattle.zy_pcap.specs.declared.kept_session.KeptSession.{KeptSession}
 use Rattle.zy_pcap.specs.declared.kept_flow.KeptFlow.{KeptFlow}
 use Rattle.zy_pcap.specs.Session.{longest}
-use Rattle.zy_pcap.specs.Chunk.{byte_held}
+use Rattle.zy_pcap.specs.Held.{byte_held}
 
 -- the stream of a session
 abbrev pub kept_stream : KeptSession → List ℕ

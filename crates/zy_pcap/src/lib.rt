@@ -1,13 +1,12 @@
 //! Recorded packets: the streams of their flows as a capture.
 #![tactic(auto)]
 
-mod chunk;
 mod due;
 mod fed;
 mod flows;
 mod frame;
+mod held;
 mod judged;
-mod kept_bytes;
 mod kept_flow;
 mod kept_flows;
 mod kept_session;
@@ -18,6 +17,7 @@ mod pcap_state;
 mod reader;
 mod records;
 mod slot;
+mod weaving;
 mod writing;
 
 pub use fed::Fed;

@@ -2,8 +2,8 @@
 ghost use Rattle.std.specs.Prelude.{◌≡◌, ◌+◌, ◌<◌, ◌≤◌, ◌^◌, length};
 ghost use Rattle.zy_base.specs.Outside.{Writes};
 ghost use Rattle.zy_capture.specs.Replies.{numbered_from};
-ghost use Rattle.zy_pcap.specs.Session.{longest_from, longest};
-ghost use Rattle.zy_pcap.specs.Chunk.{byte_held};
+ghost use Rattle.zy_pcap.specs.Session.{longest};
+ghost use Rattle.zy_pcap.specs.Held.{byte_held};
 ghost use Rattle.zy_pcap.specs.Made.{capture_of};
 ghost use Rattle.zy_pcap.specs.Texts.{start_text, close_text, segment_head, segment_text, stream_text, text_of_session};
 ghost use Rattle.zy_pcap.specs.Texts.{kept_text, kept_connection};
@@ -14,9 +14,7 @@ use crate::kept_session::KeptSession;
 use crate::kept_stream::KeptStream;
 use zy_base::{Failed, Sink, write_pieces, write_whole};
 
-const SEGMENT: u32 = 65_535;
-
-const STREAM_END: u32 = 1 << 31;
+const SEGMENT: usize = 65_535;
 
 /// Writes the capture of the streams, in version 2. Takes no memory.
 ///
@@ -85,10 +83,10 @@ fn write_session<K: Sink>(
         (text_of_session conn session (longest (byte_held stream.now))) }
 {
     if session == 0 {
-        return write_stream(sink, conn, stream);
+        return write_stream(sink, conn, stream.stream());
     }
     write_close(sink, conn)?;
-    write_stream(sink, conn, stream)
+    write_stream(sink, conn, stream.stream())
 }
 
 // A close record.
@@ -101,37 +99,27 @@ fn write_close<K: Sink>(sink: &mut K, conn: u32) -> Result<(), Failed>
 }
 
 // The segments of a stream.
-fn write_stream<K: Sink>(sink: &mut K, conn: u32, stream: &KeptStream) -> Result<(), Failed>
+fn write_stream<K: Sink>(sink: &mut K, conn: u32, bytes: &[u8]) -> Result<(), Failed>
     ensures writes { Writes K.holds K.faults K.finishes sink.old sink.new result
-        (stream_text conn (longest (byte_held stream.now))) }
+        (stream_text conn bytes.now) }
 {
     let mut at = 0;
-    while at < STREAM_END {
-        let size = stream.run_size(at, SEGMENT.min(STREAM_END - at));
-        if size == 0 {
-            return Ok(());
-        }
-        write_segment(sink, conn, stream, at, size)?;
-        at += size;
+    while at < bytes.len() {
+        let end = bytes.len().min(at + SEGMENT);
+        write_segment(sink, conn, &bytes[at..end])?;
+        at = end;
     }
     Ok(())
 }
 
 // A segment.
-fn write_segment<K: Sink>(
-    sink: &mut K,
-    conn: u32,
-    stream: &KeptStream,
-    at: u32,
-    size: u32,
-) -> Result<(), Failed>
-    requires within { at + size ≤ 2 ^ 31 }
-    requires there { length (longest_from (byte_held stream.now) at size) ≡ size }
+fn write_segment<K: Sink>(sink: &mut K, conn: u32, bytes: &[u8]) -> Result<(), Failed>
+    requires few { length bytes.now ≤ 65535 }
     ensures writes { Writes K.holds K.faults K.finishes sink.old sink.new result
-        (segment_text conn (longest_from (byte_held stream.now) at size)) }
+        (segment_text conn bytes.now) }
 {
-    write_head(sink, conn, size)?;
-    write_run(sink, stream, at, size)
+    write_head(sink, conn, bytes.len() as u32)?;
+    write_whole(sink, bytes)
 }
 
 // The beginning of a segment.
@@ -142,21 +130,4 @@ fn write_head<K: Sink>(sink: &mut K, conn: u32, size: u32) -> Result<(), Failed>
     let number = conn.to_be_bytes();
     let length = size.to_be_bytes();
     write_pieces(sink, &[b"S", &number, &length])
-}
-
-// So many bytes of a stream, which are there.
-fn write_run<K: Sink>(sink: &mut K, stream: &KeptStream, at: u32, size: u32) -> Result<(), Failed>
-    requires within { at + size ≤ 2 ^ 31 }
-    requires there { length (longest_from (byte_held stream.now) at size) ≡ size }
-    ensures writes { Writes K.holds K.faults K.finishes sink.old sink.new result
-        (longest_from (byte_held stream.now) at size) }
-{
-    let mut done = 0;
-    while done < size {
-        let part = stream.part(at + done);
-        let run = part.len().min((size - done) as usize);
-        write_whole(sink, &part[..run])?;
-        done += run as u32;
-    }
-    Ok(())
 }
