@@ -14,9 +14,9 @@ const ROW_LIMIT: u32 = 1 << 31;
 /// Bytes by their offsets: those from the first one on in a row, and those after a gap in runs. A byte
 /// that two runs have is that of the run that begins first.
 ///
-/// A packet adds at most one run, of at most its payload's length, and copies each of its bytes and of
-/// the runs' there at most once; a run goes when the row has come to its end. So the memory, and the
-/// bytes copied, are linear in the payloads.
+/// A packet adds at most one run, no longer than its payload, copies no more bytes than that, and looks
+/// at no more runs than its payload has bytes. When a gap is filled, each run behind it is copied into
+/// the row and goes. So whatever their order, the memory and the bytes copied are linear in the payloads.
 #[derive(Drop)]
 pub(crate) struct HeldBytes {
     pub(crate) front: Vec<u8>,

@@ -9,7 +9,7 @@ use zy_base::{Blob, NoMemory};
 // The bytes that are there from an offset on, in a row and up to a limit: those of runs, which count
 // first, and some that begin at that offset.
 //
-// Each of these bytes is copied once. Of the runs those are visited that begin before the row's end.
+// Each of these bytes is copied once, and no run is looked at beyond the first one after a gap.
 pub(crate) fn woven(
     alloc: Global,
     runs: Range<'_, u32, Blob>,
