@@ -7,18 +7,20 @@ from zygos_tools.repository import TOP
 
 ONE = ["run", "--cores", "1", "--threads", "1"]
 BOTH = ["--out", "both"]
-# which program is run where the words of the script name none
-name = "zygos"
 failures = []
+
+
+def path_of(name):
+    """Where the program of this name is, if the words of the script name none."""
+    return os.path.realpath(sys.argv[1]) if len(sys.argv) > 1 else os.path.join(TOP, "crates", name, "out", name)
+
+
+PATH = path_of("zygos")
 
 
 def path():
     """Where the program is."""
-    return GIVEN or os.path.join(TOP, "crates", name, "out", name)
-
-
-# the program that the script was given, if any
-GIVEN = os.path.realpath(sys.argv[1]) if len(sys.argv) > 1 else None
+    return PATH
 
 
 def run(words, given, output=subprocess.PIPE, **how):
