@@ -7,7 +7,6 @@ use Rattle.zy_base.specs.declared.entry.Entry.{Entry}
 use Rattle.zy_base.specs.Order.{of_connection}
 use Rattle.zy_capture.specs.declared.record.Record.{Record}
 use Rattle.zy_capture.specs.Outputs.{AllOutputs}
-use Rattle.zy_capture.specs.Streams.{no_bytes, with_records}
 use Rattle.zy_capture.proofs.AddLemmas.{streams_size}
 use Rattle.zy_journal.specs.declared.journal.Journal.{Journal}
 use Rattle.mc_parse.specs.declared.command.Command.{Command}
