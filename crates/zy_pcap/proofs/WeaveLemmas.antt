@@ -49,14 +49,6 @@ pub record Weaves (byte : ℕ → Option ℕ) (from limit : ℕ) (bytes row : Li
   pub rise : Rise runs
   pub rest : (at : ℕ) → from + length row ≤ at → at < limit → byte at ≡ woven_at runs bytes from at
 
-pub weaves_first : (runs : List Run) (bytes : List ℕ) (from limit : ℕ) → Rise runs → from + length bytes ≤ limit → Weaves (woven_at runs bytes from) from limit bytes [] runs
-weaves_first runs bytes from limit rise within = record {
-  there = λ d low. absurd (omega (arith, low));
-  within = omega (arith, within);
-  rise = rise;
-  rest = λ at low high. refl;
-}
-
 module _ (byte : ℕ → Option ℕ) (from limit : ℕ) (bytes row : List ℕ) (fits : from + length bytes ≤ limit) where
   size_of : (begin end : ℕ) (more : List ℕ) → length (row ++ next_of (from + length row) begin more end) ≡ length row + (min (length more) (end - begin) - (from + length row - begin))
   size_of begin end more = length-append row (next_of (from + length row) begin more end) ∙ ap (λ (n : ℕ). length row + n) (next_length (from + length row) begin end more)
