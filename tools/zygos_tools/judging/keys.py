@@ -182,9 +182,10 @@ class Keys:
         self.found[key] = Order(ids, marks)
         self.forget(key)
 
-    def order_of(self, calls: Calls) -> list[Made]:
-        """An order of these calls; one without losses, if such a one is soon found."""
-        order = quick(calls)
+    def order_of(self, calls: Calls, found: list[Made] | None = None) -> list[Made]:
+        """An order of these calls; one without losses, if such a one is soon found. `found` is one with losses, where it
+        is known."""
+        order = None if found else quick(calls)
         if order is not None:
             return order
         states = calls.states
@@ -196,7 +197,7 @@ class Keys:
                 pass
             finally:
                 states.loses = True
-        return self.run(calls, self.limit)
+        return found or self.run(calls, self.limit)
 
     def run(self, calls: Calls, limit: int) -> list[Made]:
         """Searches an order of these calls."""
@@ -207,21 +208,25 @@ class Keys:
 
     def order_at_first(self, calls: Calls) -> list[Made]:
         """An order of the calls on a key from an item that explains all; where there is none, from the likeliest."""
-        key, likeliest = calls.names[0], ABSENT
+        key = calls.names[0]
         order = quick(calls)
         if order is not None:
             self.first[key] = None
             return order
-        for at, item in enumerate(dict.fromkeys(self.guesses(calls))):
+        tried: dict[int, None] = {}
+        for item in self.guesses(calls):  # some of them take a search, so no more are asked for than are tried
+            if item in tried:
+                continue
+            tried[item] = None
             calls.from_item(item)
-            likeliest = item if not at else likeliest
             order = quick(calls)
             try:
                 order = order or self.run(calls, MOST_STATES)
             except (Stuck, GaveUp):
                 continue
             self.first[key] = calls.states.values.pairs[item] if item else None
-            return self.order_of(calls) if any(made.was_lost for made in order) else order
+            return self.order_of(calls, order) if any(made.was_lost for made in order) else order
+        likeliest = next(iter(tried))
         calls.from_item(likeliest)
         self.first[key] = calls.states.values.pairs[likeliest] if likeliest else None
         return self.order_of(calls)
