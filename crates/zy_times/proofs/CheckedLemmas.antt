@@ -1,13 +1,12 @@
 -- What a check finds of a run is what judging needs.
 use Rattle.std.specs.Prelude.{Option, IfSome}
 use Rattle.std.specs.List.{slice_get, AllByRecursion}
-use Rattle.std.proofs.Common.{◌≡◌, ℕ, zero, suc, ◌+◌, ◌<◌, ◌≤◌, List, [], ◌∷◌, Bool, length, take, Some, refl, sym, ap, ◌∙◌, subst, arith}
+use Rattle.std.proofs.Common.{◌≡◌, ℕ, zero, suc, ◌+◌, ◌<◌, ◌≤◌, List, [], ◌∷◌, Bool, length, take, Some, refl, ap, ◌∙◌, subst, arith}
 use Rattle.std.proofs.lemmas.Option.{slice_get_within}
 use Rattle.mc_calls.specs.declared.entry.Entry.{Entry}
 use Rattle.mc_calls.specs.Order.{of_connection}
 use Rattle.zy_capture.specs.declared.record.Record.{Record}
 use Rattle.zy_capture.specs.Outputs.{AllOutputs}
-use Rattle.zy_capture.specs.Streams.{no_bytes, with_records}
 use Rattle.zy_capture.proofs.AddLemmas.{streams_size}
 use Rattle.zy_journal.specs.declared.journal.Journal.{Journal}
 use Rattle.mc_parse.specs.declared.command.Command.{Command}

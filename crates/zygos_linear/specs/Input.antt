@@ -13,7 +13,8 @@ use Rattle.zygos_linear.specs.declared.finding.Finding.{Finding}
 use Rattle.zygos_linear.specs.Finding.{HasFinding, OfRecording}
 
 -- these streams and times are those of the records of `count` connections
-pub record AreOfRecords (streams : List (List (List ℕ))) (times : Times) (count : ℕ) (records : List Record) : Type 0 where
+pub record AreOfRecords (streams : List (List (List ℕ))) (times : Times) (count : ℕ) (records : List Record)
+    : Type 0 where
   pub joined : streams ≡ with_records (no_bytes count) records
   pub times_hold : TimesHold times count records
 

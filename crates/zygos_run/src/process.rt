@@ -12,7 +12,8 @@ const OUT_OF_MEMORY: u8 = 6;
 
 const OUT_OF_MEMORY_LINE: &[u8] = b"zygos: out of memory\n";
 
-/// Writes to standard error that there is no memory for the arguments or for a buffer; the exit status. Takes no memory.
+/// Writes to standard error that there is no memory for the arguments or for a buffer; the exit status. Takes no
+/// memory.
 pub fn without_memory<W: Write + Drop>(error: W) -> ExitCode {
     let mut says = StdSink::new(error);
     // The status is the same if the line cannot be written.
