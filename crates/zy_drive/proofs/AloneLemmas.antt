@@ -1,6 +1,6 @@
 -- A group of one core, and passes at the same bells.
-use Rattle.std.proofs.Common.{◌≡◌, ℕ, ◌<◌, List, [], ◌∷◌, length, get_or, refl, sym, ap, ◌∙◌, subst, arith}
-use Rattle.std.specs.Prelude.{◌++◌, remove}
+use Rattle.std.proofs.Common.{◌≡◌, ℕ, ◌<◌, List, [], ◌∷◌, length, get_or, refl, sym, ap, ◌∙◌, arith}
+use Rattle.std.specs.Prelude.{◌++◌}
 use Rattle.zy_park.specs.Pass.{Bells, Passed}
 use Rattle.zy_core.specs.declared.nap.Nap.{Nap}
 use Rattle.zy_core.specs.declared.nap.Nap.TheVariants.{Awake, Ending, Rested}

@@ -1,9 +1,5 @@
 -- Lists in which each member keeps its image under a function.
-use Rattle.std.proofs.Common.{◌≡◌, ℕ, zero, suc, List, [], ◌∷◌, map, set, Some, slice_get, refl, sym, ap, ◌∙◌, subst}
-use mathlib.Core.Logic.{dite}
-use native.Mathlib.Decide.{ℕ_discrete}
-use Rattle.zy_table.proofs.SliceLemmas.{get_set_same, get_set_else}
-use Rattle.zy_drive.specs.Deal.{Each}
+use Rattle.std.proofs.Common.{◌≡◌, ℕ, zero, suc, List, [], ◌∷◌, map, set, Some, slice_get, refl, sym, ap, ◌∙◌}
 
 module _ {C D : Type 0} (f : C → D) where
   -- the measure of a member

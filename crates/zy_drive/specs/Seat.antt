@@ -1,5 +1,5 @@
 -- Where groups of cores are while threads drive them. No public clause cites this module.
-use Rattle.std.specs.Prelude.{List, [], ◌∷◌, map, Vec, ⊤}
+use Rattle.std.specs.Prelude.{List, [], ◌∷◌, map, Bool, true, false, ◌&&◌, ◌||◌, not, Vec, ⊤}
 use Rattle.zy_drive.specs.declared.feeding.Step.{Step}
 use Rattle.zy_drive.specs.declared.threads.tending.Next.{Next}
 use Rattle.zy_drive.specs.declared.threads.tending.Next.TheVariants.{Made, Broken, Stopped}
@@ -10,6 +10,7 @@ use Rattle.zy_drive.specs.declared.threads.seat.Seat.TheVariants.{Away, Here}
 use Rattle.zy_core.specs.Share.{Sharing}
 use Rattle.zy_core.specs.Core.{Identity}
 use Rattle.zy_core.specs.Cores.{identities, EachFits, EachSettled}
+use Rattle.zy_drive.specs.Group.{have_all_blocks}
 
 -- what stays of the cores of a seat
 abbrev pub seat_identities : Seat → List Identity
@@ -34,6 +35,24 @@ AllSettled [] = ⊤
 AllSettled (group ∷ groups) = EachSettled group.items × AllSettled groups
 
 -- ---- the caller
+
+-- a group is with the caller
+abbrev pub are_some_here : List Seat → Bool
+are_some_here [] = false
+are_some_here (Away handle ∷ seats) = are_some_here seats
+are_some_here (Here group ∷ seats) = true
+
+-- a block of a core that is with the caller is away
+abbrev pub are_some_away : List Seat → Bool
+are_some_away [] = false
+are_some_away (Away handle ∷ seats) = are_some_away seats
+are_some_away (Here group ∷ seats) = not (have_all_blocks group.cores) || are_some_away seats
+
+-- each group that is with the caller is done
+abbrev pub are_done_here : List Seat → Bool
+are_done_here [] = true
+are_done_here (Away handle ∷ seats) = are_done_here seats
+are_done_here (Here group ∷ seats) = group.done && are_done_here seats
 
 -- what holds of a step of the feeder, or of none, where stop was 0 and the feeder is not broken
 abbrev pub IfMade : Next → (Step → Type 0) → Type 0

@@ -1,5 +1,6 @@
 //! What a round of a group of cores came to.
-ghost use Rattle.std.specs.Prelude.{◌≢◌};
+ghost use Rattle.std.specs.Prelude.{◌≡◌, ◌≢◌};
+ghost use Rattle.zy_drive.specs.Group.{round_of, with_round, with_work, calls_up};
 
 use zy_core::Came;
 
@@ -19,6 +20,7 @@ pub(crate) enum Round {
 impl Round {
     // What one turn came to.
     pub(crate) fn of(came: Came) -> Round
+        ensures value { result ≡ round_of came }
         ensures awake { result ≢ Round.Rested }
     {
         match came {
@@ -30,6 +32,7 @@ impl Round {
 
     // This round with a further one, neither of which is a rest.
     pub(crate) fn with(self, other: Round) -> Round
+        ensures value { result ≡ with_round self other }
         ensures awake { result ≢ Round.Rested }
     {
         match (self, other) {
@@ -43,6 +46,7 @@ impl Round {
     // works, and counts itself after it, so a round that counts has worked already. It is handled
     // anyway, so that the last count calls up whatever the turns came to.
     pub(crate) fn then(self, counted: bool) -> Round
+        ensures value { result ≡ with_work counted self }
         ensures awake { self ≢ Round.Rested → result ≢ Round.Rested }
     {
         match self {
@@ -52,7 +56,9 @@ impl Round {
     }
 
     // Whether cores that rest may have something to do since.
-    pub(crate) fn calls_up(self) -> bool {
+    pub(crate) fn calls_up(self) -> bool
+        ensures value { result ≡ calls_up self }
+    {
         match self {
             Round::Worked | Round::Busy => true,
             Round::Rested | Round::Idle => false,

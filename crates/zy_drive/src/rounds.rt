@@ -2,6 +2,7 @@
 ghost use Rattle.std.specs.Prelude.{◌≡◌, ◌≢◌, true, IfOk};
 ghost use Rattle.zy_core.specs.Core.{Fits, identity_of};
 ghost use Rattle.zy_core.specs.Cores.{identities, EachFits, EachSettled};
+ghost use Rattle.zy_drive.specs.Group.{have_all_blocks};
 ghost use Rattle.zy_drive.specs.Same.{SameCore, SameCores};
 
 use crate::round::Round;
@@ -83,7 +84,9 @@ pub(crate) fn all_done(cores: &mut Vec<Core>, shared: &Shared) -> bool
 }
 
 // Whether no block of these cores is away.
-pub(crate) fn have_all_blocks(cores: &[Core]) -> bool {
+pub(crate) fn have_all_blocks(cores: &[Core]) -> bool
+    ensures value { result ≡ have_all_blocks cores.now }
+{
     for core in cores {
         if !core.has_all_blocks() {
             return false;

@@ -2,7 +2,7 @@
 ghost use Rattle.std.specs.Prelude.{◌≡◌};
 ghost use Rattle.zy_core.specs.Core.{Fits, identity_of};
 ghost use Rattle.zy_core.specs.Cores.{identities, EachFits};
-ghost use Rattle.zy_drive.specs.Group.{IsAlone};
+ghost use Rattle.zy_drive.specs.Group.{IsAlone, round_of_nap};
 ghost use Rattle.zy_drive.specs.Same.{SameCore, SameCores, SameBell};
 
 use crate::round::Round;
@@ -58,7 +58,9 @@ fn nap_one<R: Wait, G: Gate>(
 }
 
 // What a nap of the one core of a group came to.
-fn round_of(nap: Nap) -> Round {
+fn round_of(nap: Nap) -> Round
+    ensures value { result ≡ round_of_nap nap }
+{
     match nap {
         Nap::Awake(Turn::Worked) => Round::Worked,
         Nap::Rested => Round::Rested,

@@ -1,7 +1,7 @@
 //! The cores that one thread drives.
 ghost use Rattle.std.specs.Prelude.{◌≡◌, ◌≢◌, true, false, IfOk};
 ghost use Rattle.zy_core.specs.Cores.{identities, EachFits, EachSettled};
-ghost use Rattle.zy_drive.specs.Group.{grouped, IsAlone};
+ghost use Rattle.zy_drive.specs.Group.{grouped, have_all_blocks, IsAlone};
 ghost use Rattle.zy_drive.specs.Same.{SameCores, SameBell};
 
 use crate::round::Round;
@@ -137,7 +137,9 @@ impl Group {
     }
 
     // Whether no block of its cores is away.
-    pub(crate) fn has_all_blocks(&self) -> bool {
+    pub(crate) fn has_all_blocks(&self) -> bool
+        ensures value { result ≡ have_all_blocks self.now.cores }
+    {
         have_all_blocks(&self.cores)
     }
 

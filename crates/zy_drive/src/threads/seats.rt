@@ -3,6 +3,7 @@ ghost use Rattle.std.specs.Prelude.{◌≡◌, ◌+◌, ◌≤◌, ◌++◌, tru
 ghost use Rattle.zy_core.specs.Cores.{EachFits};
 ghost use Rattle.zy_drive.specs.Group.{AllAt};
 ghost use Rattle.zy_drive.specs.Seat.{seat_identities, all_of_seats, all_of_groups, AllFit, AllSettled};
+ghost use Rattle.zy_drive.specs.Seat.{are_some_here, are_some_away, are_done_here};
 ghost use Rattle.zy_drive.specs.Same.{SameSeats};
 
 use crate::round::Round;
@@ -78,7 +79,9 @@ fn go_on_seat<R, G: Gate>(driving: &Driving<'_, R, G>, seat: &mut Seat) -> Resul
 }
 
 // Whether a group is with the caller.
-pub(crate) fn are_some_here(seats: &[Seat]) -> bool {
+pub(crate) fn are_some_here(seats: &[Seat]) -> bool
+    ensures value { result ≡ are_some_here seats.now }
+{
     for seat in seats {
         if let Seat::Here(_) = seat {
             return true;
@@ -88,7 +91,9 @@ pub(crate) fn are_some_here(seats: &[Seat]) -> bool {
 }
 
 // Whether a block of a core that is with the caller is away.
-pub(crate) fn are_some_away(seats: &[Seat]) -> bool {
+pub(crate) fn are_some_away(seats: &[Seat]) -> bool
+    ensures value { result ≡ are_some_away seats.now }
+{
     for seat in seats {
         if let Seat::Here(group) = seat {
             if !group.has_all_blocks() {
@@ -100,7 +105,9 @@ pub(crate) fn are_some_away(seats: &[Seat]) -> bool {
 }
 
 // Whether each group that is with the caller is done.
-pub(crate) fn are_done_here(seats: &[Seat]) -> bool {
+pub(crate) fn are_done_here(seats: &[Seat]) -> bool
+    ensures value { result ≡ are_done_here seats.now }
+{
     for seat in seats {
         if let Seat::Here(group) = seat {
             if !group.is_done() {

@@ -1,6 +1,7 @@
 //! What the caller does while threads drive the cores.
 ghost use Rattle.std.specs.Prelude.{◌≡◌, ◌≢◌, ◌↔◌, true, false};
 ghost use Rattle.zy_control.specs.Pass.{seeing_stop};
+ghost use Rattle.zy_drive.specs.Group.{items_after, with_work};
 ghost use Rattle.zy_drive.specs.Seat.{IfMade};
 ghost use Rattle.zy_drive.specs.Seat.{all_of_seats, AllFit};
 ghost use Rattle.zy_rx.specs.Feed.{rings_of};
@@ -125,7 +126,9 @@ fn feed_next<F: Feeder>(
 
 // How many items were offered in a row since the cores that are with the caller took a turn: 0 if
 // they are to take one.
-fn items_after(items: u32, has_offered: bool) -> u32 {
+fn items_after(items: u32, has_offered: bool) -> u32
+    ensures value { result ≡ items_after items has_offered }
+{
     if has_offered && items < ITEMS_A_TURN {
         items + 1
     } else {
@@ -134,7 +137,9 @@ fn items_after(items: u32, has_offered: bool) -> u32 {
 }
 
 // What the caller found to do, by whether an item was offered, and by the round of its own cores.
-fn found(has_offered: bool, round: Round) -> Round {
+fn found(has_offered: bool, round: Round) -> Round
+    ensures value { result ≡ with_work has_offered round }
+{
     match round {
         Round::Idle if has_offered => Round::Worked,
         round => round,
