@@ -288,6 +288,7 @@ def answers_before_proofs(one):
              f"{LOW}zygos: all is proved, and the proved program's answer is the same, 17 bytes|{COPIED}",
              "zygos_on 'abc\n' run | sed 's/try -- run --rest 1 in zygos|//; s/summed|//g'")
     os.unlink(one.path("out/zygos.built"))
+    os.unlink(one.path("crates/zygos/out/zygos"))
     one.write("hold", "")
     with tempfile.TemporaryFile() as given:
         given.write(b"abc\n")

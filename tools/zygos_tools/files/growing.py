@@ -69,7 +69,10 @@ def reading(file: int, name: str = "", passed: Callable[[int], object] | None = 
 
     def more(count: int) -> bytes:
         nonlocal at
-        piece = os.pread(file, count, at)
+        try:
+            piece = os.pread(file, count, at)
+        except OSError as error:
+            raise OSError(error.errno, error.strerror, error.filename or name or None) from None
         at += len(piece)
         if passed:
             passed(len(piece))
