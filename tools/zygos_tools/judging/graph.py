@@ -275,8 +275,8 @@ class Graph:
 
     def short_circles(self, part: list[int], look: Callable[[], None]) -> list[list[int]]:
         """Short circles in a strongly connected part, without a node in common. Each circle has a link from a call to
-        another that probably ended before it, so only those with such a link are tried. Where none is short, one circle
-        with as few calls as can be."""
+        another that probably ended before it, so only those with such a link are tried, each with calls
+        that ended before it. Where none is short, one circle with as few calls as can be."""
         inside, found = set(part), []
         for node in sorted([node for node in part if node < self.count and self.goes_back(node, inside)], key=self.weight):
             if node in inside:
@@ -291,8 +291,17 @@ class Graph:
                 and self.weight(other) < self.weight(one)]
         return [self.path(other, one, inside) for _, one, other in sorted(back)[:1]]
 
+    def is_later(self, node: int, time: int) -> bool:
+        """Whether a call probably ended after a time, or all calls behind a barrier did."""
+        table, count = self.table, self.count
+        if node < count:
+            return table.hint[table.command[node]] > time
+        first = self.firsts[node - count] if node < self.base else count
+        return first < count and table.begin[table.command[first]] > time
+
     def short_circle(self, begin: int, inside: set[int]) -> list[int]:
-        """A shortest circle through a node among some nodes; nothing where none is short."""
+        """A shortest circle through a node among some nodes of which none ended after it; nothing where none is short."""
+        time = self.weight(begin)
         came_from: dict[int, int] = {}
         row, length = [begin], 0
         while row and len(came_from) < MOST_REACHED and length < MOST_LENGTH:
@@ -302,7 +311,7 @@ class Graph:
                 for other in self.after(node):
                     if other == begin:
                         return [begin, *back_from(node, came_from, begin)]
-                    if other in inside and other not in came_from:
+                    if other in inside and other not in came_from and not self.is_later(other, time):
                         came_from[other] = node
                         following.append(other)
             row = following
