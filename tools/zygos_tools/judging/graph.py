@@ -257,7 +257,7 @@ class Graph:
         kept, count = self.kept, self.count
         return array("I", [node for node in order if node >= count or kept[node]])
 
-    def circles(self, left: list[int]) -> list[list[int]]:
+    def circles(self, left: list[int], look: Callable[[], None] = lambda: None) -> list[list[int]]:
         """Circles among these nodes: the strongly connected parts of more than one node (Tarjan), and in place of a
         large one some short circles in it."""
         parts, found = Parts(self, left), []
@@ -265,16 +265,22 @@ class Graph:
             if node not in parts.index:
                 parts.visit(node)
         for part in parts.found:
-            found += [part] if len(part) <= MOST_NODES else self.short_circles(part) or [part]
+            found += [part] if len(part) <= MOST_NODES else self.short_circles(part, look) or [part]
         return found
 
-    def short_circles(self, part: list[int]) -> list[list[int]]:
-        """Short circles in a strongly connected part, without a node in common. Where none is short, one with a link
-        from a call to another that probably ended before it, with as few calls as can be: each circle has such a
-        link."""
+    def goes_back(self, node: int, inside: set[int]) -> bool:
+        """Whether a link of a key goes from a call to another that probably did not end after it, or to a loss."""
+        weight, base = self.weight(node), self.base
+        return any(other in inside and (other >= base or self.weight(other) <= weight) for other in self.by_keys(node))
+
+    def short_circles(self, part: list[int], look: Callable[[], None]) -> list[list[int]]:
+        """Short circles in a strongly connected part, without a node in common. Each circle has a link from a call to
+        another that probably ended before it, so only those with such a link are tried, each with calls
+        that ended before it. Where none is short, one circle with as few calls as can be."""
         inside, found = set(part), []
-        for node in sorted(part, key=self.weight):
-            if node in inside and node < self.count:
+        for node in sorted([node for node in part if node < self.count and self.goes_back(node, inside)], key=self.weight):
+            if node in inside:
+                look()
                 circle = self.short_circle(node, inside)
                 found += [circle] * bool(circle)
                 inside.difference_update(circle)
@@ -285,8 +291,17 @@ class Graph:
                 and self.weight(other) < self.weight(one)]
         return [self.path(other, one, inside) for _, one, other in sorted(back)[:1]]
 
+    def is_later(self, node: int, time: int) -> bool:
+        """Whether a call probably ended after a time, or all calls behind a barrier did."""
+        table, count = self.table, self.count
+        if node < count:
+            return table.hint[table.command[node]] > time
+        first = self.firsts[node - count] if node < self.base else count
+        return first < count and table.begin[table.command[first]] > time
+
     def short_circle(self, begin: int, inside: set[int]) -> list[int]:
-        """A shortest circle through a node among some nodes; nothing where none is short."""
+        """A shortest circle through a node among some nodes of which none ended after it; nothing where none is short."""
+        time = self.weight(begin)
         came_from: dict[int, int] = {}
         row, length = [begin], 0
         while row and len(came_from) < MOST_REACHED and length < MOST_LENGTH:
@@ -296,7 +311,7 @@ class Graph:
                 for other in self.after(node):
                     if other == begin:
                         return [begin, *back_from(node, came_from, begin)]
-                    if other in inside and other not in came_from:
+                    if other in inside and other not in came_from and not self.is_later(other, time):
                         came_from[other] = node
                         following.append(other)
             row = following

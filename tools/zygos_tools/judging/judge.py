@@ -136,7 +136,7 @@ class Judge:
                 self.graph, self.order = graph, graph.ordered(order)
                 self.check_times()
                 return
-            circles = graph.circles(left)
+            circles = graph.circles(left, self.clock.look)
             self.clock.set(f"{keys_in(circles, self.table)}: their orders are fitted to each other, turn {turn + 1}")
             mending.turn(circles, rising)
         raise Unknown(f"{keys_in(circles, self.table)}: their orders were not fitted to each other in {MOST_TURNS}"
