@@ -46,6 +46,8 @@ async def client(place, number, words):
     reader, writer = await asyncio.open_connection(host, int(port))
     draw = Skewed(words.seed * 4096 + number)
     one = Client(number, draw, [b"key:%d" % at for at in range(words.keys)], words.kinds)
+    # a long recording has more stores than a simulated one
+    one.nobodys = (1 << 63) - 1
     commands, answers, pending, left = Commands(), Answers(), Pending(), words.commands
     while left:
         count = min(left, draw.randint(1, words.in_flight))

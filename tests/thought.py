@@ -57,6 +57,9 @@ def understood(command, frame):
 class Client:
     """What a client sends: commands of these kinds on these keys."""
 
+    # a unique of no item
+    nobodys = 99999
+
     def __init__(self, number, draw, keys, kinds):
         self.number, self.draw, self.keys, self.kinds, self.sent, self.uniques = number, draw, keys, kinds.split(), 0, {}
 
@@ -76,7 +79,7 @@ class Client:
             value = b"%d" % draw.choice((0, 7, 99, 100, 1234))
             return b"set %s 0 0 %d\r\n%s\r\n" % (key, len(value), value)
         if kind == "cas":
-            return b"cas %s 0 0 %d %d\r\n%s\r\n" % (key, size, self.uniques.get(key, 99999), value)
+            return b"cas %s 0 0 %d %d\r\n%s\r\n" % (key, size, self.uniques.get(key, self.nobodys), value)
         if kind == "quiet":
             return self.quiet(key, value)
         return SENT[kind] % {b"key": key, b"flags": flags, b"size": size, b"value": value, b"amount": draw.choice((1, 7))}
