@@ -111,7 +111,8 @@ done counts call appends (Some item) = joined (key_part call) item (item.value +
 done counts call prepends None = answers NotStored
 done counts call prepends (Some item) = joined (key_part call) item ((value_part call) ++ item.value)
 done counts call exchanges None = answers NotFound
-done counts call exchanges (Some item) = exchanged (key_part call) item (flags_part call) (number_part call) (value_part call)
+done counts call exchanges (Some item) =
+    exchanged (key_part call) item (flags_part call) (number_part call) (value_part call)
 done counts call counts_up None = answers NotFound
 done counts call counts_up (Some item) = counted_up (key_part call) item (number_part call) (number_of item.value)
 done counts call counts_down None = answers NotFound

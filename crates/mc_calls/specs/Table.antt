@@ -1,5 +1,5 @@
 -- The table of calls: what each kind of call is in a journal, what it does on its shard, and what it is counted as
--- (docs/FORMATS.md, "Journal"; docs/PROFILE.md). A kind of call has a row here, its code, its fields, and no other case.
+-- (docs/FORMATS.md, "Journal"; docs/PROFILE.md). Each kind of call has one row here.
 use Rattle.std.specs.Prelude.{ℕ, ◌==◌, if◌then◌else◌, Bool, true, false, List, [], Option, None, Some, unwrap_or}
 use Rattle.mc_calls.specs.declared.call.Call.{Call}
 use Rattle.mc_calls.specs.declared.call.Call.TheVariants as Calls
@@ -59,23 +59,23 @@ pub record CallRow : Type 0 where
   pub counted : CountedAs
   pub acts : Acts
 
-abbrev pub row : ℕ → CallFields → CountedAs → Acts → CallRow
-row code fields counted acts = record { code = code; fields = fields; counted = counted; acts = acts }
+abbrev pub call_row : ℕ → CallFields → CountedAs → Acts → CallRow
+call_row code fields counted acts = record { code = code; fields = fields; counted = counted; acts = acts }
 
 -- the row of each kind
 abbrev pub row_of : CallKind → CallRow
-row_of Get = row 1 (having true false false false) AsGet (always shows)
-row_of Set = row 2 (having true true false true) AsSet (always puts)
-row_of Add = row 3 (having true true false true) AsSet (by_item puts (says NotStored))
-row_of Replace = row 4 (having true true false true) AsSet (by_item (says NotStored) puts)
-row_of Append = row 5 (having true false false true) AsSet (always appends)
-row_of Prepend = row 6 (having true false false true) AsSet (always prepends)
-row_of Cas = row 7 (having true true true true) AsSet (always exchanges)
-row_of Incr = row 8 (having true false true false) Uncounted (always counts_up)
-row_of Decr = row 9 (having true false true false) Uncounted (always counts_down)
-row_of Delete = row 10 (having true false false false) Uncounted (always takes)
-row_of Flush = row 11 (having false false false false) Uncounted (always clears)
-row_of Tally = row 12 (having false false false false) Uncounted (always tallies)
+row_of Get = call_row 1 (having true false false false) AsGet (always shows)
+row_of Set = call_row 2 (having true true false true) AsSet (always puts)
+row_of Add = call_row 3 (having true true false true) AsSet (by_item puts (says NotStored))
+row_of Replace = call_row 4 (having true true false true) AsSet (by_item (says NotStored) puts)
+row_of Append = call_row 5 (having true false false true) AsSet (always appends)
+row_of Prepend = call_row 6 (having true false false true) AsSet (always prepends)
+row_of Cas = call_row 7 (having true true true true) AsSet (always exchanges)
+row_of Incr = call_row 8 (having true false true false) Uncounted (always counts_up)
+row_of Decr = call_row 9 (having true false true false) Uncounted (always counts_down)
+row_of Delete = call_row 10 (having true false false false) Uncounted (always takes)
+row_of Flush = call_row 11 (having false false false false) Uncounted (always clears)
+row_of Tally = call_row 12 (having false false false false) Uncounted (always tallies)
 
 -- the greatest code of a call
 abbrev pub last_call_code : ℕ

@@ -1,5 +1,5 @@
-//! Laws of commands, their calls and the expected calls of connections: the functions do nothing, and their contracts are
-//! the laws.
+//! Laws of commands, their calls and the expected calls of connections: the functions do nothing, and their contracts
+//! are the laws.
 ghost use Rattle.std.specs.Prelude.{◌≡◌, ℕ, ◌≤◌, Bool, true, false, List, [], ◌∷◌, ◌++◌, map, All, codes};
 ghost use Rattle.std.specs.List.{filter_map, AllByRecursion};
 ghost use Rattle.mc_calls.specs.declared.call.Call.{Call};

@@ -65,8 +65,10 @@ meta_row (Metas.Delete key flags) = deed_row (makes_one (DeleteCall key)) (says_
 
 -- the row of each command
 abbrev pub command_row : Command → CommandRow
-command_row (Store verb key flags value quiet) = deed_row (makes_one (stored_by verb key flags value)) (says_reply quiet)
-command_row (Cas key flags unique value quiet) = deed_row (makes_one (CasCall flags key unique value)) (says_reply quiet)
+command_row (Store verb key flags value quiet) =
+    deed_row (makes_one (stored_by verb key flags value)) (says_reply quiet)
+command_row (Cas key flags unique value quiet) =
+    deed_row (makes_one (CasCall flags key unique value)) (says_reply quiet)
 command_row (Get keys unique) = deed_row (gets_each keys) (says_items keys unique)
 command_row (Delete key quiet) = deed_row (makes_one (DeleteCall key)) (says_reply quiet)
 command_row (Count key up amount quiet) = deed_row (makes_one (counted_by up key amount)) (says_reply quiet)

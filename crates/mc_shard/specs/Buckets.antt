@@ -56,7 +56,8 @@ fingerprint_of key = hash_of key / 2 ^ 8 % 2 ^ 8
 abbrev pub AreFingerprints : List ℕ → Keyed → Type 0
 AreFingerprints fingerprints [] = ⊤
 AreFingerprints [] (entry ∷ entries) = ⊥
-AreFingerprints (fingerprint ∷ fingerprints) (entry ∷ entries) = (fingerprint ≡ fingerprint_of entry.0) × AreFingerprints fingerprints entries
+AreFingerprints (fingerprint ∷ fingerprints) (entry ∷ entries) =
+    (fingerprint ≡ fingerprint_of entry.0) × AreFingerprints fingerprints entries
 
 -- ---- one bucket
 

@@ -111,7 +111,8 @@ pub record StandsAtSession (g : Given) (conn session : ℕ) (cursor : Cursor) (b
 
 -- the state of a connection of what is given, after these calls were made
 abbrev pub HasMadeCalls : Given → ℕ → Track → List Due → Type 0
-HasMadeCalls g conn t made = StandsAtSession g conn t.session t.cursor t.begun t.commands t.compared t.answered.items made
+HasMadeCalls g conn t made =
+    StandsAtSession g conn t.session t.cursor t.begun t.commands t.compared t.answered.items made
 
 -- which of their commands are answered, connection by connection
 abbrev pub flags_of : List Track → List (List Bool)

@@ -21,8 +21,8 @@ width_of (Run others) = others + 1
 abbrev pub MayNeed : {S G F : Type 0} → Fields S G F → (S → Type 0) → Place S F → ℕ → Type 0
 MayNeed fields Wants p byte = Wants p.state × (is_full fields p ≡ false)
 
--- the field gives this answer and state, which may be that at the place after the field; `NoMemory` changes nothing, and
--- is answered only where the state may want memory
+-- the field gives this answer and state, which may be that at the place after the field; `NoMemory` changes nothing,
+-- and is answered only if the state may want memory
 abbrev pub Judges : {S G F : Type 0} → (S → ℕ → Type 0) → (S → Type 0) → Judged S G F → ℕ → S → S
     → Result (Option G) (NotTaken F) → Type 0
 Judges Fits Wants judged after old new (Ok None) = (judged ≡ Then new) × Fits new after

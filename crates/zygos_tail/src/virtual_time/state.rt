@@ -104,8 +104,8 @@ impl<'a> Run<'a> {
         &self.gate
     }
 
-    /// Offers the requests that have come at the time of the core with the least clock, and says what is next. An idle core
-    /// looks on until the next request comes, or a core that is not idle has its next turn.
+    /// Offers the requests that have come at the time of the core with the least clock, and says what is next. An idle
+    /// core looks on until the next request comes, or a core that is not idle has its next turn.
     pub(crate) fn next(&mut self) -> Result<Next, NoMemory> {
         let core = self.clocks.least();
         let now = self.clocks.now(core);
