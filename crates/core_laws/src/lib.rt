@@ -11,7 +11,7 @@ mod ownership;
 mod resting;
 mod rounds;
 mod served;
-mod stations;
+mod staying;
 mod stealing;
 
 pub use blocks::{all_commands_are_done, each_finished_command_has_one_text};
@@ -43,7 +43,7 @@ pub use rounds::each_core_has_one_turn_in_a_round;
 pub use served::{
     a_connection_receives_its_streams, outputs_are_cut_at_the_ends, what_is_served_is_a_run,
 };
-pub use stations::each_home_stays;
+pub use staying::each_core_stays;
 pub use stealing::{
     a_block_given_back_leaves_the_hands, a_stolen_block_has_the_label, worked_orders,
 };

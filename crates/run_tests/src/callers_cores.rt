@@ -1,21 +1,20 @@
 //! Cores that the caller drives: they take turns before a step that may wait, and after 64 items.
-ghost use Rattle.std.specs.Prelude.{◌≡◌, ◌≤◌, length, IfOk};
+ghost use Rattle.std.specs.Prelude.{◌≡◌, ◌≤◌, length};
 ghost use Rattle.zy_core.specs.Cores.{identities, AreCores};
 
 use crate::sure::{must, sure};
 use crate::watch::Watch;
-use mc_store::Root;
 use std::alloc::Global;
 use std::process::Abort;
 use std::sync::Wait;
 use std::thread::Threads;
-use zy_base::{Blob, CallNumbers, MemSource, NoMemory};
-use zy_core::{Cores, Shared};
+use zy_base::{Blob, CallNumbers, MemSource};
+use zy_core::Running;
 use zy_drive::{Driven, FirstGroup, drive_groups};
 use zy_feed::{CaptureFeeder, Inlets, Intake};
 use zy_park::Bells;
 use zy_rx::{Fed, Feeder, Outlet};
-use zy_setup::{Made, Started, make, start};
+use zy_setup::make_run;
 
 // The cores, with a connection each.
 const CORES: u32 = 2;
@@ -134,46 +133,6 @@ fn append_commands(rt: &impl Abort, bytes: &mut Blob, commands: u64) {
     }
 }
 
-// The cores of a run, with what they share, the inlets of their rings, and the root of their store.
-#[derive(Drop)]
-struct Ready {
-    cores: Cores,
-    shared: Shared,
-    inlets: Inlets,
-    root: Root,
-}
-
-fn make_ready(alloc: Global) -> Result<Ready, NoMemory>
-    ensures cores { IfOk result (λ ready. AreCores ready.shared (identities ready.cores)) }
-    ensures count { IfOk result (λ ready. length ready.shared.rings ≡ 2) }
-{
-    let Started {
-        homes,
-        rings,
-        passes,
-        store,
-        root,
-    } = start(alloc, CORES, CORES, 16)?;
-    match make(alloc, homes, rings, passes, store) {
-        Ok(
-            Made {
-                cores,
-                shared,
-                inlets,
-            },
-        ) => Ok(Ready {
-            cores,
-            shared,
-            inlets,
-            root,
-        }),
-        Err(e) => {
-            drop(root);
-            Err(e)
-        }
-    }
-}
-
 // The largest number of commands that were offered and not yet begun before a step.
 fn most_waiting<R: Threads + Wait + Abort + Sync>(rt: &R, alloc: Global, case: Case) -> u64 {
     assert!(rt; case.bytes >= 1);
@@ -199,34 +158,35 @@ fn drive_source<R: Threads + Wait + Abort + Sync>(
     requires threads { (1 ≤ case.threads) × (case.threads ≤ 64) }
 {
     let (intake, _) = sure(rt, Intake::begin(alloc, source));
-    match make_ready(alloc) {
-        Ok(ready) => drive_ready(rt, alloc, case, source, gate, intake, ready),
+    match make_run(alloc, CORES, CORES, 16) {
+        Ok(running) => drive_run(rt, alloc, case, source, gate, intake, running),
         Err(_) => panic!(rt; "no memory"),
     }
 }
 
 // Drives the cores, the first group of them on the caller's thread.
-fn drive_ready<R: Threads + Wait + Abort + Sync>(
+fn drive_run<R: Threads + Wait + Abort + Sync>(
     rt: &R,
     alloc: Global,
     case: Case,
     source: &mut MemSource,
     gate: &Watch,
     intake: Intake,
-    ready: Ready,
+    running: Running,
 ) -> u64
     requires threads { (1 ≤ case.threads) × (case.threads ≤ 64) }
-    requires cores { AreCores ready.shared (identities ready.cores) }
-    requires count { length ready.shared.rings ≡ 2 }
+    requires cores { AreCores running.shared (identities running.cores) }
+    requires count { length running.shared.rings ≡ 2 }
+    requires inlets { length running.inlets.items ≡ 2 }
 {
-    let Ready {
+    let Running {
         cores,
         shared,
         inlets,
         root,
-    } = ready;
+    } = running;
     let mut feeder = Watched {
-        feeder: CaptureFeeder::new(source, intake, inlets),
+        feeder: CaptureFeeder::new(source, intake, Inlets::new(inlets)),
         gate,
         case,
         offered: 0,

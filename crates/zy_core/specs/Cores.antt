@@ -1,13 +1,17 @@
 -- What the cores of a run are, and what stays of them while they are driven.
 use Rattle.std.specs.Prelude.{◌≡◌, ℕ, ◌≤◌, List, length, map, true, Some, slice_get}
 use Rattle.zy_rx.specs.Ring.{RingName}
-use Rattle.zy_home.specs.Home.{is_settled}
+use Rattle.zy_home.specs.Home.{Homed, is_settled}
 use Rattle.zy_core.specs.Share.{Sharing}
 use Rattle.zy_core.specs.Core.{Cored, Identity, identity_of, Fits}
 
 -- what stays of cores
 abbrev pub identities : List Cored → List Identity
 identities cores = map identity_of cores
+
+-- their homes
+abbrev pub homes_of : List Cored → List Homed
+homes_of cores = map (λ (c : Cored). c.home) cores
 
 -- each is a core of the shared parts
 unfoldable pub EachFits : Sharing → List Identity → Type 0

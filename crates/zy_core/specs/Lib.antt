@@ -4,4 +4,5 @@ pub mod Steal
 pub mod Turn
 pub mod Nap
 pub mod Cores
+pub mod Running
 pub mod Step

@@ -8,7 +8,7 @@ use Rattle.zy_home.specs.Home.{is_settled}
 use Rattle.zy_core.specs.Share.{Sharing}
 use Rattle.zy_core.specs.Core.{Cored, identity_of, Fits}
 use Rattle.zy_core.specs.Cores.{identities, EachFits, AreInlets}
-use Rattle.zy_drive.proofs.ListLemmas.{get_map, map_set}
+use Rattle.zy_core.proofs.ListLemmas.{get_map, map_set}
 
 -- ---- one of the cores
 

@@ -11,7 +11,7 @@ use Rattle.zy_core.specs.Cores.{identities, EachFits, EachSettled}
 use Rattle.zy_drive.specs.Deal.{lists_of, Deals, gathered, Each, EachOfAll}
 use Rattle.zy_drive.specs.declared.threads.seat.Seat.{Seat}
 use Rattle.zy_drive.specs.Seat.{seat_identities, all_of_seats, all_of_groups, AllFit, AllSettled}
-use Rattle.zy_drive.proofs.ListLemmas.{get_map, map_get}
+use Rattle.zy_core.proofs.ListLemmas.{get_map, map_get}
 use Rattle.zy_drive.proofs.DealLemmas.{dealt_each, gathers_same, gathered_each}
 
 -- ---- what stays

@@ -1,4 +1,3 @@
-pub mod ListLemmas
 pub mod DealLemmas
 pub mod CoreLemmas
 pub mod AloneLemmas

@@ -9,12 +9,12 @@ use Rattle.mc_parse.proofs.BoundLemmas.{due_from_within}
 use Rattle.zy_frame.specs.Cut.{commands_of}
 use Rattle.zy_frame.proofs.BoundLemmas.{stream_within}
 use Rattle.zy_run.specs.Commands.{commands_over}
-use Rattle.zy_setup.proofs.ListLemmas.{all_append}
+use Rattle.mc_parse.proofs.PlainLemmas.{each-append}
 
 -- the commands of streams are within their bounds
 commands_within : (streams : List (List ℕ)) → AllByRecursion IsCommand (commands_over streams)
 commands_within [] = tt
-commands_within (stream ∷ streams) = all_append IsCommand (commands_of stream) (commands_over streams) (stream_within stream) (commands_within streams)
+commands_within (stream ∷ streams) = each-append IsCommand (commands_of stream) (commands_over streams) (stream_within stream) (commands_within streams)
 
 entries_due : (n : ℕ) (es : List Entry) → AllByRecursion (IsDueWithin n) (dues_of es) → AllByRecursion (IsCallWithin n) es
 entries_due n [] each = tt

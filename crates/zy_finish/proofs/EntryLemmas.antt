@@ -13,7 +13,7 @@ use Rattle.zy_conn.specs.Hold.{EachIsHold}
 use Rattle.zy_finish.specs.Finish.{IsHoldBy}
 use Rattle.zy_run.specs.Run.{AreOfConnections}
 use Rattle.zy_finish.specs.Left.{AreOf}
-use Rattle.zy_setup.proofs.ListLemmas.{all_append}
+use Rattle.mc_parse.proofs.PlainLemmas.{each-append}
 
 -- ---- parts
 
@@ -113,5 +113,5 @@ pub all_holds_within : (P : Hold → Type 0) (holds : ℕ → List Hold) (from c
     → AllByRecursion P (flat_map holds (range_with_len from count))
 all_holds_within P holds from zero each = tt
 all_holds_within P holds from (suc count) each =
-    all_append P (holds from) (flat_map holds (range_with_len (from + 1) count)) (each from (omega arith) (omega arith))
+    each-append P (holds from) (flat_map holds (range_with_len (from + 1) count)) (each from (omega arith) (omega arith))
     (all_holds_within P holds (from + 1) count (λ conn least within. each conn (omega arith) (omega arith)))

@@ -6,7 +6,7 @@ use native.Mathlib.Decide.{ℕ_discrete}
 use Rattle.zy_rx.specs.Flow.{home_of}
 use Rattle.zy_home.specs.Own.{own_conns}
 use Rattle.zy_home.proofs.OwnLemmas.{own-more, own-here, own-else}
-use Rattle.zy_setup.proofs.ListLemmas.{get_seam}
+use Rattle.zy_core.proofs.ListLemmas.{get_seam}
 use Rattle.zy_finish.specs.Rest.{count_below, place_of}
 
 -- ---- places of a list

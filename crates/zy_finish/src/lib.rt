@@ -1,4 +1,4 @@
-//! The result when all is served: the homes of the cores, and the journal and the outputs of a run.
+//! The end of a run: its cores, their homes and the store are taken apart, into the journal and the outputs.
 #![tactic(auto)]
 
 mod cutting;
@@ -9,4 +9,3 @@ mod sessions;
 mod taking;
 
 pub use finishing::{Finished, finish};
-pub use taking::{Taken, abandon, take};

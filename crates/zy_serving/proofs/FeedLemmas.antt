@@ -1,5 +1,5 @@
 -- A feeder that was made from an intake that has begun, and from inlets to which nothing was sent.
-use Rattle.std.proofs.Common.{◌≡◌, ℕ, ◌≤◌, List, sym, subst}
+use Rattle.std.proofs.Common.{◌≡◌, ℕ, ◌≤◌, List, sym, ap, ◌∙◌, subst}
 use Rattle.std.specs.Prelude.{Option, Some}
 use Rattle.zy_rx.specs.Ring.{Offering}
 use Rattle.zy_rx.specs.Feed.{sent_by}
@@ -10,7 +10,14 @@ use Rattle.zy_feed.specs.declared.stage.Stage.TheVariants.{Cutting, Ended}
 use Rattle.zy_feed.specs.declared.intake.Header.{Header}
 use Rattle.zy_feed.specs.Reads.{Intake, HasBegun, StopsIntakeBy}
 use Rattle.zy_feed.specs.Feeding.{feeding, stop_in, AreUnsent, HasFedAll, LeadsTo}
+use Rattle.zy_core.proofs.ListLemmas.{map_get}
+use Rattle.zy_setup.specs.New.{AreUnusedRings}
 use Rattle.zy_feed.proofs.WholeLemmas.{fed_all, has_cause, counts_on}
+
+-- nothing was sent to new rings
+pub none_sent : (inlets : List Offering) → AreUnusedRings inlets → AreUnsent (sent_by inlets)
+none_sent inlets fresh i sent at =
+    let o = map_get (λ (x : Offering). x.sent) inlets i sent at in sym o.2 ∙ ap (λ (x : Offering). x.sent) (fresh i o.0 o.1).unused
 
 -- what it was made of, and what it is later
 module _ {S : Type 0} (rest : S → Option (List ℕ)) (faults : S → ℕ) (first : S) (header : Header) (given now later : S) (intake made further : Intake) (inlets ends after : List Offering) (stage stage' : Stage) (begins : HasBegun rest faults first given intake header) (unsent : AreUnsent (sent_by inlets)) (same : now ≡ given) (is : made ≡ intake) (are : ends ≡ inlets) (cutting : stage ≡ Cutting) (leads : LeadsTo rest faults (feeding now made ends stage) (feeding later further after stage')) where

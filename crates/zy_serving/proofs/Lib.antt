@@ -1,4 +1,2 @@
-mod RunningLemmas
 mod FeedLemmas
-mod OverLemmas
 mod ServedLemmas

@@ -1,5 +1,5 @@
 -- What a run leaves of a capture that was fed whole is the served run of its bytes.
-use Rattle.std.proofs.Common.{◌≡◌, ℕ, List, refl, sym, ◌∙◌, ap, ap₂, subst}
+use Rattle.std.proofs.Common.{◌≡◌, ℕ, List, ap₂}
 use Rattle.zy_capture.specs.declared.record.Record.{Record}
 use Rattle.zy_capture.specs.Outputs.{AllOutputs}
 use Rattle.zy_capture.specs.Verdict.{verdict}
@@ -13,7 +13,6 @@ use Rattle.zy_rx.specs.declared.rx.Rx.{Rx}
 use Rattle.zy_feed.specs.declared.intake.Header.{Header}
 use Rattle.zy_feed.specs.Feeding.{HasFedAll}
 use Rattle.zy_finish.specs.Received.{AllSent}
-use Rattle.zy_feed.specs.Reads.{Intake, HasBegun}
 use Rattle.std.specs.List.{AllByRecursion}
 use Rattle.zy_command_line.specs.declared.request.Run.{Run}
 use Rattle.zy_finish.specs.Finish.{IsResultOfRun, IsHoldBy}
@@ -49,8 +48,3 @@ pub runs_to : {S : Type 0} (rest : S → Option (List ℕ)) (faults : S → ℕ)
 runs_to rest faults asked source source' header sents done exactly fed finished held =
     let is = finished fed.records fed.lawful fed.sent in
     (fed.bytes, (fed.source, fed.end, fed.small), served_of asked header.version header.count fed.records fed.bytes done exactly fed.good fed.small is held)
-
--- what has begun with a head has begun with an equal of it
-pub begun_as : {S : Type 0} (rest : S → Option (List ℕ)) (faults : S → ℕ) (first now : S) (intake : Intake) (header header' : Header) → HasBegun rest faults first now intake header
-    → header' ≡ header → HasBegun rest faults first now intake header'
-begun_as rest faults first now intake header header' begun are = subst (λ (h : Header). HasBegun rest faults first now intake h) (sym are) begun

@@ -1,4 +1,3 @@
 pub mod Seen
 pub mod Headline
 pub mod Runs
-pub mod Running

@@ -7,22 +7,22 @@ ghost use Rattle.zy_command_line.specs.Range.{IsRunnable};
 ghost use Rattle.zy_core.specs.Cores.{AreCores, AreInlets, EachSettled, identities};
 ghost use Rattle.zy_drive.specs.Drive.{idle_turns_before_rest, IsSettledRun, IsBrokenRun};
 ghost use Rattle.zy_drive.specs.Drive.{returned_cores};
-ghost use Rattle.zy_serving.specs.Running.{IsPrepared, IsDriven};
+ghost use Rattle.zy_core.specs.Running.{rings_in, IsSameRun};
+ghost use Rattle.zy_feed.specs.declared.intake.Header.{Header};
+ghost use Rattle.zy_setup.specs.New.{AreUnusedRings};
 
-use crate::running::Running;
 use std::alloc::Global;
 use std::sync::Wait;
 use std::thread;
 use std::thread::Threads;
 use zy_base::{Gate, NoMemory, Source};
 use zy_command_line::Run;
-use zy_core::{Cores, Shared};
+use zy_core::{Cores, Running, Shared};
 use zy_drive::{Driven, FirstGroup, drive_groups, drive_ordered, rest_of, take_back};
 use zy_feed::{
-    CaptureFeeder, Intake, Stop, a_broken_feeder_has_its_cause,
+    CaptureFeeder, Inlets, Intake, Stop, a_broken_feeder_has_its_cause,
     a_feeder_that_ended_has_offered_the_capture,
 };
-use zy_finish::abandon;
 use zy_park::Bells;
 use zy_rx::Feeder;
 
@@ -37,52 +37,64 @@ pub(crate) fn drive_capture<R: Threads + Wait + Sync, S: Source, G: Gate + Sync>
     gate: &G,
 ) -> Result<Running, Stop>
     requires runnable { IsRunnable run }
-    requires prepared { IsPrepared run running }
+    requires cores { AreCores running.shared (identities running.cores) }
+    requires count { length running.shared.rings ≡ run.cores }
+    requires rings { rings_of running.inlets.items ≡ rings_in (identities running.cores) }
+    requires fresh { AreUnusedRings running.inlets.items }
 
     // The capture, and why it was read no further.
-    ensures fed { (first : S) → HasBegun S.rest S.faults first source.old intake running.header
-        → IfOk result (λ ran. HasFedAll S.rest S.faults first source.new running.header (sent_by ran.inlets)) }
-    ensures stopped { (first : S) → HasBegun S.rest S.faults first source.old intake running.header
+    ensures fed { (first : S) (header : Header) → HasBegun S.rest S.faults first source.old intake header
+        → IfOk result (λ ran. HasFedAll S.rest S.faults first source.new header (sent_by ran.inlets.items)) }
+    ensures stopped { (first : S) (header : Header) → HasBegun S.rest S.faults first source.old intake header
         → IfErr result (λ stop. StopsIntakeBy S.rest S.faults first source.new stop) }
-    ensures count { (first : S) → HasBegun S.rest S.faults first source.old intake running.header
+    ensures reads { (first : S) (header : Header) → HasBegun S.rest S.faults first source.old intake header
         → S.faults first ≤ S.faults source.new }
 
     // The cores.
-    ensures driven { IfOk result IsDriven }
-    ensures header { IfOk result (λ ran. ran.header ≡ running.header) }
-    ensures shards { IfOk result (λ ran. ran.shared.store.shards ≡ run.shards) }
-    ensures cores { IfOk result (λ ran. length ran.cores ≡ run.cores) }
+    ensures same { IfOk result (IsSameRun running) }
+    ensures settled { IfOk result (λ ran. EachSettled ran.cores) }
 {
     a_feeder_that_ended_has_offered_the_capture::<S>();
     a_broken_feeder_has_its_cause::<S>();
     let Running {
-        header,
         cores,
         shared,
         inlets,
         root,
     } = running;
-    let mut feeder = CaptureFeeder::new(source, intake, inlets);
+    let mut feeder = CaptureFeeder::new(source, intake, Inlets::new(inlets));
     let driven = drive_cores(rt, alloc, run, cores, &shared, gate, &mut feeder);
     let (source, inlets, stop) = feeder.into_parts();
     take_back(source);
+    let inlets = inlets.into_vec();
     match driven {
         Driven::Settled(cores) => Ok(Running {
-            header,
             cores,
             shared,
             inlets,
             root,
         }),
         Driven::Broken(cores) => {
-            abandon(cores, shared, inlets, root);
+            let broken = Running {
+                cores,
+                shared,
+                inlets,
+                root,
+            };
+            broken.abandon();
             match stop {
                 Some(stop) => Err(stop),
                 None => Err(Stop::NoMemory),
             }
         }
         Driven::NoMemory(cores) => {
-            abandon(cores, shared, inlets, root);
+            let refused = Running {
+                cores,
+                shared,
+                inlets,
+                root,
+            };
+            refused.abandon();
             Err(Stop::NoMemory)
         }
     }

@@ -2,8 +2,6 @@
 #![tactic(auto)]
 
 mod drive;
-mod prepare;
-mod running;
 mod serving;
 
 pub use serving::serve_capture;

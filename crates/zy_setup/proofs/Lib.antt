@@ -2,5 +2,5 @@ pub mod ListLemmas
 pub mod OwnLemmas
 pub mod PassLemmas
 pub mod MadeLemmas
-pub mod FitLemmas
 pub mod MakeLemmas
+pub mod RunLemmas

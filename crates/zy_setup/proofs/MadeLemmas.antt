@@ -9,7 +9,8 @@ use Rattle.zy_conn.specs.Block.{Blocked, label_of}
 use Rattle.zy_home.specs.Home.{Homed, HomeStands, IsMade}
 use Rattle.zy_setup.specs.declared.own_connections.OwnConnections.{OwnConnections}
 use Rattle.zy_setup.specs.declared.core_parts.CoreParts.{CoreParts}
-use Rattle.zy_setup.specs.Ready.{IsNewHome, AreNewPasses, AreReady}
+use Rattle.zy_setup.specs.New.{IsNewHome}
+use Rattle.zy_setup.specs.Progress.{AreReady}
 use Rattle.zy_setup.specs.Make.{GivesPass, no_passes, HasPasses, AreMade}
 use Rattle.zy_setup.proofs.PassLemmas.{push_at, push_below, passes_next, passes_none, length-no_passes, passes_all}
 

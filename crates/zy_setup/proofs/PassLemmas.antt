@@ -12,7 +12,7 @@ use Rattle.zy_steal.specs.Order.{other_core}
 use Rattle.zy_steal.specs.Steal.{PassList, ArePasses, pass_list, AreIdle, seats_of}
 use Rattle.zy_steal.proofs.OrderLemmas.{other-below, other-above}
 use Rattle.zy_conn.specs.Block.{Blocked}
-use Rattle.zy_setup.proofs.ListLemmas.{get_seam}
+use Rattle.zy_core.proofs.ListLemmas.{get_seam}
 use Rattle.zy_setup.specs.Make.{with_further_pass, GivesPass, no_passes, others_among, HasPasses}
 
 -- ---- the last of a list

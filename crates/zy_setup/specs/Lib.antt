@@ -1,5 +1,3 @@
-pub mod Start
-pub mod Ready
-pub mod Station
+pub mod New
 pub mod Make
 pub mod Progress

@@ -13,7 +13,7 @@ use Rattle.zy_home.specs.Parts.{IsNew, IsUnused, conns_of_blocks, rings_of_block
 use Rattle.zy_home.specs.Home.{Homed}
 use Rattle.zy_setup.specs.declared.own_connections.OwnConnections.{OwnConnections}
 use Rattle.zy_setup.specs.declared.core_parts.CoreParts.{CoreParts}
-use Rattle.zy_setup.specs.Ready.{IsNewHome}
+use Rattle.zy_setup.specs.New.{IsNewHome}
 
 -- ---- connections
 

@@ -1,5 +1,4 @@
-//! The beginning of a run: the store, for each core its ring, its home and its passes on the other
-//! rings, and the cores that are made from these.
+//! The beginning of a run: the store, a block for each connection, and the cores.
 #![tactic(auto)]
 
 mod connections;
@@ -7,7 +6,6 @@ mod core_parts;
 mod making;
 mod own_connections;
 mod ringing;
-mod starting;
+mod running;
 
-pub use making::{Made, make};
-pub use starting::{Started, start};
+pub use running::make_run;

@@ -1,100 +1,92 @@
 //! Making the cores of a run.
 ghost use Rattle.std.specs.Prelude.{◌≡◌, ◌<◌, ◌≤◌, [], ◌∷◌, ◌++◌, length, IfOk, OnOk};
-ghost use Rattle.zy_conn.specs.Block.{label_of};
 ghost use Rattle.zy_control.specs.Pass.{rooted};
-ghost use Rattle.zy_core.specs.Cores.{identities, AreCores, AreInlets};
-ghost use Rattle.zy_rx.specs.Feed.{rings_of, sent_by};
-ghost use Rattle.zy_feed.specs.Feeding.{AreUnsent};
-ghost use Rattle.zy_setup.specs.Ready.{AreReady, IsNewHome, AreNewPasses, AreUnusedRings};
-ghost use Rattle.zy_setup.specs.Station.{stations_of, stations_in, rings_in};
-ghost use Rattle.zy_setup.specs.Progress.{AddsCore, HasMadeAll};
+ghost use Rattle.zy_core.specs.Cores.{identities, homes_of, AreCores};
+ghost use Rattle.zy_core.specs.Running.{rings_in};
+ghost use Rattle.zy_rx.specs.Feed.{rings_of};
+ghost use Rattle.zy_setup.specs.New.{IsNewHome, AreNewPasses, AreUnusedRings, label_in};
+ghost use Rattle.zy_setup.specs.Progress.{AreReady, AddsCore, HasMadeAll, passes_of};
 
-use mc_store::StoreTable;
+use crate::core_parts::CoreParts;
+use mc_store::{Root, StoreTable};
 use std::alloc::Global;
 use zy_base::NoMemory;
 use zy_conn::Block;
 use zy_control::ControlRoot;
-use zy_core::{Core, Cores, Shared};
-use zy_feed::Inlets;
+use zy_core::{Core, Cores, Running, Shared};
 use zy_home::Home;
 use zy_rx::{Inlet, ring};
-use zy_steal::{Passes, Rings, Victims};
+use zy_steal::{Passes, Victims};
 
 // The slots of a receive ring.
 const SLOTS: usize = 256;
 
-/// The cores of a run, what they share, and the ends of their receive rings that items are offered
-/// to.
-#[derive(Drop)]
-pub struct Made {
-    pub cores: Cores,
-    pub shared: Shared,
-    pub inlets: Inlets,
-}
-
-/// Makes a core from each home, by rising number, with its passes on the rings of the others, a
-/// receive ring of 256 slots, and a pass on new control words.
-///
-/// `Err` means `NoMemory`.
-pub fn make(
+/// Makes a core from each home, by rising number, with its passes on the rings of the others, a receive
+/// ring and a pass on new control words. The root is that of the store.
+pub(crate) fn make_cores(
     alloc: Global,
-    homes: Vec<Home>,
-    rings: Rings<Block>,
-    passes: Vec<Passes<Block>>,
+    parts: CoreParts,
     store: StoreTable,
-) -> Result<Made, NoMemory>
-    requires ready { AreReady rings store homes.items passes.items }
+    root: Root,
+) -> Result<Running, NoMemory>
+    requires ready { AreReady parts.rings store parts.homes.items parts.passes.items }
 
-    // What driving asks for.
-    ensures cores { IfOk result (λ made. AreCores made.shared (identities made.cores)) }
-    ensures inlets { IfOk result (λ made. AreInlets (rings_of made.inlets) (identities made.cores)) }
+    // The cores, of these homes and passes.
+    ensures cores { IfOk result (λ run. AreCores run.shared (identities run.cores)) }
+    ensures homes { IfOk result (λ run. homes_of run.cores ≡ parts.homes.items) }
+    ensures passes { IfOk result (λ run. passes_of run.cores ≡ parts.passes.items) }
 
-    // What stays of the homes and the rings, and what was given.
-    ensures same { IfOk result (λ made. stations_in (identities made.cores) ≡ stations_of homes.items) }
-    ensures rings { IfOk result (λ made. rings_of made.inlets ≡ rings_in (identities made.cores)) }
-    ensures shared { IfOk result (λ made. (made.shared.rings ≡ rings) × (made.shared.store ≡ store)) }
-
-    // Nothing was sent, and there is room.
-    ensures unsent { IfOk result (λ made. AreUnsent (sent_by made.inlets)) }
-    ensures fresh { IfOk result (λ made. AreUnusedRings made.inlets) }
+    // What else the run has.
+    ensures inlets { IfOk result (λ run. rings_of run.inlets.items ≡ rings_in (identities run.cores)) }
+    ensures fresh { IfOk result (λ run. AreUnusedRings run.inlets.items) }
+    ensures shared { IfOk result (λ run. (run.shared.rings ≡ parts.rings) × (run.shared.store ≡ store)) }
+    ensures root { IfOk result (λ run. run.root ≡ root) }
 {
+    let CoreParts {
+        homes,
+        rings,
+        passes,
+    } = parts;
     match Shared::new(alloc, rings, store) {
-        Ok((shared, root)) => make_cores(alloc, shared, root, homes, passes),
+        Ok((shared, control)) => run_on(alloc, shared, control, homes, passes, root),
         Err(given) => {
             drop(given);
             drop(homes);
             drop(passes);
+            drop(root);
             Err(NoMemory)
         }
     }
 }
 
 // Makes the cores, which share this.
-fn make_cores(
+fn run_on(
     alloc: Global,
     shared: Shared,
-    root: ControlRoot,
+    control: ControlRoot,
     homes: Vec<Home>,
     passes: Vec<Passes<Block>>,
-) -> Result<Made, NoMemory>
-    requires root { root ≡ rooted shared.control.id 0 (length shared.rings) }
+    root: Root,
+) -> Result<Running, NoMemory>
+    requires control { control ≡ rooted shared.control.id 0 (length shared.rings) }
     requires ready { AreReady shared.rings shared.store homes.items passes.items }
-    ensures cores { IfOk result (λ made. AreCores made.shared (identities made.cores)) }
-    ensures inlets { IfOk result (λ made. AreInlets (rings_of made.inlets) (identities made.cores)) }
-    ensures same { IfOk result (λ made. stations_in (identities made.cores) ≡ stations_of homes.items) }
-    ensures rings { IfOk result (λ made. rings_of made.inlets ≡ rings_in (identities made.cores)) }
-    ensures shared { IfOk result (λ made. made.shared ≡ shared) }
-    ensures unsent { IfOk result (λ made. AreUnsent (sent_by made.inlets)) }
-    ensures fresh { IfOk result (λ made. AreUnusedRings made.inlets) }
+    ensures cores { IfOk result (λ run. AreCores run.shared (identities run.cores)) }
+    ensures homes { IfOk result (λ run. homes_of run.cores ≡ homes.items) }
+    ensures passes { IfOk result (λ run. passes_of run.cores ≡ passes.items) }
+    ensures inlets { IfOk result (λ run. rings_of run.inlets.items ≡ rings_in (identities run.cores)) }
+    ensures fresh { IfOk result (λ run. AreUnusedRings run.inlets.items) }
+    ensures shared { IfOk result (λ run. run.shared ≡ shared) }
+    ensures root { IfOk result (λ run. run.root ≡ root) }
 {
     let mut making = Making {
-        root,
+        root: control,
         cores: Cores::new(alloc),
         inlets: Vec::new(alloc),
     };
     if let Err(e) = making.add_all(alloc, &shared, homes, passes) {
         drop(making);
         drop(shared);
+        drop(root);
         return Err(e);
     }
     let Making {
@@ -102,10 +94,11 @@ fn make_cores(
         cores,
         inlets,
     } = making;
-    Ok(Made {
+    Ok(Running {
         cores,
         shared,
-        inlets: Inlets::new(inlets),
+        inlets,
+        root,
     })
 }
 
@@ -130,7 +123,7 @@ impl Making {
         requires none { (self.old.cores ≡ []) × (self.old.inlets.items ≡ []) }
         requires root { self.old.root ≡ rooted shared.now.control.id 0 (length shared.now.rings) }
         requires ready { AreReady shared.now.rings shared.now.store homes.items passes.items }
-        ensures ok { OnOk result (HasMadeAll shared.now homes.items self.new) }
+        ensures ok { OnOk result (HasMadeAll shared.now homes.items passes.items self.new) }
     {
         let count = homes.len() as u32;
         let mut passes = passes;
@@ -154,11 +147,10 @@ impl Making {
         requires few { count ≤ 64 }
         requires next { length self.old.inlets.items < count }
         requires root { self.old.root ≡ rooted shared.now.control.id (length self.old.inlets.items) count }
-        requires home { IsNewHome shared.now.rings (label_of shared.now.store.id (length shared.now.rings))
-            (length shared.now.rings) (length self.old.inlets.items) home }
-        requires passes { AreNewPasses shared.now.rings (label_of shared.now.store.id (length shared.now.rings))
-            (length self.old.inlets.items) passes }
-        ensures ok { OnOk result (AddsCore shared.now home self.old self.new) }
+        requires home { IsNewHome shared.now.rings (label_in shared.now) (length shared.now.rings)
+            (length self.old.inlets.items) home }
+        requires passes { AreNewPasses shared.now.rings (label_in shared.now) (length self.old.inlets.items) passes }
+        ensures ok { OnOk result (AddsCore shared.now home passes self.old self.new) }
     {
         let number = self.inlets.len() as u32;
         let (inlet, outlet) = match ring(alloc, SLOTS) {

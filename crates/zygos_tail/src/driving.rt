@@ -5,8 +5,7 @@ ghost use Rattle.zy_core.specs.Cores.{identities, AreCores};
 use crate::board::Board;
 use crate::clock::monotonic;
 use crate::feeder::Arrivals;
-use crate::load::Load;
-use crate::ready::{Ready, make_ready};
+use crate::load::{Load, SHARDS};
 use crate::report::print_all;
 use crate::times::Times;
 use std::alloc::Global;
@@ -14,10 +13,10 @@ use std::sync::Wait;
 use std::thread::Threads;
 use std::time::Clock;
 use zy_base::NoMemory;
-use zy_core::{Cores, Shared};
+use zy_core::{Cores, Running};
 use zy_drive::{Driven, drive};
-use zy_feed::Inlets;
 use zy_park::Bells;
+use zy_setup::make_run;
 
 /// Serves the requests of a load on a thread for each core, with the service times that were given, and prints what
 /// came of them.
@@ -45,28 +44,20 @@ fn run_gated<R: Threads + Wait + Clock + Print + Sync>(
     requires cores { (1 ≤ load.cores) × (load.cores ≤ 8) }
 {
     let times = Times::new(alloc, load)?;
-    let ready = match make_ready(alloc, load) {
-        Ok(ready) => ready,
+    let running = match make_run(alloc, load.connections(), load.cores, SHARDS) {
+        Ok(running) => running,
         Err(e) => {
             drop(times);
             return Err(e);
         }
     };
-    let Ready {
-        cores,
-        shared,
-        inlets,
-        root,
-    } = ready;
-    let (times, driven) = serve(rt, alloc, load, board, cores, &shared, inlets, times);
+    let (times, driven) = serve(rt, alloc, load, board, running, times);
     let printed = match driven {
         Driven::Settled(cores) => print_served(rt, alloc, load, board, &times, cores),
         Driven::Broken(cores) => refused(cores),
         Driven::NoMemory(cores) => refused(cores),
     };
     drop(times);
-    drop(shared);
-    drop(root);
     printed
 }
 
@@ -96,31 +87,38 @@ fn serve<R: Threads + Wait + Clock + Sync>(
     alloc: Global,
     load: Load,
     board: &Board<R>,
-    cores: Cores,
-    shared: &Shared,
-    inlets: Inlets,
+    running: Running,
     mut times: Times,
 ) -> (Times, Driven)
     requires threads { (1 ≤ load.cores) × (load.cores ≤ 8) }
-    requires cores { AreCores shared.now (identities cores) }
-    requires count { length shared.now.rings ≡ load.cores }
+    requires cores { AreCores running.shared (identities running.cores) }
+    requires count { length running.shared.rings ≡ load.cores }
 {
+    let Running {
+        cores,
+        shared,
+        inlets,
+        root,
+    } = running;
+    // No pass is joined.
+    drop(root);
     let (bells, mut root) = match Bells::new(alloc, load.cores) {
         Ok(made) => made,
         Err(NoMemory) => {
             drop(inlets);
+            drop(shared);
             return (times, Driven::NoMemory(cores));
         }
     };
     times.begin(monotonic(rt));
-    let mut feeder = Arrivals::new(rt, alloc, inlets.into_vec(), times);
+    let mut feeder = Arrivals::new(rt, alloc, inlets, times);
     // No core rests.
     let driven = drive(
         rt,
         alloc,
         cores,
         load.cores,
-        shared,
+        &shared,
         board,
         &mut feeder,
         &bells,
@@ -129,5 +127,6 @@ fn serve<R: Threads + Wait + Clock + Sync>(
     );
     drop(root);
     drop(bells);
+    drop(shared);
     (feeder.into_times(), driven)
 }

@@ -40,6 +40,9 @@ pub(crate) struct Request {
     pub(crate) conn: u32,
 }
 
+/// The shards of the store.
+pub(crate) const SHARDS: u32 = 16;
+
 // The connections of each core.
 const EACH: u32 = 64;
 

@@ -9,7 +9,6 @@ mod feeder;
 mod load;
 mod notes;
 mod offering;
-mod ready;
 mod report;
 mod runs;
 mod services;

@@ -9,9 +9,8 @@ mod source;
 mod state;
 mod turns;
 
-use crate::load::Load;
+use crate::load::{Load, SHARDS};
 use crate::notes::Notes;
-use crate::ready::{Ready, make_ready};
 use crate::report::print_all;
 use crate::times::Times;
 pub(crate) use clocks::Waits;
@@ -21,8 +20,8 @@ use std::alloc::Global;
 use std::time::Clock;
 use turns::take_turns;
 use zy_base::NoMemory;
-use zy_core::{Cores, Shared};
-use zy_feed::Inlets;
+use zy_core::{Cores, Running};
+use zy_setup::make_run;
 
 /// What virtual time goes on by, and how many turns are measured and printed.
 #[derive(Clone, Copy)]
@@ -62,25 +61,13 @@ fn run_noted<R: Clock + Print>(
     requires cores { (1 ≤ load.cores) × (load.cores ≤ 64) }
 {
     let times = Times::new(alloc, load)?;
-    let ready = match make_ready(alloc, load) {
-        Ok(ready) => ready,
+    match make_run(alloc, load.connections(), load.cores, SHARDS) {
+        Ok(running) => serve(rt, alloc, load, notes, running, times, prices),
         Err(e) => {
             drop(times);
-            return Err(e);
+            Err(e)
         }
-    };
-    let Ready {
-        cores,
-        shared,
-        inlets,
-        root,
-    } = ready;
-    let ran = serve(
-        rt, alloc, load, notes, cores, &shared, inlets, times, prices,
-    );
-    drop(shared);
-    drop(root);
-    ran
+    }
 }
 
 // Has the cores take their turns until all requests were executed, and prints what came of them.
@@ -89,23 +76,31 @@ fn serve<R: Clock + Print>(
     alloc: Global,
     load: Load,
     notes: &Notes,
-    cores: Cores,
-    shared: &Shared,
-    inlets: Inlets,
+    running: Running,
     times: Times,
     prices: Prices,
 ) -> Result<(), NoMemory>
-    requires cores { AreCores shared.now (identities cores) }
+    requires cores { AreCores running.shared (identities running.cores) }
 {
-    let mut run = match Run::new(alloc, load, notes, inlets.into_vec(), times, prices) {
+    let Running {
+        cores,
+        shared,
+        inlets,
+        root,
+    } = running;
+    // No pass is joined.
+    drop(root);
+    let mut run = match Run::new(alloc, load, notes, inlets, times, prices) {
         Ok(run) => run,
         Err(e) => {
             drop(cores);
+            drop(shared);
             return Err(e);
         }
     };
     let mut items = cores.into_items();
-    let taken = take_turns(rt, &mut items, shared, &mut run);
+    let taken = take_turns(rt, &mut items, &shared, &mut run);
+    drop(shared);
     let served = run.into_served();
     let printed = match taken {
         Ok(()) => print_served(rt, alloc, load, notes, &served, Cores::from_items(items)),

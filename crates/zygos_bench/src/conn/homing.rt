@@ -19,49 +19,22 @@ pub(crate) const CONNECTIONS: u32 = 200;
 // How often the home receives in a round: 64 items each time.
 const TIMES: u32 = 4;
 
-/// The nanoseconds of `rounds` rounds: each connection gets a segment, and then the home serves
-/// them all.
-pub(crate) fn serve_all<R: CpuClock>(
-    rt: &R,
-    alloc: Global,
-    ring: &Ring<Block>,
-    store: &StoreTable,
-    home: &mut Home,
-    rounds: u64,
-    size: u64,
-) -> Result<u64, NoMemory>
-    requires rounds { rounds ≤ 2 ^ 20 }
-    requires table { home.old.pass.table ≡ ring.now.id }
-    requires label { home.old.pass.label ≡ label_of store.now.id home.old.cores }
-    requires live { home.old.refused ≡ false }
-    requires count { home.old.pass.count ≡ 0 }
-{
-    let (mut inlet, mut outlet) = zy_rx::ring(alloc, CONNECTIONS as usize)?;
-    let spent = serve_rounds(
-        rt,
-        alloc,
-        ring,
-        store,
-        home,
-        &mut inlet,
-        &mut outlet,
-        rounds,
-        size,
-    );
-    drop(inlet);
-    drop(outlet);
-    spent
+/// The two ends of the home's receive ring.
+#[derive(Drop)]
+pub(crate) struct Ends {
+    pub(crate) inlet: Inlet,
+    pub(crate) outlet: Outlet,
 }
 
-// The same, with the ends of the home's receive ring.
-fn serve_rounds<R: CpuClock>(
+/// The nanoseconds of `rounds` rounds: each connection gets a segment, and then the home serves
+/// them all.
+pub(crate) fn serve_rounds<R: CpuClock>(
     rt: &R,
     alloc: Global,
     ring: &Ring<Block>,
     store: &StoreTable,
     home: &mut Home,
-    inlet: &mut Inlet,
-    outlet: &mut Outlet,
+    ends: &mut Ends,
     rounds: u64,
     size: u64,
 ) -> Result<u64, NoMemory>
@@ -73,8 +46,9 @@ fn serve_rounds<R: CpuClock>(
 {
     let mut spent = 0u64;
     for round in 0..rounds {
-        offer_all(alloc, inlet, round, size)?;
-        spent = spent.wrapping_add(serve_items(rt, ring, store, home, outlet)?);
+        offer_all(alloc, &mut ends.inlet, round, size)?;
+        let nanos = serve_items(rt, ring, store, home, &mut ends.outlet)?;
+        spent = spent.wrapping_add(nanos);
     }
     Ok(spent)
 }

@@ -1,12 +1,14 @@
 //! Making the home.
-ghost use Rattle.std.specs.Prelude.{◌≤◌, ◌^◌};
-ghost use Rattle.zy_setup.specs.Start.{IsStart};
+ghost use Rattle.std.specs.Prelude.{◌≡◌, ◌≤◌, ◌^◌, length};
+ghost use Rattle.zy_core.specs.Cores.{identities, AreCores};
+ghost use Rattle.zy_setup.specs.New.{AreNewCores};
 
-use crate::conn::homing::{CONNECTIONS, serve_all};
+use crate::conn::homing::{CONNECTIONS, Ends, serve_rounds};
 use std::alloc::Global;
 use std::time::CpuClock;
 use zy_base::NoMemory;
-use zy_setup::{Started, start};
+use zy_core::Running;
+use zy_setup::make_run;
 
 /// The nanoseconds of `rounds` rounds, in each of which each connection gets a segment, on a store
 /// of 16 shards.
@@ -18,24 +20,50 @@ pub(crate) fn homed<R: CpuClock>(
 ) -> Result<u64, NoMemory>
     requires rounds { rounds ≤ 2 ^ 20 }
 {
-    let mut started = start(alloc, CONNECTIONS, 1, 16)?;
-    let spent = serve_started(rt, alloc, &mut started, rounds, size);
-    drop(started);
-    spent
+    let running = make_run(alloc, CONNECTIONS, 1, 16)?;
+    serve_run(rt, alloc, running, rounds, size)
 }
 
-// The same, of what was made.
-fn serve_started<R: CpuClock>(
+// The same, of a run with one core.
+fn serve_run<R: CpuClock>(
     rt: &R,
     alloc: Global,
-    started: &mut Started,
+    running: Running,
     rounds: u64,
     size: u64,
 ) -> Result<u64, NoMemory>
     requires rounds { rounds ≤ 2 ^ 20 }
-    requires start { IsStart 200 1 16 started.old }
+    requires cores { AreCores running.shared (identities running.cores) }
+    requires count { length running.shared.rings ≡ 1 }
+    requires ends { length running.inlets.items ≡ 1 }
+    requires new { AreNewCores running.shared 200 running.cores }
 {
-    let ring = started.rings.ring(0);
-    let home = &mut started.homes[0];
-    serve_all(rt, alloc, ring, &started.store, home, rounds, size)
+    let Running {
+        mut cores,
+        shared,
+        mut inlets,
+        root,
+    } = running;
+    // No pass is joined.
+    drop(root);
+    let Some(core) = cores.next() else {
+        unreachable!()
+    };
+    drop(cores);
+    let (mut home, _, _, outlet, _) = core.into_parts();
+    let (rings, store) = shared.into_parts();
+    let mut ends = Ends {
+        inlet: inlets.remove(0),
+        outlet,
+    };
+    drop(inlets);
+    let ring = rings.ring(0);
+    let spent = serve_rounds(
+        rt, alloc, ring, &store, &mut home, &mut ends, rounds, size,
+    );
+    drop(ends);
+    drop(home);
+    drop(rings);
+    drop(store);
+    spent
 }

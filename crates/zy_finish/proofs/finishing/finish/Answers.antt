@@ -1,32 +1,31 @@
-use Rattle.std.proofs.Common.{◌≤◌, sym, ap, ◌∙◌, subst, arith}
-use Rattle.mc_store.specs.Joined.{Joined, is_joined}
-use Rattle.zy_table.specs.Member.{is_in}
-use Rattle.zy_finish.specs.Rest.{HasGathered, AreMerged}
-use Rattle.zy_finish.proofs.FinishLemmas.{is_finished, joined_all, all_held_by}
-use Rattle.zy_finish.proofs.HomeLemmas.{is_there}
+use Rattle.std.proofs.Common.{ℕ, List, length, sym, ap, ◌∙◌, subst, length-map}
+use Rattle.std.specs.List.{AllByRecursion}
+use Rattle.mc_store.specs.Pass.{Stored}
+use Rattle.mc_store.specs.Root.{IsRootOf}
+use Rattle.zy_home.specs.Home.{Homed}
+use Rattle.zy_core.specs.Core.{Cored}
+use Rattle.zy_finish.specs.Finish.{HaveReceived, IsResultOfRun, IsHoldBy}
+use Rattle.zy_finish.specs.Over.{AreOver}
+use Rattle.zy_finish.proofs.TakeLemmas.{over_of, all_received}
 use Rattle.zy_finish.proofs.finishing.finish.Goals as goal
 
-pub take_all-requires-clause-there : goal.take_all-requires-clause-there
-take_all-requires-clause-there c conn within =
-    is_there c.args.store.id c.args.count c.args.homes.items c.requires.homes c.in-Ok.ensures.keeps conn within c.in-Ok.rests.items c.in-Ok.ensures.value
+pub finish_homes-finished-requires-clause-homes : goal.finish_homes-finished-requires-clause-homes
+finish_homes-finished-requires-clause-homes c =
+    subst (λ (s : Stored). AreOver s.id c.args.header.count c.take_homes-homes.result.items) (sym c.into_parts.ensures.value.1)
+    (subst (AreOver c.args.running.shared.store.id c.args.header.count) (sym c.take_homes-homes.ensures.homes)
+    (over_of c.args.header.count c.args.running c.requires.few c.requires.run c.requires.settled))
 
-pub journal_of-requires-clause-all : goal.journal_of-requires-clause-all
-journal_of-requires-clause-all c conn given =
-    ap (is_joined conn) c.in-Ok-take_all.ensures.ok.joined
-    ∙ joined_all c.in-Ok.rests.items c.args.count conn ((c.requires.root.given conn).0 (sym (ap (is_in conn) c.in-Ok-take_all.ensures.given) ∙ given))
+pub finish_homes-finished-requires-clause-root : goal.finish_homes-finished-requires-clause-root
+finish_homes-finished-requires-clause-root c =
+    subst (λ (s : Stored). IsRootOf s.id c.args.header.count c.args.running.root) (sym c.into_parts.ensures.value.1) c.requires.run.root
 
-pub returns-in-Ok-journal_of : goal.returns-in-Ok-journal_of
-returns-in-Ok-journal_of c =
-    let shards = c.shards-shards.ensures.value in
-    let most = c.shards-shards.ensures.few in
-    let few : c.args.store.shards ≤ 256 = omega arith in
-    let has = subst (λ v. HasGathered v c.in-Ok.rests.items c.args.count c.take_all.new.self) c.new-2.ensures.version c.in-Ok-take_all.ensures.ok in record {
-      finished = is_finished c.args.store.id c.args.store.shards c.args.version c.args.count c.args.homes.items c.requires.homes c.in-Ok.ensures.keeps
-          c.in-Ok.rests.items c.in-Ok.ensures.value (sym shards ∙ c.shards-shards.ensures.slots) few has.kept
-          (record { journal = c.in-Ok-journal_of.journal; outputs = c.take_all.new.self.outputs })
-          (subst (λ (j : Joined). AreMerged c.args.store.shards j c.in-Ok-journal_of.journal.entries) has.joined c.in-Ok-journal_of.ensures.entries)
-          (c.in-Ok-journal_of.ensures.holds ∙ c.from_vec.ensures.value ∙ has.holds)
-          has.sessions has.version_is c.version-version.ensures.lawful;
-      held = all_held_by c.args.store.id c.args.version c.args.count c.args.homes.items c.requires.homes c.in-Ok.ensures.keeps c.in-Ok.rests.items c.in-Ok.ensures.value has.kept
-          (record { journal = c.in-Ok-journal_of.journal; outputs = c.take_all.new.self.outputs }) (c.in-Ok-journal_of.ensures.holds ∙ c.from_vec.ensures.value ∙ has.holds);
+pub returns : goal.returns
+returns c =
+    let homes = c.take_homes-homes.ensures.homes in
+    record {
+      finished = λ records lawful sent.
+          subst (λ (s : Stored). IsResultOfRun s.shards c.args.header.version c.args.header.count records c.in_ok-finished.finished) c.into_parts.ensures.value.1
+          (c.in_ok-finished.ensures.finished records lawful (subst (λ (l : List Homed). HaveReceived l records) (sym homes)
+          (all_received c.args.running.shared c.args.running.cores c.args.running.inlets.items c.requires.run.cores c.requires.run.rings c.take_homes-homes.ensures.shown c.requires.settled records sent)));
+      held = subst (λ (n : ℕ). AllByRecursion (IsHoldBy n) c.in_ok-finished.finished.journal.holds) (ap length homes ∙ length-map c.args.running.cores (λ (x : Cored). x.home)) c.in_ok-finished.ensures.held;
     }

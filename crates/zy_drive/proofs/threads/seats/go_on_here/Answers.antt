@@ -1,7 +1,7 @@
 use Rattle.std.proofs.Common.{◌∙◌, arith, rules}
 use Rattle.zy_table.proofs.SliceLemmas.{get_at}
 use Rattle.zy_drive.specs.Seat.{seat_identities}
-use Rattle.zy_drive.proofs.ListLemmas.{map_set}
+use Rattle.zy_core.proofs.ListLemmas.{map_set}
 use Rattle.zy_drive.proofs.GroupLemmas.{fit_there}
 use Rattle.zy_drive.proofs.threads.seats.go_on_here.Goals as goal
 

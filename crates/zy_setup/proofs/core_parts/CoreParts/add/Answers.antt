@@ -4,7 +4,7 @@ use Rattle.std.proofs.lemmas.List.{take_at}
 use Rattle.zy_shuffle.specs.Pass.{Held, newly_given}
 use Rattle.zy_steal.specs.Steal.{PassList}
 use Rattle.zy_conn.specs.Block.{Blocked, label_of}
-use Rattle.zy_setup.specs.Ready.{IsNewHome}
+use Rattle.zy_setup.specs.New.{IsNewHome}
 use Rattle.zy_setup.specs.Make.{GivesPass}
 use Rattle.zy_setup.proofs.OwnLemmas.{places_few}
 use Rattle.zy_setup.proofs.MadeLemmas.{made_next, new_home}

@@ -12,6 +12,7 @@ returns c = record {
     inlets = c.in_ok-keep.ensures.inlets;
     root = c.in_ok-keep.ensures.root ∙ c.in-Ok-seat.ensures.ok;
     home_is = ap (λ (x : Cored). x.home) c.new-core.ensures.value;
+    passes_are = ap (λ (x : Cored). x.passes) c.new-core.ensures.value;
     fits = subst (λ (x : Cored). Fits c.args.shared.now (identity_of x)) (sym c.new-core.ensures.value)
         (fits_new c.args.shared.now _ c.args.home c.new.result c.args.passes c.in-Ok.ends.1 c.in-Ok-seat.pass c.requires.home c.requires.passes
         (ap (λ p. p.table) c.in-Ok-seat.ensures.value ∙ ap (λ r. r.table) c.requires.root));

@@ -7,4 +7,4 @@ abbrev pub invariant-loop-home : goal.invariant-loop-home
 invariant-loop-home l =
     (goal.iterator-loop-home).can_next l.home-iterator ×
     (goal.iterator-loop-home).is_finite l.home-iterator ×
-    HasMadeCores l.fn.shared l.fn.homes.items l.self (into_iter_items l.home-iterator) l.passes.items
+    HasMadeCores l.fn.shared l.fn.homes.items l.fn.passes.items l.self (into_iter_items l.home-iterator) l.passes.items

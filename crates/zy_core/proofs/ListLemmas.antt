@@ -1,5 +1,5 @@
--- Lists in which each member keeps its image under a function.
-use Rattle.std.proofs.Common.{◌≡◌, ℕ, zero, suc, List, [], ◌∷◌, map, set, Some, slice_get, refl, sym, ap, ◌∙◌}
+-- Members of lists, and lists in which each member keeps its image under a function.
+use Rattle.std.proofs.Common.{◌≡◌, ℕ, zero, suc, List, [], ◌∷◌, ◌++◌, length, map, set, Some, slice_get, refl, sym, ap, ◌∙◌}
 
 module _ {C D : Type 0} (f : C → D) where
   -- the measure of a member
@@ -19,3 +19,8 @@ module _ {C D : Type 0} (f : C → D) where
   map_set [] i c d at e = refl
   map_set (x ∷ xs) zero c d at e = let is : x ≡ c = cc in ap (λ y. y ∷ map f xs) (e ∙ ap f (sym is))
   map_set (x ∷ xs) (suc i) c d at e = ap (λ l. f x ∷ l) (map_set xs i c d at e)
+
+-- the member after a first list
+pub get_seam : {A : Type 0} (xs ys : List A) (x : A) → slice_get (xs ++ x ∷ ys) (length xs) ≡ Some x
+get_seam [] ys x = refl
+get_seam (y ∷ xs) ys x = get_seam xs ys x

@@ -1,62 +1,55 @@
-//! Making what a run begins with.
+//! Making a run.
 ghost use Rattle.std.specs.Prelude.{◌≡◌, ◌↔◌, ℕ, ◌<◌, ◌≤◌, [], true, length, IfOk, OnOk};
 ghost use Rattle.zy_table.specs.Member.{is_in};
-ghost use Rattle.zy_setup.specs.Start.{IsStart};
+ghost use Rattle.zy_rx.specs.Feed.{rings_of};
+ghost use Rattle.zy_core.specs.Cores.{identities, AreInlets};
+ghost use Rattle.zy_core.specs.Running.{IsRunning};
+ghost use Rattle.zy_setup.specs.New.{AreNewCores, AreUnusedRings};
 ghost use Rattle.zy_setup.specs.Make.{AreMade};
 
 use crate::connections::all_owns;
 use crate::core_parts::CoreParts;
+use crate::making::make_cores;
 use mc_store::{Root, StoreTable};
 use std::alloc::Global;
 use zy_base::NoMemory;
-use zy_conn::Block;
-use zy_home::Home;
-use zy_steal::{Passes, Rings};
+use zy_core::Running;
 
-/// What a run begins with: for each core, by rising number, its home, its ring and its passes on the
-/// other rings; the store, and its root.
-#[derive(Drop)]
-pub struct Started {
-    pub homes: Vec<Home>,
-    pub rings: Rings<Block>,
-    pub passes: Vec<Passes<Block>>,
-    pub store: StoreTable,
-    pub root: Root,
-}
-
-/// Makes a store with `shards` shards, a pass and a block for each of `count` connections, and for
-/// each core a ring with a place for each of its connections, its home, and its passes on the other
-/// rings. All rings have the label of this store and this number of
-/// cores.
-pub fn start(alloc: Global, count: u32, cores: u32, shards: u32) -> Result<Started, NoMemory>
+/// Makes a run of `count` connections, `cores` cores and `shards` shards: a store; a pass and a block for
+/// each connection; and for each core a ring with a place for each of its connections, its home, its
+/// passes on the other rings, a receive ring of 256 slots, and a pass on new control words. All rings
+/// have the label of this store and this number of cores.
+///
+/// `Err` means `NoMemory`.
+pub fn make_run(alloc: Global, count: u32, cores: u32, shards: u32) -> Result<Running, NoMemory>
     requires connections { count ≤ 4096 }
     requires some_cores { 1 ≤ cores }
     requires few_cores { cores ≤ 64 }
     requires some_shards { 1 ≤ shards }
     requires few_shards { shards ≤ 256 }
-    ensures start { IfOk result (IsStart count cores shards) }
+
+    // The run, as driving and finishing ask for it.
+    ensures run { IfOk result (IsRunning count) }
+    ensures inlets { IfOk result (λ run. AreInlets (rings_of run.inlets.items) (identities run.cores)) }
+    ensures count { IfOk result (λ run. length run.shared.rings ≡ cores) }
+    ensures ends { IfOk result (λ run. length run.inlets.items ≡ cores) }
+    ensures shards { IfOk result (λ run. run.shared.store.shards ≡ shards) }
+
+    // Nothing was received, published or sent.
+    ensures new { IfOk result (λ run. AreNewCores run.shared count run.cores) }
+    ensures fresh { IfOk result (λ run. AreUnusedRings run.inlets.items) }
 {
     let (store, mut root) = StoreTable::new(alloc, shards)?;
-    match parts_of(alloc, count, cores, &store, &mut root) {
-        Ok(
-            CoreParts {
-                homes,
-                rings,
-                passes,
-            },
-        ) => Ok(Started {
-            homes,
-            rings,
-            passes,
-            store,
-            root,
-        }),
+    let parts = match parts_of(alloc, count, cores, &store, &mut root) {
+        Ok(parts) => parts,
         Err(e) => {
             drop(store);
             drop(root);
-            Err(e)
+            return Err(e);
         }
-    }
+    };
+    let run = make_cores(alloc, parts, store, root)?;
+    Ok(run)
 }
 
 // The homes, the rings, and the passes on these, with the connections whose passes the root gives.

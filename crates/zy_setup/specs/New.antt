@@ -1,12 +1,13 @@
--- The parts of which the cores of a run are made, and the receive rings that they get.
-use Rattle.std.specs.Prelude.{◌≡◌, ℕ, ◌≤◌, List, [], length, false, Some, slice_get}
+-- What the cores of a run are when they are made, and their receive rings.
+use Rattle.std.specs.Prelude.{◌≡◌, ℕ, List, [], length, false, Some, slice_get}
 use Rattle.zy_table.specs.declared.name.Name.{Name}
-use Rattle.mc_store.specs.Pass.{Stored}
 use Rattle.zy_rx.specs.Ring.{Offering, offering}
 use Rattle.zy_shuffle.specs.Pass.{Ringed}
 use Rattle.zy_conn.specs.Block.{Blocked, label_of}
 use Rattle.zy_home.specs.Home.{Homed, HomeStands}
 use Rattle.zy_steal.specs.Steal.{PassList, ArePasses, AreIdle, seats_of}
+use Rattle.zy_core.specs.Share.{Sharing}
+use Rattle.zy_core.specs.Core.{Cored}
 
 -- the home of this core, of this number of cores, on its ring among these, with this label; it was not refused, and has
 -- received and published nothing
@@ -25,17 +26,20 @@ pub record AreNewPasses (rings : List Ringed) (label : Name) (core : ℕ) (p : P
   pub passes : ArePasses rings p
   pub idle : AreIdle label (seats_of p.items)
 
--- the parts of the cores of a run: 1 to 64 rings, and for each, by rising number, a home and passes on the others
-pub record AreReady (rings : List Ringed) (store : Stored) (homes : List Homed)
-    (passes : List (PassList Blocked)) : Type 0 where
-  pub some : 1 ≤ length rings
-  pub few : length rings ≤ 64
-  pub homes_are : length homes ≡ length rings
-  pub passes_are : length passes ≡ length rings
-  pub each_home : (core : ℕ) (h : Homed) → slice_get homes core ≡ Some h
-      → IsNewHome rings (label_of store.id (length rings)) (length rings) core h
-  pub each_passes : (core : ℕ) (p : PassList Blocked) → slice_get passes core ≡ Some p
-      → AreNewPasses rings (label_of store.id (length rings)) core p
+-- the label of the rings of a run: that of the store and the number of cores
+abbrev pub label_in : Sharing → Name
+label_in shared = label_of shared.store.id (length shared.rings)
+
+-- the core with this number, with a new home for `count` connections and new passes
+pub record IsNewCore (shared : Sharing) (count core : ℕ) (c : Cored) : Type 0 where
+  pub home : IsNewHome shared.rings (label_in shared) (length shared.rings) core c.home
+  pub count_is : c.home.count ≡ count
+  pub passes : AreNewPasses shared.rings (label_in shared) core c.passes
+
+-- such cores, by rising number
+abbrev pub AreNewCores : Sharing → ℕ → List Cored → Type 0
+AreNewCores shared count cores =
+    (core : ℕ) (c : Cored) → slice_get cores core ≡ Some c → IsNewCore shared count core c
 
 -- nothing was offered to a receive ring of 256 slots, and all of them are free
 pub record IsUnusedRing (inlet : Offering) : Type 0 where

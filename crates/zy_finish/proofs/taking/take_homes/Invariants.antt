@@ -1,12 +1,11 @@
 use Rattle.std.proofs.Common.{◌≡◌, ◌≤◌, ◌+◌, ◌++◌, length}
 use Rattle.std.specs.Prelude.{vec_capacity}
 use Rattle.std.specs.Vec.Iter.{into_iter_items}
-use Rattle.zy_core.specs.Cores.{identities}
+use Rattle.zy_core.specs.Cores.{identities, homes_of}
+use Rattle.zy_core.specs.Running.{rings_in}
 use Rattle.zy_rx.specs.Feed.{rings_of}
-use Rattle.zy_finish.specs.Received.{homes_of}
-use Rattle.zy_setup.specs.Station.{rings_in}
 use Rattle.zy_finish.specs.Shown.{HaveShown}
-use Rattle.zy_finish.proofs.taking.take_all.Given as goal
+use Rattle.zy_finish.proofs.taking.take_homes.Given as goal
 
 -- the homes of the cores before this one, and the cores to come, with their inlets
 abbrev pub invariant-loop-inlet : goal.invariant-loop-inlet
