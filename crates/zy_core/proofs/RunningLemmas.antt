@@ -1,5 +1,6 @@
 -- A run before and after it is driven.
-use Rattle.std.proofs.Common.{◌≡◌, ℕ, List, length, slice_get, sym, ap, ◌∙◌, subst, length-map}
+use Rattle.std.proofs.Common.{◌≡◌, ℕ, List, length, slice_get, sym, ap, ◌∙◌, subst}
+use Rattle.std.proofs.lemmas.List.{length-map}
 use Rattle.mc_store.specs.Pass.{Rooted}
 use Rattle.mc_store.specs.Root.{IsRootOf}
 use Rattle.zy_rx.specs.Ring.{Offering}

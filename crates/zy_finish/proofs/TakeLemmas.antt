@@ -1,6 +1,7 @@
 -- The homes of a run whose cores are settled, and what they have received.
 use Rattle.std.specs.Prelude.{◌&&◌, not}
-use Rattle.std.proofs.Common.{◌≡◌, ℕ, zero, suc, List, [], ◌∷◌, length, Bool, true, false, Some, slice_get, refl, sym, ap, ◌∙◌, subst, arith, ◌≤◌, length-map}
+use Rattle.std.proofs.Common.{◌≡◌, ℕ, zero, suc, List, [], ◌∷◌, length, Bool, true, false, Some, slice_get, refl, sym, ap, ◌∙◌, subst, arith, ◌≤◌}
+use Rattle.std.proofs.lemmas.List.{length-map}
 use Rattle.zy_capture.specs.declared.record.Record.{Record}
 use Rattle.zy_rx.specs.Ring.{Offering}
 use Rattle.zy_capture.specs.Capture.{connection_limit}

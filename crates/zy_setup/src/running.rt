@@ -48,8 +48,8 @@ pub fn make_run(alloc: Global, count: u32, cores: u32, shards: u32) -> Result<Ru
             return Err(e);
         }
     };
-    let run = make_cores(alloc, parts, store, root)?;
-    Ok(run)
+    let made = make_cores(alloc, parts, store, root)?;
+    Ok(made)
 }
 
 // The homes, the rings, and the passes on these, with the connections whose passes the root gives.

@@ -1,4 +1,5 @@
-use Rattle.std.proofs.Common.{ℕ, List, length, sym, ap, ◌∙◌, subst, length-map}
+use Rattle.std.proofs.Common.{ℕ, List, length, sym, ap, ◌∙◌, subst}
+use Rattle.std.proofs.lemmas.List.{length-map}
 use Rattle.std.specs.List.{AllByRecursion}
 use Rattle.mc_store.specs.Pass.{Stored}
 use Rattle.mc_store.specs.Root.{IsRootOf}
@@ -9,14 +10,14 @@ use Rattle.zy_finish.specs.Over.{AreOver}
 use Rattle.zy_finish.proofs.TakeLemmas.{over_of, all_received}
 use Rattle.zy_finish.proofs.finishing.finish.Goals as goal
 
-pub finish_homes-finished-requires-clause-homes : goal.finish_homes-finished-requires-clause-homes
-finish_homes-finished-requires-clause-homes c =
+pub finish_homes-requires-clause-homes : goal.finish_homes-requires-clause-homes
+finish_homes-requires-clause-homes c =
     subst (λ (s : Stored). AreOver s.id c.args.header.count c.take_homes-homes.result.items) (sym c.into_parts.ensures.value.1)
     (subst (AreOver c.args.running.shared.store.id c.args.header.count) (sym c.take_homes-homes.ensures.homes)
     (over_of c.args.header.count c.args.running c.requires.few c.requires.run c.requires.settled))
 
-pub finish_homes-finished-requires-clause-root : goal.finish_homes-finished-requires-clause-root
-finish_homes-finished-requires-clause-root c =
+pub finish_homes-requires-clause-root : goal.finish_homes-requires-clause-root
+finish_homes-requires-clause-root c =
     subst (λ (s : Stored). IsRootOf s.id c.args.header.count c.args.running.root) (sym c.into_parts.ensures.value.1) c.requires.run.root
 
 pub returns : goal.returns

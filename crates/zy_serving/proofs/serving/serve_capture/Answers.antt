@@ -7,12 +7,12 @@ use Rattle.zy_finish.specs.Finish.{IsResultOfRun, IsHoldBy}
 use Rattle.zy_serving.proofs.ServedLemmas.{runs_to}
 use Rattle.zy_serving.proofs.serving.serve_capture.Goals as goal
 
-pub finish-finished-requires-clause-version : goal.finish-finished-requires-clause-version
-finish-finished-requires-clause-version g c =
+pub finish-requires-clause-version : goal.finish-requires-clause-version
+finish-requires-clause-version g c =
     (c.in_ok-driven.ensures.fed c.args.source.now c.in_ok-intake.header c.in_ok-intake.ensures.ok).lawful.known
 
-pub finish-finished-requires-clause-run : goal.finish-finished-requires-clause-run
-finish-finished-requires-clause-run g c =
+pub finish-requires-clause-run : goal.finish-requires-clause-run
+finish-requires-clause-run g c =
     still_running c.in_ok-intake.header.count c.in-Ok.running c.in_ok-driven.driven c.in-Ok.ensures.run c.in_ok-driven.ensures.same
 
 pub returns-clause-ends : goal.returns-clause-ends
