@@ -6,7 +6,7 @@ use Rattle.zy_capture.specs.declared.record.Record.{Record}
 use Rattle.zy_rx.specs.Ring.{Offering}
 use Rattle.zy_capture.specs.Capture.{connection_limit}
 use Rattle.zy_conn.specs.Block.{label_of}
-use Rattle.zy_home.specs.Home.{HomeStands, is_settled, all_here}
+use Rattle.zy_home.specs.Home.{Homed, HomeStands, is_settled, all_here}
 use Rattle.zy_feed.specs.Routing.{offered_to}
 use Rattle.zy_feed.proofs.TakenLemmas.{all_taken}
 use Rattle.zy_core.specs.Share.{Sharing}
