@@ -41,7 +41,8 @@ pub use ownership::{
 pub use resting::no_more_tokens_are_taken_than_were_put;
 pub use rounds::each_core_has_one_turn_in_a_round;
 pub use served::{
-    a_connection_receives_its_streams, outputs_are_cut_at_the_ends, what_is_served_is_a_run,
+    a_connection_receives_its_streams, outputs_are_cut_at_the_ends,
+    settled_cores_have_received_what_was_sent, what_is_served_is_a_run,
 };
 pub use staying::each_core_stays;
 pub use stealing::{

@@ -13,6 +13,15 @@ ghost use Rattle.zy_run.specs.Commands.{streams_in, commands_in, commands_over};
 ghost use Rattle.zy_run.specs.Run.{IsRun};
 ghost use Rattle.zy_run.specs.Output.{connection_outputs, all_outputs};
 ghost use Rattle.zy_run.specs.Spans.{Spans};
+ghost use Rattle.zy_rx.specs.Ring.{Offering};
+ghost use Rattle.zy_rx.specs.Feed.{rings_of, sent_by};
+ghost use Rattle.zy_core.specs.Share.{Sharing};
+ghost use Rattle.zy_core.specs.Core.{Cored};
+ghost use Rattle.zy_core.specs.Cores.{identities, homes_of, AreCores, EachSettled};
+ghost use Rattle.zy_core.specs.Running.{rings_in};
+ghost use Rattle.zy_finish.specs.Shown.{HaveShown};
+ghost use Rattle.zy_finish.specs.Received.{AllSent};
+ghost use Rattle.zy_finish.specs.Finish.{HaveReceived};
 ghost use Rattle.zy_finish.specs.Left.{Left, session_texts, bytes_between, ends_of};
 ghost use Rattle.zy_finish.specs.Served.{AreServed, all_holds, all_sent};
 
@@ -23,6 +32,15 @@ pub fn a_connection_receives_its_streams()
         → streams_of (received_by conn (offered_to cores core records)) ≡ streams_in records conn }
     ensures ended { (cores core conn : ℕ) (records : List Record)
         → (received_by conn (offered_to cores core records)).ended ≡ true }
+{}
+
+/// Each home has received all that its core is offered of some records, if each core is settled and was
+/// sent just that, and the ends of its receive ring have shown what was sent.
+pub fn settled_cores_have_received_what_was_sent()
+    ensures received { (shared : Sharing) (cores : List Cored) (inlets : List Offering)
+        → AreCores shared (identities cores) → rings_of inlets ≡ rings_in (identities cores)
+        → HaveShown inlets cores → EachSettled cores → (records : List Record)
+        → AllSent (sent_by inlets) records → HaveReceived (homes_of cores) records }
 {}
 
 // ---- outputs

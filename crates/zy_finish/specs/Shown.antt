@@ -1,4 +1,4 @@
--- What cores kept and the ends of their receive rings have shown. No public clause cites this module.
+-- What cores kept and the ends of their receive rings have shown.
 use Rattle.std.specs.Prelude.{◌≡◌, List, [], ◌∷◌, ◌++◌}
 use Rattle.zy_rx.specs.declared.rx.Rx.{Rx}
 use Rattle.zy_rx.specs.Ring.{Offering}

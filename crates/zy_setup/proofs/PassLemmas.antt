@@ -36,16 +36,6 @@ push_below xs x i y below e = go (push_at xs x i y e)
     go (inl there) = there
     go (inr last) = let at = last.0 in absurd (omega arith)
 
--- ---- giving passes to the cores, one after another
-
-module _ (core : ℕ) (first now : Held Blocked) (same : now ≡ record first { out = now.out }) where
-  module _ (before passes : List (PassList Blocked)) (n : ℕ)
-      (done : (k : ℕ) → k < n → slice_get passes k ≡ option_map (with_further_pass core (newly_given first) k) (slice_get before k))
-      (rest : (k : ℕ) → n ≤ k → slice_get passes k ≡ slice_get before k) (within : n < length passes) (x : PassList Blocked) (is : x ≡ get_or passes n x)
-      (x' : PassList Blocked) (gives : x' ≡ with_further_pass core (newly_given now) n x) where
-    at : slice_get passes n ≡ Some x
-    at = get_at passes n x x within is
-
 -- ---- what a core has, when a ring is added
 
 idle_more : (label : Name) (vs : List (Held Blocked)) (v : Held Blocked) → AreIdle label (seats_of vs) → v.label ≡ label → v.hand ≡ [] → AreIdle label (seats_of (vs ++ v ∷ []))

@@ -1,6 +1,5 @@
 //! Making the home.
 ghost use Rattle.std.specs.Prelude.{◌≡◌, ◌≤◌, ◌^◌, length};
-ghost use Rattle.zy_core.specs.Cores.{identities, AreCores};
 ghost use Rattle.zy_setup.specs.New.{AreNewCores};
 
 use crate::conn::homing::{CONNECTIONS, Ends, serve_rounds};
@@ -33,7 +32,7 @@ fn serve_run<R: CpuClock>(
     size: u64,
 ) -> Result<u64, NoMemory>
     requires rounds { rounds ≤ 2 ^ 20 }
-    requires cores { AreCores running.shared (identities running.cores) }
+    requires cores { length running.cores ≡ 1 }
     requires count { length running.shared.rings ≡ 1 }
     requires ends { length running.inlets.items ≡ 1 }
     requires new { AreNewCores running.shared 200 running.cores }
@@ -58,9 +57,7 @@ fn serve_run<R: CpuClock>(
     };
     drop(inlets);
     let ring = rings.ring(0);
-    let spent = serve_rounds(
-        rt, alloc, ring, &store, &mut home, &mut ends, rounds, size,
-    );
+    let spent = serve_rounds(rt, alloc, ring, &store, &mut home, &mut ends, rounds, size);
     drop(ends);
     drop(home);
     drop(rings);
