@@ -16,13 +16,13 @@ use Rattle.zy_core.specs.Running.{rings_in}
 use Rattle.zy_core.proofs.ListLemmas.{get_map, map_get, get_seam}
 use Rattle.zy_core.proofs.FitLemmas.{all_fit}
 use Rattle.zy_setup.specs.declared.making.Making.{Making}
-use Rattle.zy_setup.specs.New.{IsNewHome, AreNewPasses, IsUnusedRing, label_in}
+use Rattle.zy_setup.specs.New.{IsNewHome, AreNewPasses, IsUnusedRing, run_label}
 use Rattle.zy_setup.specs.Progress.{AreReady, passes_of, AddsCore, HasMadeCores, HasMadeAll}
 use Rattle.zy_setup.proofs.ListLemmas.{each_push, none_left, first_removed}
 
 -- a core of new parts fits
 pub fits_new : (shared : Sharing) (number : ℕ) (home : Homed) (thief : Thief) (passes : PassList Blocked) (outlet : Taking) (pass : control.Held)
-    → IsNewHome shared.rings (label_in shared) (length shared.rings) number home → AreNewPasses shared.rings (label_in shared) number passes
+    → IsNewHome shared.rings (run_label shared) (length shared.rings) number home → AreNewPasses shared.rings (run_label shared) number passes
     → pass.table ≡ shared.control.id → Fits shared (identity_of (cored home thief passes outlet pass 0))
 fits_new shared number home thief passes outlet pass new own words = record {
   cores = sym new.cores_is;
@@ -72,12 +72,12 @@ module _ (shared : Sharing) (homes : List Homed) (passes : List (PassList Blocke
       made : length m.inlets.items ≡ length m.cores
       made = as_many m.inlets.items m.cores has.rings
 
-      pub next_home : IsNewHome shared.rings (label_in shared) (length shared.rings) (length m.inlets.items) h
-      next_home = subst (λ n. IsNewHome shared.rings (label_in shared) (length shared.rings) n h) (length-map m.cores (λ (c : Cored). c.home) ∙ sym made)
+      pub next_home : IsNewHome shared.rings (run_label shared) (length shared.rings) (length m.inlets.items) h
+      next_home = subst (λ n. IsNewHome shared.rings (run_label shared) (length shared.rings) n h) (length-map m.cores (λ (c : Cored). c.home) ∙ sym made)
           (ready.each_home (length (homes_of m.cores)) h (ap (λ l. slice_get l (length (homes_of m.cores))) (sym has.homes_are) ∙ get_seam (homes_of m.cores) hs h))
 
-      pub next_passes : AreNewPasses shared.rings (label_in shared) (length m.inlets.items) p
-      next_passes = subst (λ n. AreNewPasses shared.rings (label_in shared) n p) (length-map m.cores (λ (c : Cored). c.passes) ∙ sym made)
+      pub next_passes : AreNewPasses shared.rings (run_label shared) (length m.inlets.items) p
+      next_passes = subst (λ n. AreNewPasses shared.rings (run_label shared) n p) (length-map m.cores (λ (c : Cored). c.passes) ∙ sym made)
           (ready.each_passes (length (passes_of m.cores)) p (ap (λ l. slice_get l (length (passes_of m.cores))) (sym has.passes_are) ∙ get_seam (passes_of m.cores) ps p))
 
     -- the next core was made

@@ -27,14 +27,14 @@ pub record AreNewPasses (rings : List Ringed) (label : Name) (core : ℕ) (p : P
   pub idle : AreIdle label (seats_of p.items)
 
 -- the label of the rings of a run: that of the store and the number of cores
-abbrev pub label_in : Sharing → Name
-label_in shared = label_of shared.store.id (length shared.rings)
+abbrev pub run_label : Sharing → Name
+run_label shared = label_of shared.store.id (length shared.rings)
 
 -- the core with this number, with a new home for `count` connections and new passes
 pub record IsNewCore (shared : Sharing) (count core : ℕ) (c : Cored) : Type 0 where
-  pub home : IsNewHome shared.rings (label_in shared) (length shared.rings) core c.home
+  pub home : IsNewHome shared.rings (run_label shared) (length shared.rings) core c.home
   pub count_is : c.home.count ≡ count
-  pub passes : AreNewPasses shared.rings (label_in shared) core c.passes
+  pub passes : AreNewPasses shared.rings (run_label shared) core c.passes
 
 -- such cores, by rising number
 abbrev pub AreNewCores : Sharing → ℕ → List Cored → Type 0

@@ -4,7 +4,7 @@ ghost use Rattle.zy_control.specs.Pass.{rooted};
 ghost use Rattle.zy_core.specs.Cores.{identities, homes_of, AreCores};
 ghost use Rattle.zy_core.specs.Running.{rings_in};
 ghost use Rattle.zy_rx.specs.Feed.{rings_of};
-ghost use Rattle.zy_setup.specs.New.{IsNewHome, AreNewPasses, AreUnusedRings, label_in};
+ghost use Rattle.zy_setup.specs.New.{IsNewHome, AreNewPasses, AreUnusedRings, run_label};
 ghost use Rattle.zy_setup.specs.Progress.{AreReady, AddsCore, HasMadeAll, passes_of};
 
 use crate::core_parts::CoreParts;
@@ -147,9 +147,9 @@ impl Making {
         requires few { count ≤ 64 }
         requires next { length self.old.inlets.items < count }
         requires root { self.old.root ≡ rooted shared.now.control.id (length self.old.inlets.items) count }
-        requires home { IsNewHome shared.now.rings (label_in shared.now) (length shared.now.rings)
+        requires home { IsNewHome shared.now.rings (run_label shared.now) (length shared.now.rings)
             (length self.old.inlets.items) home }
-        requires passes { AreNewPasses shared.now.rings (label_in shared.now) (length self.old.inlets.items) passes }
+        requires passes { AreNewPasses shared.now.rings (run_label shared.now) (length self.old.inlets.items) passes }
         ensures ok { OnOk result (AddsCore shared.now home passes self.old self.new) }
     {
         let number = self.inlets.len() as u32;
