@@ -9,8 +9,6 @@ pub mod CaptureLengthLemmas
 pub mod RepliesFaultLemmas
 pub mod RepliesFaultReadLemmas
 pub mod RepliesSpelledLemmas
-pub mod RepliesTellLemmas
-pub mod CaptureTellLemmas
 pub mod JournalLengthLemmas
 pub mod JournalFaultLemmas
 pub mod JournalFaultReadLemmas
@@ -18,5 +16,4 @@ pub mod JournalLawfulLemmas
 pub mod JournalLeadsLemmas
 pub mod JournalFieldLemmas
 pub mod PacketCopyLemmas
-pub mod PacketFileLemmas
 pub mod InputDivisionLemmas
