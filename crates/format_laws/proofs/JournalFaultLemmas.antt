@@ -44,6 +44,7 @@ use Rattle.zy_journal_reader.specs.Last.{last_one}
 use Rattle.format_laws.specs.JournalFields.{number_text, range, EntryField, shape_of, before, IsLawfulNumber}
 use Rattle.format_laws.specs.JournalFields.{IsLawfulUpTo, HoldField, before_in_hold, IsLawfulInHold, IsHoldUpTo}
 use Rattle.format_laws.specs.JournalFields.{EntryField as E, HoldField as H}
+use Rattle.format_laws.specs.Faults.{IsWrongForm}
 use Rattle.format_laws.specs.JournalFaults.{IsBadJournalMagic, IsWrongJournal}
 use Rattle.zy_journal_reader.proofs.CallLemmas.{fields_in, call_in, key_bytes, flags_bytes, number_bytes, call_is}
 use Rattle.zy_journal_reader.proofs.SoFar as SoFar
@@ -332,15 +333,10 @@ faulty (Bytes field) p text bytes rest fault is all size short room read = λ wr
 faulty Nothing p text bytes rest fault is all size short room read = said text bytes rest fault (trailing p text bytes rest size short read)
 
 -- a text with a wrong field has the fault that says so
-pub record HasWrong (text : List ℕ) (fault : FileFault) : Type 0 where
-  pub at : ℕ
-  pub is : fault ≡ Form at
-  pub wrong : IsWrongJournal text at
-
-pub misjudged_wrong : (text : List ℕ) (p : ReadState) (fault : FileFault) → AreBytes text → IsMisjudged journal_fields text p fault → HasWrong text fault
+pub misjudged_wrong : (text : List ℕ) (p : ReadState) (fault : FileFault) → AreBytes text → IsMisjudged journal_fields text p fault → IsWrongForm IsWrongJournal text fault
 misjudged_wrong text p fault all has =
     let before_it : List ℕ = concat has.begins.parts in
     let each : AreBytes (before_it ++ (has.field ++ has.rest)) = subst AreBytes has.begins.text_is all in
     let of_field : AreBytes has.field = bytes_front has.field has.rest (bytes_back before_it (has.field ++ has.rest) each) in
     let two = faulty p.due p before_it has.field has.rest fault refl of_field has.size has.begins.short has.room (reached text p has.given (has.field ++ has.rest) has.begins all) has.wrong in
-    record { at = length before_it; is = two.0; wrong = subst (λ (l : List ℕ). IsWrongJournal l (length before_it)) (sym has.begins.text_is) two.1 }
+    subst (IsWrongForm IsWrongJournal text) (sym two.0) (subst (λ (l : List ℕ). IsWrongJournal l (length before_it)) (sym has.begins.text_is) two.1)

@@ -9,6 +9,7 @@ use Rattle.std.proofs.lemmas.Bool.{eqb-true}
 use Rattle.std.proofs.lemmas.Bool.Decides.{nat_tests}
 use Rattle.mc_calls.specs.declared.entry.Entry.{Entry}
 use Rattle.mc_calls.specs.declared.hold.Hold.{Hold}
+use Rattle.zy_base.specs.declared.file_fault.FileFault.{FileFault}
 use Rattle.zy_base.specs.declared.file_fault.FileFault.TheVariants.{Form}
 use Rattle.mc_calls.specs.Code.{call_code, last_call_code, last_reply_code}
 use Rattle.mc_calls.specs.Shard.{value_limit}
@@ -33,6 +34,7 @@ use Rattle.zy_journal_reader.specs.Last.{last_after, last_one}
 use Rattle.format_laws.specs.JournalFields.{number_text, range, EntryField, shape_of, before, IsLawfulNumber}
 use Rattle.format_laws.specs.JournalFields.{IsLawfulUpTo, HoldField, before_in_hold, IsLawfulInHold, IsHoldUpTo}
 use Rattle.format_laws.specs.JournalFields.{EntryField as E, HoldField as H}
+use Rattle.format_laws.specs.Faults.{IsWrongForm}
 use Rattle.format_laws.specs.JournalFaults.{IsBadJournalMagic, IsBadJournalTag, IsBadEntry, IsBadHold, FollowsJournal}
 use Rattle.format_laws.specs.JournalFaults.{IsWrongJournal}
 use Rattle.zy_journal_reader.specs.Found.{and_entry, and_hold}
@@ -261,9 +263,10 @@ trailing_bad text at has =
 -- ---- all faults
 
 -- a text is bad with a wrong field that it has
-pub wrong_bad : (text : List ℕ) (at : ℕ) → IsWrongJournal text at → journal_verdict text ≡ Bad (Form at)
-wrong_bad text at (inl has) = magic_bad text at has
-wrong_bad text at (inr (inl has)) = tag_bad text at has
-wrong_bad text at (inr (inr (inl has))) = entry_bad text at has
-wrong_bad text at (inr (inr (inr (inl has)))) = hold_bad text at has
-wrong_bad text at (inr (inr (inr (inr has)))) = trailing_bad text at has
+pub wrong_bad : (text : List ℕ) (fault : FileFault) → IsWrongForm IsWrongJournal text fault → journal_verdict text ≡ Bad fault
+wrong_bad text (Form at) (inl has) = magic_bad text at has
+wrong_bad text (Form at) (inr (inl has)) = tag_bad text at has
+wrong_bad text (Form at) (inr (inr (inl has))) = entry_bad text at has
+wrong_bad text (Form at) (inr (inr (inr (inl has)))) = hold_bad text at has
+wrong_bad text (Form at) (inr (inr (inr (inr has)))) = trailing_bad text at has
+wrong_bad text fault has = absurd has

@@ -6,7 +6,6 @@ use Rattle.std.specs.List.{concat}
 use Rattle.std.specs.Int.{to_be_bytes, from_be_bytes, w32, w64}
 use Rattle.std.proofs.lemmas.Bool.Decides.{nat_tests}
 use Rattle.zy_base.specs.declared.file_fault.FileFault.{FileFault}
-use Rattle.zy_base.specs.declared.file_fault.FileFault.TheVariants.{Form}
 use Rattle.zy_read.specs.declared.magic.MagicStep.{MagicStep}
 use Rattle.zy_read.specs.declared.magic.MagicStep.TheVariants as Steps
 use Rattle.zy_read.specs.Magic.{magic_step}
@@ -27,6 +26,7 @@ use Rattle.zy_capture.specs.declared.replies_state.RepliesState.{RepliesState}
 use Rattle.zy_capture.specs.Capture.{connection_limit}
 use Rattle.zy_capture.specs.Replies.{letters, replies_magic, spelled, spelling, IsNextSession, IsRepliesFile}
 use Rattle.zy_capture.specs.Replies.{replies_limit, front_text, connections_after, sessions_after}
+use Rattle.format_laws.specs.Faults.{IsWrongForm}
 use Rattle.format_laws.specs.RepliesFaults.{IsWrongReplies}
 use Rattle.zy_capture.specs.RepliesSteps.{shape, after_magic, tag, may_come, due_session, connection, session, judged}
 use Rattle.zy_capture.specs.RepliesSteps.{is_last, replies_fields}
@@ -52,14 +52,9 @@ four_fits field all size =
 
 -- ---- a field that is wrong
 
--- the fault is that of a wrong byte or number
-abbrev pub IsForm : List ℕ → FileFault → Type 0
-IsForm text (Form at) = IsWrongReplies text at
-IsForm text fault = ⊥
-
 -- a field that is wrong means that the text is
 abbrev Faults : List ℕ → Judged RepliesState SessionBytes FileFault → Type 0
-Faults text (Wrong fault) = IsForm text fault
+Faults text (Wrong fault) = IsWrongForm IsWrongReplies text fault
 Faults text judged = ⊤
 
 -- a byte of the magic
@@ -171,7 +166,7 @@ from_field Nothing s text front field rest given whole all size short room read 
     from_end s text front rest given (get_or field 0 0) (whole ∙ ap (λ (l : List ℕ). front ++ (l ++ rest)) (one_byte field size)) short read
 
 -- a text with a field that is wrong
-pub misjudged_wrong : (text : List ℕ) (s : RepliesState) (fault : FileFault) → AreBytes text → IsMisjudged replies_fields text s fault → IsForm text fault
+pub misjudged_wrong : (text : List ℕ) (s : RepliesState) (fault : FileFault) → AreBytes text → IsMisjudged replies_fields text s fault → IsWrongForm IsWrongReplies text fault
 misjudged_wrong text s fault all has =
     let front : List ℕ = concat has.begins.parts in
     let later : AreBytes (has.field ++ has.rest) = bytes_back front (has.field ++ has.rest) (subst AreBytes has.begins.text_is all) in

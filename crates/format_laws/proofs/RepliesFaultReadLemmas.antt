@@ -6,6 +6,7 @@ use Rattle.std.specs.Int.{to_be_bytes, w32}
 use Rattle.std.proofs.lemmas.List.{append-nil}
 use Rattle.std.proofs.lemmas.Bool.Decides.{nat_tests}
 use Rattle.std.proofs.lemmas.Nat.{from_be_bytes-to_be_bytes_4}
+use Rattle.zy_base.specs.declared.file_fault.FileFault.{FileFault}
 use Rattle.zy_base.specs.declared.file_fault.FileFault.TheVariants.{Form}
 use Rattle.format_laws.specs.BadMagic.{IsBadMagic}
 use Rattle.zy_read.specs.Fields.Judged.{Wrong}
@@ -19,6 +20,7 @@ use Rattle.zy_capture.specs.declared.replies_state.RepliesState.{RepliesState}
 use Rattle.zy_capture.specs.Capture.{connection_limit}
 use Rattle.zy_capture.specs.Replies.{letters, spelling, IsNextSession, replies_limit, front_text, connections_after}
 use Rattle.zy_capture.specs.Replies.{sessions_after}
+use Rattle.format_laws.specs.Faults.{IsWrongForm}
 use Rattle.format_laws.specs.RepliesFaults.{RepliesGoOn, IsBadTag, IsBadConnection, IsBadSession, IsTrailing}
 use Rattle.format_laws.specs.RepliesFaults.{IsWrongReplies}
 use Rattle.zy_capture.specs.RepliesSteps.{start, goes, tag, connection, session, replies_fields}
@@ -117,9 +119,10 @@ trailing_bad text at has =
     (ap (λ (k : ℕ). Wrong (Form k)) (sym has.place))
 
 -- a text is bad with what is wrong in it
-pub has_bad : (text : List ℕ) (at : ℕ) → IsWrongReplies text at → verdict text ≡ Bad (Form at)
-has_bad text at (inl has) = bad_magic_bad text at has
-has_bad text at (inr (inl has)) = bad_tag_bad text at has
-has_bad text at (inr (inr (inl has))) = connection_bad text at has
-has_bad text at (inr (inr (inr (inl has)))) = session_bad text at has
-has_bad text at (inr (inr (inr (inr has)))) = trailing_bad text at has
+pub has_bad : (text : List ℕ) (fault : FileFault) → IsWrongForm IsWrongReplies text fault → verdict text ≡ Bad fault
+has_bad text (Form at) (inl has) = bad_magic_bad text at has
+has_bad text (Form at) (inr (inl has)) = bad_tag_bad text at has
+has_bad text (Form at) (inr (inr (inl has))) = connection_bad text at has
+has_bad text (Form at) (inr (inr (inr (inl has)))) = session_bad text at has
+has_bad text (Form at) (inr (inr (inr (inr has)))) = trailing_bad text at has
+has_bad text fault has = absurd has

@@ -1,6 +1,6 @@
 -- The byte that is wrong in a magic.
 use Rattle.zy_read.specs.Magic.{magic_of}
-use Rattle.std.specs.Prelude.{◌≡◌, ◌⊎◌, ℕ, ◌+◌, ◌<◌, List, [], ◌∷◌, ◌++◌, length}
+use Rattle.std.specs.Prelude.{◌≡◌, ◌⊎◌, ℕ, ◌<◌, List, [], ◌∷◌, ◌++◌, length}
 
 -- the bytes are the first ones of a magic
 pub record BeginsMagic (letters bytes : List ℕ) : Type 0 where

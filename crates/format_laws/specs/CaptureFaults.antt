@@ -6,6 +6,7 @@ use Rattle.zy_capture.specs.Capture.{connection_limit, segment_limit}
 use Rattle.std.specs.Prelude.{◌≡◌, ◌⊎◌, ℕ, ◌+◌, ◌^◌, ◌<◌, ◌≤◌, List, ◌∷◌, ◌++◌, length}
 use Rattle.std.specs.Int.{to_be_bytes, w32}
 use Rattle.format_laws.specs.BadMagic.{IsBadMagic}
+use Rattle.format_laws.specs.Faults.{HasFaultBy}
 use Rattle.zy_capture.specs.declared.record.Record.{Record}
 use Rattle.zy_capture.specs.declared.capture_fault.CaptureFault.{CaptureFault}
 use Rattle.zy_capture.specs.declared.capture_fault.CaptureFault.TheVariants.{BadMagic, ConnCount, BadTag, ConnRange}
@@ -99,29 +100,10 @@ IsWrongCapture text (Trailing at) = IsTrailing text at
 IsWrongCapture text (Truncated at) = ⊥
 IsWrongCapture text TooLong = ⊥
 
--- the text is no capture, but nothing in it is wrong, and it is not longer than a capture may be
-pub record IsBegun (text : List ℕ) : Type 0 where
-  pub short : length text ≤ capture_limit
-  pub no_capture : (version count : ℕ) (items : List Record) → Spells text version count items → ⊥
-  pub none_wrong : (fault : CaptureFault) → IsWrongCapture text fault → ⊥
-
--- the text ends before the end byte
-pub record IsTruncated (text : List ℕ) (at : ℕ) : Type 0 where
-  pub place : at ≡ length text
-  pub begun : IsBegun text
-
--- the text has another byte after the largest number that a capture may have, and these do not
--- reach the end byte
-pub record IsTooLong (text : List ℕ) : Type 0 where
-  pub front : List ℕ
-  pub byte : ℕ
-  pub rest : List ℕ
-  pub whole : text ≡ front ++ byte ∷ rest
-  pub most : length front ≡ capture_limit
-  pub begun : IsBegun front
+-- the text is a capture
+abbrev pub IsAnyCapture : List ℕ → Type 0
+IsAnyCapture text = (version : ℕ) × ((count : ℕ) × ((items : List Record) × Spells text version count items))
 
 -- the text has this fault
 abbrev pub HasFaultAsCapture : List ℕ → CaptureFault → Type 0
-HasFaultAsCapture text (Truncated at) = IsTruncated text at
-HasFaultAsCapture text TooLong = IsTooLong text
-HasFaultAsCapture text fault = IsWrongCapture text fault
+HasFaultAsCapture text fault = HasFaultBy capture_limit Truncated TooLong IsAnyCapture IsWrongCapture text fault

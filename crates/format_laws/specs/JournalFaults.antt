@@ -7,11 +7,12 @@ use Rattle.std.specs.Int.{to_be_bytes, w32}
 use Rattle.mc_calls.specs.declared.entry.Entry.{Entry}
 use Rattle.mc_calls.specs.declared.hold.Hold.{Hold}
 use Rattle.zy_base.specs.declared.file_fault.FileFault.{FileFault}
-use Rattle.zy_base.specs.declared.file_fault.FileFault.TheVariants.{Form, Truncated, TooLong}
+use Rattle.zy_base.specs.declared.file_fault.FileFault.TheVariants.{Truncated, TooLong}
 use Rattle.zy_journal.specs.declared.journal.Journal.{Journal}
 use Rattle.zy_journal.specs.Journal.{magic, journal_bytes}
 use Rattle.zy_journal_reader.specs.Steps.{journal_limit}
 use Rattle.zy_journal_reader.specs.Last.{last_one}
+use Rattle.format_laws.specs.Faults.{IsWrongForm, HasFaultBy}
 use Rattle.format_laws.specs.JournalFields.{number_text, range, EntryField, shape_of, before, IsLawfulNumber}
 use Rattle.format_laws.specs.JournalFields.{IsLawfulUpTo, HoldField, before_in_hold, IsLawfulInHold, IsHoldUpTo}
 
@@ -98,29 +99,11 @@ IsWrongJournal text at =
     IsBadJournalMagic text at ⊎ (IsBadJournalTag text at
     ⊎ (IsBadEntry text at ⊎ (IsBadHold text at ⊎ FollowsJournal text at)))
 
--- the text is no journal, but nothing in it is wrong, and it is not longer than one may be
-pub record IsBegunJournal (text : List ℕ) : Type 0 where
-  pub short : length text ≤ journal_limit
-  pub no_journal : (journal : Journal) → SpellsJournal text journal → ⊥
-  pub none_wrong : (at : ℕ) → IsWrongJournal text at → ⊥
-
--- the text ends before the end byte
-pub record IsTruncatedJournal (text : List ℕ) (at : ℕ) : Type 0 where
-  pub place : at ≡ length text
-  pub begun : IsBegunJournal text
-
--- the text has another byte after the largest number that a journal may have, and these do not
--- reach the end byte
-pub record IsTooLongJournal (text : List ℕ) : Type 0 where
-  pub front : List ℕ
-  pub byte : ℕ
-  pub rest : List ℕ
-  pub whole : text ≡ front ++ byte ∷ rest
-  pub most : length front ≡ journal_limit
-  pub begun : IsBegunJournal front
+-- the text is a journal
+abbrev pub IsAnyJournal : List ℕ → Type 0
+IsAnyJournal text = (journal : Journal) × SpellsJournal text journal
 
 -- the text has this fault
 abbrev pub HasFaultAsJournal : List ℕ → FileFault → Type 0
-HasFaultAsJournal text (Form at) = IsWrongJournal text at
-HasFaultAsJournal text (Truncated at) = IsTruncatedJournal text at
-HasFaultAsJournal text TooLong = IsTooLongJournal text
+HasFaultAsJournal text fault =
+    HasFaultBy journal_limit Truncated TooLong IsAnyJournal (IsWrongForm IsWrongJournal) text fault

@@ -1,5 +1,6 @@
 pub mod BadMagic
 pub mod Pieces
+pub mod Faults
 pub mod CaptureFaults
 pub mod RepliesFaults
 pub mod WorkedCaptures

@@ -1,6 +1,6 @@
 -- Pieces of a text that are fed one after another.
 use Rattle.zy_read.specs.Standing.{Feeds}
-use Rattle.std.specs.Prelude.{◌≡◌, ℕ, ◌+◌, List, [], ◌∷◌, ◌++◌}
+use Rattle.std.specs.Prelude.{◌≡◌, ℕ, List, [], ◌∷◌, ◌++◌}
 use Rattle.zy_read.specs.Format.{Format}
 
 -- pieces of a text were fed, one after another, and gave these records

@@ -6,8 +6,9 @@ use Rattle.zy_capture.specs.Replies.{IsRepliesFile, SpellsReplies, replies_limit
 use Rattle.std.specs.Prelude.{◌≡◌, ◌⊎◌, ℕ, ◌+◌, ◌^◌, ◌<◌, ◌≤◌, List, ◌∷◌, ◌++◌, length}
 use Rattle.std.specs.Int.{to_be_bytes, w32}
 use Rattle.zy_base.specs.declared.file_fault.FileFault.{FileFault}
-use Rattle.zy_base.specs.declared.file_fault.FileFault.TheVariants.{Form, Truncated, TooLong}
+use Rattle.zy_base.specs.declared.file_fault.FileFault.TheVariants.{Truncated, TooLong}
 use Rattle.format_laws.specs.BadMagic.{IsBadMagic}
+use Rattle.format_laws.specs.Faults.{IsWrongForm, HasFaultBy}
 use Rattle.zy_capture.specs.declared.session_bytes.SessionBytes.{SessionBytes}
 use Rattle.zy_capture.specs.Capture.{connection_limit}
 
@@ -95,29 +96,11 @@ IsWrongReplies text at =
     IsBadMagic letters text at
     ⊎ (IsBadTag text at ⊎ (IsBadConnection text at ⊎ (IsBadSession text at ⊎ IsTrailing text at)))
 
--- the text is no replies file, but nothing in it is wrong, and it is not longer than one may be
-pub record IsBegun (text : List ℕ) : Type 0 where
-  pub short : length text ≤ replies_limit
-  pub no_file : (version : ℕ) (items : List SessionBytes) → SpellsReplies text version items → ⊥
-  pub none_wrong : (at : ℕ) → IsWrongReplies text at → ⊥
-
--- the text ends before the end byte
-pub record IsTruncated (text : List ℕ) (at : ℕ) : Type 0 where
-  pub place : at ≡ length text
-  pub begun : IsBegun text
-
--- the text has another byte after the largest number that a replies file may have, and these do
--- not reach the end byte
-pub record IsTooLong (text : List ℕ) : Type 0 where
-  pub front : List ℕ
-  pub byte : ℕ
-  pub rest : List ℕ
-  pub whole : text ≡ front ++ byte ∷ rest
-  pub most : length front ≡ replies_limit
-  pub begun : IsBegun front
+-- the text is a replies file
+abbrev pub IsAnyReplies : List ℕ → Type 0
+IsAnyReplies text = (version : ℕ) × ((items : List SessionBytes) × SpellsReplies text version items)
 
 -- the text has this fault
 abbrev pub HasFaultAsReplies : List ℕ → FileFault → Type 0
-HasFaultAsReplies text (Form at) = IsWrongReplies text at
-HasFaultAsReplies text (Truncated at) = IsTruncated text at
-HasFaultAsReplies text TooLong = IsTooLong text
+HasFaultAsReplies text fault =
+    HasFaultBy replies_limit Truncated TooLong IsAnyReplies (IsWrongForm IsWrongReplies) text fault

@@ -5,8 +5,6 @@ ghost use Rattle.zy_read.specs.Standing.{Feeds};
 ghost use Rattle.format_laws.specs.Pieces.{FeedsPieces};
 ghost use Rattle.zy_capture.specs.declared.record.Record.{Record};
 ghost use Rattle.zy_capture.specs.declared.capture_fault.CaptureFault.{CaptureFault};
-ghost use Rattle.zy_capture.specs.declared.record.Record.TheVariants as Kinds;
-ghost use Rattle.zy_capture.specs.declared.capture_fault.CaptureFault.TheVariants as Faults;
 ghost use Rattle.zy_capture.specs.Capture.{Spells};
 ghost use Rattle.zy_read.specs.Bytes.{AreBytes};
 ghost use Rattle.format_laws.specs.CaptureFaults.{HasFaultAsCapture};
@@ -16,7 +14,6 @@ ghost use Rattle.zy_capture.specs.Verdict.{captures, verdict, fault_of, version_
 ghost use Rattle.zy_capture.specs.Verdict.Verdict.{Good, Bad};
 ghost use Rattle.zy_capture.specs.Standing.{StandsForRecords};
 ghost use Rattle.zy_capture.specs.Streams.{closes, stream, sessions_of, no_bytes, with_record, with_records};
-ghost use Rattle.format_laws.specs.WorkedCaptures as Worked;
 
 /// The verdict on a text is bad with a fault if and only if the text has that fault.
 pub fn a_capture_is_bad_exactly_where_it_has_a_fault()
@@ -107,55 +104,4 @@ pub fn a_capture_has_few_streams()
     ensures sessions { (text : List ℕ) (version count : ℕ) (items : List Record)
         → Spells text version count items
         → sum_by length (with_records (no_bytes count) items) ≤ count + length text }
-{}
-
-// ---- worked files, in which each character is the byte of its code
-
-/// Example captures, and the streams of their connections.
-#[tactic(auto, unfolding(zy_read::specs::Format::verdict_on, zy_read::specs::Format::reading_of, zy_read::specs::Format::read_on))]
-pub fn worked_captures()
-    ensures none { verdict (codes "ZYGCAP1\n\0\0\0\0E") ≡ Good 1 0 [] }
-    ensures most { verdict (codes "ZYGCAP1\n\0\0\u{10}\0S\0\0\u{f}ÿ\0\0\0\u{1}xE")
-        ≡ Good 1 4096 (Kinds.Segment (record { conn = 4095; bytes = codes "x" }) ∷ []) }
-    ensures segments { verdict Worked.segments_text ≡ Good 1 2 Worked.segments }
-    ensures sessions { verdict Worked.sessions_text ≡ Good 2 2 Worked.sessions }
-    ensures first_streams { with_records (no_bytes 2) Worked.segments
-        ≡ ([] ∷ []) ∷ (codes "abcd" ∷ []) ∷ [] }
-    ensures later_streams { with_records (no_bytes 2) Worked.sessions
-        ≡ (codes "ab" ∷ codes "c" ∷ []) ∷ ([] ∷ [] ∷ []) ∷ [] }
-{}
-
-/// Example captures that are cut, or have a fault in their magic or their count.
-#[tactic(auto, unfolding(zy_read::specs::Format::verdict_on, zy_read::specs::Format::reading_of, zy_read::specs::Format::read_on))]
-pub fn worked_heads()
-    ensures none { verdict [] ≡ Bad (Faults.Truncated 0) }
-    ensures first { verdict (codes "zYGCAP1\n") ≡ Bad (Faults.BadMagic 0) }
-    ensures letter { verdict (codes "ZYGX") ≡ Bad (Faults.BadMagic 3) }
-    ensures letters { verdict (codes "ZYGCAP") ≡ Bad (Faults.Truncated 6) }
-    ensures digit { verdict (codes "ZYGCAP3\n") ≡ Bad (Faults.BadMagic 6) }
-    ensures line { verdict (codes "ZYGCAP2\r\n\0\0\0") ≡ Bad (Faults.BadMagic 7) }
-    ensures count { verdict (codes "ZYGCAP1\n\0\0\u{10}") ≡ Bad (Faults.Truncated 11) }
-    ensures many { verdict (codes "ZYGCAP1\n\0\0\u{10}\u{1}E") ≡ Bad (Faults.ConnCount 4097) }
-    ensures greatest { verdict (codes "ZYGCAP2\nÿÿÿÿE") ≡ Bad (Faults.ConnCount 4294967295) }
-{}
-
-/// Example captures with a fault in a record or at the end, and captures of too many bytes.
-#[tactic(auto, unfolding(zy_read::specs::Format::verdict_on, zy_read::specs::Format::reading_of, zy_read::specs::Format::read_on))]
-pub fn worked_records()
-    ensures tag { verdict (codes "ZYGCAP1\n\0\0\0\u{1}x") ≡ Bad (Faults.BadTag 12 120) }
-    ensures close { verdict (codes "ZYGCAP1\n\0\0\0\u{1}C\0\0\0\0E") ≡ Bad (Faults.BadTag 12 67) }
-    ensures after_close { verdict (codes "ZYGCAP2\n\0\0\0\u{1}C\0\0\0\0x") ≡ Bad (Faults.BadTag 17 120) }
-    ensures none { verdict (codes "ZYGCAP1\n\0\0\0\0S\0\0\0\0") ≡ Bad (Faults.ConnRange 13 0) }
-    ensures range { verdict (codes "ZYGCAP1\n\0\0\0\u{2}S\0\0\u{1}\u{2}") ≡ Bad (Faults.ConnRange 13 258) }
-    ensures most { verdict (codes "ZYGCAP1\n\0\0\u{10}\0S\0\0\u{10}\0") ≡ Bad (Faults.ConnRange 13 4096) }
-    ensures close_range { verdict (codes "ZYGCAP2\n\0\0\0\u{2}C\0\0\0\u{2}E") ≡ Bad (Faults.ConnRange 13 2) }
-    ensures length { verdict (codes "ZYGCAP1\n\0\0\0\u{1}S\0\0\0\0\0\u{1}\0\0E")
-        ≡ Bad (Faults.SegmentLength 17 65536) }
-    ensures cut { verdict (codes "ZYGCAP1\n\0\0\0\u{1}S\0\0\0\0\0\0ÿÿab") ≡ Bad (Faults.Truncated 23) }
-    ensures trailing { verdict (codes "ZYGCAP1\n\0\0\0\0EE") ≡ Bad (Faults.Trailing 13) }
-    ensures too_long { Worked.met_behind 4294967295 (codes "EE") ≡ Some Faults.TooLong }
-    ensures long_record { Worked.met_behind 4294967291 (codes "C\0\0\0\u{1}") ≡ Some Faults.TooLong }
-    ensures last_record { Worked.met_behind 4294967290 (codes "C\0\0\0\u{1}")
-        ≡ Some (Faults.ConnRange 4294967291 1) }
-    ensures last { Worked.met_behind 4294967294 (codes "EE") ≡ Some (Faults.Trailing 4294967295) }
 {}

@@ -2,6 +2,7 @@
 #![tactic(auto)]
 
 mod captures;
+mod examples;
 mod fields;
 mod hashes;
 mod inputs;
@@ -14,7 +15,10 @@ pub use captures::{
     a_further_record_is_added_last, a_good_capture_tells_its_parts, each_session_holds_its_stream,
     how_a_capture_is_cut_does_not_matter, the_first_fault_of_a_capture_counts,
     the_records_of_a_capture_so_far_are_lawful, the_version_and_the_count_are_told,
-    what_is_given_depends_on_the_bytes_alone, worked_captures, worked_heads, worked_records,
+    what_is_given_depends_on_the_bytes_alone,
+};
+pub use examples::{
+    worked_captures, worked_heads, worked_records, worked_replies, worked_reply_faults,
 };
 pub use fields::a_text_of_fields_is_what_its_fields_say;
 pub use hashes::the_published_values_hold;
@@ -39,6 +43,5 @@ pub use replies::{
     how_a_replies_file_is_cut_does_not_matter, outputs_stay_outputs,
     outputs_that_are_read_can_be_added, the_first_fault_of_a_replies_file_counts,
     the_outputs_of_a_replies_file_so_far_are_lawful, the_version_of_a_replies_file_is_told,
-    what_is_given_of_replies_depends_on_the_bytes_alone, worked_replies, worked_reply_faults,
-    written_replies_are_read_again,
+    what_is_given_of_replies_depends_on_the_bytes_alone, written_replies_are_read_again,
 };

@@ -2,7 +2,6 @@
 ghost use Rattle.std.specs.Prelude.{◌≡◌, ◌≢◌, ◌⊎◌, ◌≤◌, ◌↔◌, ◌+◌, ℕ, List, [], ◌∷◌, ◌++◌, length, codes, None, Some};
 ghost use Rattle.std.specs.List.{concat, sum_by};
 ghost use Rattle.zy_base.specs.declared.file_fault.FileFault.{FileFault};
-ghost use Rattle.zy_base.specs.declared.file_fault.FileFault.TheVariants as FileFaults;
 ghost use Rattle.zy_read.specs.Standing.{Feeds};
 ghost use Rattle.format_laws.specs.Pieces.{FeedsPieces};
 ghost use Rattle.zy_capture.specs.declared.session_bytes.SessionBytes.{SessionBytes};
@@ -16,7 +15,6 @@ ghost use Rattle.zy_capture.specs.RepliesSteps as RepliesProgress;
 ghost use Rattle.format_laws.specs.RepliesFaults as RepliesFaults;
 ghost use Rattle.zy_capture.specs.RepliesVerdict as Replies;
 ghost use Rattle.zy_capture.specs.RepliesStanding.{StandsForReplies};
-ghost use Rattle.format_laws.specs.WorkedCaptures as Worked;
 
 // ---- replies files
 
@@ -120,43 +118,4 @@ pub fn written_replies_are_read_again()
 pub fn a_replies_file_has_few_bytes()
     ensures whole { (outputs : AllOutputs) → length (replies_bytes outputs)
         ≤ 9 + sum_by (λ sessions. sum_by (λ bytes. 17 + length bytes) sessions) outputs.sessions }
-{}
-
-/// Worked replies files, and the texts written for outputs.
-#[tactic(auto, unfolding(zy_read::specs::Format::verdict_on, zy_read::specs::Format::reading_of, zy_read::specs::Format::read_on))]
-pub fn worked_replies()
-    ensures none { Replies.verdict (codes "ZYGREP1\nE") ≡ Replies.Verdict.Good 1 [] }
-    ensures no_session { Replies.verdict (codes "ZYGREP2\nE") ≡ Replies.Verdict.Good 2 [] }
-    ensures outputs { Replies.verdict Worked.outputs_text
-        ≡ Replies.Verdict.Good 1 (items_of Worked.outputs) }
-    ensures sessions { Replies.verdict Worked.session_outputs_text
-        ≡ Replies.Verdict.Good 2 (items_of Worked.session_outputs) }
-    ensures written { replies_bytes Worked.outputs ≡ Worked.outputs_text }
-    ensures written_sessions { replies_bytes Worked.session_outputs ≡ Worked.session_outputs_text }
-{}
-
-/// Worked replies files with a fault, and replies files of too many bytes.
-#[tactic(auto, unfolding(zy_read::specs::Format::verdict_on, zy_read::specs::Format::reading_of, zy_read::specs::Format::read_on))]
-pub fn worked_reply_faults()
-    ensures cut { Replies.verdict (codes "ZYGRE") ≡ Replies.Verdict.Bad (FileFaults.Truncated 5) }
-    ensures letter { Replies.verdict (codes "ZYGX") ≡ Replies.Verdict.Bad (FileFaults.Form 3) }
-    ensures digit { Replies.verdict (codes "ZYGREP3\n") ≡ Replies.Verdict.Bad (FileFaults.Form 6) }
-    ensures line { Replies.verdict (codes "ZYGREP1E") ≡ Replies.Verdict.Bad (FileFaults.Form 7) }
-    ensures tag { Replies.verdict (codes "ZYGREP1\nS") ≡ Replies.Verdict.Bad (FileFaults.Form 8) }
-    ensures first { Replies.verdict (codes "ZYGREP1\nR\0\0\0\u{1}") ≡ Replies.Verdict.Bad (FileFaults.Form 9) }
-    ensures twice { Replies.verdict (codes "ZYGREP1\nR\0\0\0\0\0\0\0\0\0\0\0\0R\0\0\0\0")
-        ≡ Replies.Verdict.Bad (FileFaults.Form 22) }
-    ensures cut_output { Replies.verdict (codes "ZYGREP1\nR\0\0\0\0\0\0\0\0\0\0\0\u{2}x")
-        ≡ Replies.Verdict.Bad (FileFaults.Truncated 22) }
-    ensures trailing { Replies.verdict (codes "ZYGREP1\nEE") ≡ Replies.Verdict.Bad (FileFaults.Form 9) }
-    ensures session { Replies.verdict (codes "ZYGREP2\nR\0\0\0\0\0\0\0\u{1}")
-        ≡ Replies.Verdict.Bad (FileFaults.Form 13) }
-    ensures same_session { Replies.verdict (codes "ZYGREP2\nR\0\0\0\0\0\0\0\0\0\0\0\0\0\0\0\0R\0\0\0\0\0\0\0\0")
-        ≡ Replies.Verdict.Bad (FileFaults.Form 30) }
-    ensures skipped { Replies.verdict (codes "ZYGREP2\nR\0\0\0\0\0\0\0\0\0\0\0\0\0\0\0\0R\0\0\0\u{2}")
-        ≡ Replies.Verdict.Bad (FileFaults.Form 26) }
-    ensures too_long { Worked.met_behind_replies 9223372036854775807 (codes "x") ≡ Some FileFaults.TooLong }
-    ensures long_record { Worked.met_behind_replies 9223372036854775806 (codes "R\0") ≡ Some FileFaults.TooLong }
-    ensures last { Worked.met_behind_replies 9223372036854775806 (codes "Ex")
-        ≡ Some (FileFaults.Form 9223372036854775807) }
 {}

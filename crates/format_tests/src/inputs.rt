@@ -1,17 +1,17 @@
 //! The input of a check, from sources one read of which fails.
 use crate::failing::source_of;
 use std::alloc::Global;
-use zy_base::{MemSource, NoMemory};
+use zy_base::NoMemory;
 use zy_input::{Stop, read_parts, read_streams};
 
 // A capture of one segment, a journal without records, and a replies file: 42 bytes.
 const INPUT: &[u8] = b"ZYGCAP1\n\0\0\0\x01S\0\0\0\0\0\0\0\x02geEZYGJRN1\nEZYGREP1\nE";
 
-// The reason why the parts are read no further.
-fn parts_stop(alloc: Global, source: &mut MemSource) -> Option<Stop> {
-    match read_parts(alloc, source) {
-        Ok(parts) => {
-            drop(parts);
+// The reason why an input is read no further.
+fn stop_of<T: Drop>(read: Result<T, Stop>) -> Option<Stop> {
+    match read {
+        Ok(value) => {
+            drop(value);
             None
         }
         Err(stop) => Some(stop),
@@ -21,7 +21,7 @@ fn parts_stop(alloc: Global, source: &mut MemSource) -> Option<Stop> {
 // Ten bytes a read, and the read of this number fails.
 fn check_stop(alloc: Global, number: u64) -> Result<Option<Stop>, NoMemory> {
     let mut source = source_of(alloc, INPUT, 10, number)?;
-    let stop = parts_stop(alloc, &mut source);
+    let stop = stop_of(read_parts(alloc, &mut source));
     drop(source);
     Ok(stop)
 }
@@ -34,21 +34,10 @@ fn a_check_stops_at_the_read_that_fails(rt: HostRuntime) {
     assert!(rt; matches!(check_stop(rt.alloc(), 6), Ok(None)));
 }
 
-// The reason why the streams are read no further.
-fn streams_stop(alloc: Global, source: &mut MemSource) -> Option<Stop> {
-    match read_streams(alloc, source) {
-        Ok(streams) => {
-            drop(streams);
-            None
-        }
-        Err(stop) => Some(stop),
-    }
-}
-
 // The same when only the streams are read.
 fn capture_stop(alloc: Global, number: u64) -> Result<Option<Stop>, NoMemory> {
     let mut source = source_of(alloc, INPUT, 10, number)?;
-    let stop = streams_stop(alloc, &mut source);
+    let stop = stop_of(read_streams(alloc, &mut source));
     drop(source);
     Ok(stop)
 }

@@ -17,7 +17,6 @@ ghost use Rattle.mc_reply.specs.Text.{text};
 ghost use Rattle.mc_reply.specs.Texts.{texts_from, texts_of};
 
 /// Example answers: what the definition computes.
-#[tactic(auto, unfolding(mc_reply::specs::Text::text))]
 pub fn worked_answers()
     ensures stored { text (Command.Store Verbs.Set (codes "a") 0 (codes "x") false) (Replies.Stored ∷ [])
         ≡ codes "STORED\r\n" }
@@ -107,7 +106,6 @@ pub fn worked_meta_answers()
 {}
 
 /// Example answers with numbers at their limits, and a value of two lines.
-#[tactic(auto, unfolding(mc_reply::specs::Text::text))]
 pub fn worked_limits()
     ensures item { text (Command.Get (codes "key" ∷ codes "k" ∷ []) true)
         (Replies.Miss ∷ Replies.Hit 4294967295 18446744073709551615

@@ -1,4 +1,6 @@
 //! Example lines: the functions do nothing, and their contracts are what the definitions compute.
+#![tactic(auto, unfolding(mc_meta::specs::Words::words, mc_meta::specs::Words::words_at, mc_parse::specs::Need::need))]
+
 ghost use Rattle.std.specs.Prelude.{◌≡◌, true, false, [], ◌∷◌, ◌++◌, map, codes};
 ghost use Rattle.mc_parse.specs.declared.error_line.ErrorLine.TheVariants as Errors;
 ghost use Rattle.mc_parse.specs.declared.need.Need.{Need};
@@ -16,7 +18,6 @@ ghost use Rattle.mc_laws.specs.Worked.{bad_exptimes, bad_lengths, bad_uniques, d
 
 /// Example lines of no command: an unknown name, too few or too many words, another word in the
 /// place of noreply.
-#[tactic(auto, unfolding(mc_meta::specs::Words::words))]
 pub fn worked_lines_of_no_command()
     ensures nameless { AllSay (faulty Errors.Unknown) nameless_lines }
     ensures other { AllSay (faulty Errors.Unknown) other_commands }
@@ -26,7 +27,6 @@ pub fn worked_lines_of_no_command()
 {}
 
 /// Example lines with a bad number.
-#[tactic(auto, unfolding(mc_meta::specs::Words::words))]
 pub fn worked_lines_with_a_bad_number()
     ensures deletion { AllSay (faulty Errors.BadLine) bad_deletions }
     ensures amount { AllSay (faulty Errors.BadDelta) bad_amounts }
@@ -39,7 +39,6 @@ pub fn worked_lines_with_a_bad_number()
 
 /// Example keys of 250 and of 251 bytes: a key is checked after the number of words, and before the
 /// numbers.
-#[tactic(auto, unfolding(mc_meta::specs::Words::words))]
 pub fn worked_keys()
     ensures within { map line_form (lines_with_key (long_key 250)) ≡ forms_with_key (long_key 250) }
     ensures beyond { AllSay (faulty Errors.BadLine) (lines_with_key (long_key 251)) }
@@ -50,7 +49,6 @@ pub fn worked_keys()
 {}
 
 /// Worked retrievals: a key is any word, and noreply is one.
-#[tactic(auto, unfolding(mc_meta::specs::Words::words))]
 pub fn worked_retrievals()
     ensures one { line_form (codes "get a") ≡ asks (gets (codes "a" ∷ []) false) false }
     ensures unique { line_form (codes "gets a") ≡ asks (gets (codes "a" ∷ []) true) false }
@@ -67,7 +65,6 @@ pub fn worked_retrievals()
 {}
 
 /// Worked deletions.
-#[tactic(auto, unfolding(mc_meta::specs::Words::words))]
 pub fn worked_deletions()
     ensures loud { AllSay (asks (deletes (codes "a")) false) deletions_of_a }
     ensures quiet { AllSay (asks (deletes (codes "a")) true)
@@ -79,7 +76,6 @@ pub fn worked_deletions()
 {}
 
 /// Example lines that count.
-#[tactic(auto, unfolding(mc_meta::specs::Words::words))]
 pub fn worked_counts()
     ensures up { line_form (codes "incr a 1") ≡ asks (counts (codes "a") true 1) false }
     ensures down { line_form (codes "decr a 5") ≡ asks (counts (codes "a") false 5) false }
@@ -93,7 +89,6 @@ pub fn worked_counts()
 {}
 
 /// Example lines without a key.
-#[tactic(auto, unfolding(mc_meta::specs::Words::words))]
 pub fn worked_lines_without_a_key()
     ensures version { AllSay (asks tells_version false) (codes "version" ∷ codes " version " ∷ []) }
     ensures verbosity { line_form (codes "verbosity 1") ≡ asks sets_verbosity false }
@@ -106,7 +101,6 @@ pub fn worked_lines_without_a_key()
 {}
 
 /// Worked storage lines: the verbs.
-#[tactic(auto, unfolding(mc_meta::specs::Words::words))]
 pub fn worked_verbs()
     ensures set { AllSay (asks (sets 0 1) false) sets_of_a }
     ensures add { line_form (codes "add a 7 0 1") ≡ asks (stores Verbs.Add (codes "a") 7 1) false }
@@ -121,7 +115,6 @@ pub fn worked_verbs()
 {}
 
 /// Worked storage lines: numbers at their limits, and noreply.
-#[tactic(auto, unfolding(mc_meta::specs::Words::words))]
 pub fn worked_storage_lines()
     ensures flags { line_form (codes "set a 4294967295 0 1") ≡ asks (sets 4294967295 1) false }
     ensures padded { line_form (codes "set a 00000000000000000005 0 1") ≡ asks (sets 5 1) false }
@@ -137,7 +130,6 @@ pub fn worked_storage_lines()
 {}
 
 /// Example meta lines.
-#[tactic(auto, unfolding(mc_meta::specs::Words::words, mc_meta::specs::Words::words_at))]
 pub fn worked_meta_lines()
     ensures noop { line_form (codes "mn") ≡ asks (metas noops) false }
     ensures get { line_form (codes "mg a s v f k")
@@ -155,7 +147,6 @@ pub fn worked_meta_lines()
 {}
 
 /// Worked needs.
-#[tactic(auto, unfolding(mc_meta::specs::Words::words, mc_parse::specs::Need::need))]
 pub fn worked_needs()
     ensures none { need (codes "get a") ≡ Need.Nothing }
     ensures faulty { need (codes "set a x 0 1") ≡ Need.Nothing }

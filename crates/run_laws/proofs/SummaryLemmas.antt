@@ -6,7 +6,7 @@ use Rattle.mc_calls.specs.History.{states_after}
 use Rattle.mc_calls.specs.Order.{IsOrdered}
 use Rattle.mc_parse.specs.declared.command.Command.{Command}
 use Rattle.mc_parse.specs.Calls.{Due, due}
-use Rattle.zy_run.specs.Serial.{answered, made_entry, made, all_due, serial}
+use Rattle.zy_run.specs.Serial.{made_entry, made, all_due, serial}
 use Rattle.run_laws.proofs.AloneLemmas.{ordered-answered}
 
 made_ordered : (shards : ℕ) (dues : List Due) → IsOrdered None (made shards dues)

@@ -2,7 +2,6 @@
 use Rattle.std.specs.Prelude.{◌≡◌, ℕ, ◌+◌, ◌<◌, List, [], ◌∷◌, ◌++◌, length, None}
 use Rattle.mc_parse.specs.declared.need.Need.TheVariants as Needs
 use Rattle.mc_parse.specs.Need.{need}
-use Rattle.zy_frame.specs.declared.frame_kind.FrameKind.TheVariants.{Block}
 use Rattle.mc_parse.specs.Words.{line_limit}
 use Rattle.zy_frame.specs.Line.{IsShort, first_line, chomped, line_feed}
 

@@ -1,11 +1,10 @@
 -- An example capture of two connections that are apart.
 use Rattle.std.specs.Prelude.{List, [], ◌∷◌, codes}
-use Rattle.mc_calls.specs.declared.call.Call.TheVariants as Calls
-use Rattle.mc_calls.specs.declared.call_reply.CallReply.TheVariants as Replies
 use Rattle.mc_calls.specs.declared.entry.Entry.{Entry}
 use Rattle.zy_capture.specs.declared.record.Record.{Record}
 use Rattle.zy_capture.specs.declared.record.Record.TheVariants as Kinds
 use Rattle.zy_run.specs.declared.summary.Summary.{Summary}
+use Rattle.run_laws.specs.WorkedRun.{missed, stored_and_found}
 
 -- connection 0 stores "a" and gets it, and connection 1 gets "b" in between
 abbrev pub apart_records : List Record
@@ -17,29 +16,7 @@ apart_records =
 
 -- one of its legal runs on 16 shards: connection 1 comes first
 abbrev pub apart_entries : List Entry
-apart_entries =
-    record {
-      tag = record { conn = 1; index = 0; part = 0 };
-      shard = 5;
-      call = Calls.Get (codes "b");
-      reply = Replies.Miss;
-      stamp = 1;
-    }
-    ∷ record {
-      tag = record { conn = 0; index = 0; part = 0 };
-      shard = 12;
-      call = Calls.Set (codes "a") 0 (codes "x");
-      reply = Replies.Stored;
-      stamp = 2;
-    }
-    ∷ record {
-      tag = record { conn = 0; index = 1; part = 0 };
-      shard = 12;
-      call = Calls.Get (codes "a");
-      reply = Replies.Hit 0 28 (codes "x");
-      stamp = 3;
-    }
-    ∷ []
+apart_entries = missed 5 (codes "b") ∷ stored_and_found
 
 -- the summary of all its runs: 29 bytes for connection 0, and 5 for connection 1
 abbrev pub apart_summary : Summary

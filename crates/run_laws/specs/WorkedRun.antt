@@ -17,17 +17,20 @@ worked_records =
     ∷ Kinds.Segment (record { conn = 0; bytes = codes "gets a\r\nget" })
     ∷ []
 
--- one of its legal runs on 16 shards: connection 1 is first
-abbrev pub worked_entries : List Entry
-worked_entries =
+-- at stamp 1 connection 1 gets a key of a shard, which has no item
+abbrev pub missed : ℕ → List ℕ → Entry
+missed shard key = record {
+  tag = record { conn = 1; index = 0; part = 0 };
+  shard = shard;
+  call = Calls.Get key;
+  reply = Replies.Miss;
+  stamp = 1;
+}
+
+-- connection 0 stores "a" at stamp 2, and then gets it
+abbrev pub stored_and_found : List Entry
+stored_and_found =
     record {
-      tag = record { conn = 1; index = 0; part = 0 };
-      shard = 12;
-      call = Calls.Get (codes "a");
-      reply = Replies.Miss;
-      stamp = 1;
-    }
-    ∷ record {
       tag = record { conn = 0; index = 0; part = 0 };
       shard = 12;
       call = Calls.Set (codes "a") 0 (codes "x");
@@ -42,6 +45,10 @@ worked_entries =
       stamp = 3;
     }
     ∷ []
+
+-- one of its legal runs on 16 shards: connection 1 is first
+abbrev pub worked_entries : List Entry
+worked_entries = missed 12 (codes "a") ∷ stored_and_found
 
 -- the outputs that belong to this run, session by session
 abbrev pub worked_outputs : List (List (List ℕ))

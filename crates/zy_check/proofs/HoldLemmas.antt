@@ -2,6 +2,7 @@
 use Rattle.std.specs.List.{slice_get, slice_set}
 use Rattle.std.proofs.Common.{◌≡◌, ◌≢◌, inl, inr, ◌⊎◌, ℕ, ◌+◌, ◌<◌, ◌≤◌, List, [], ◌∷◌, ◌++◌, length, get_or, Option, None, Some, refl, sym, ap, ◌∙◌, arith}
 use Rattle.std.proofs.lemmas.List.{length-set, get_or-set_same, get_or-set_other}
+use Rattle.std.proofs.lemmas.Option.{slice_get_read}
 use Rattle.std.proofs.lemmas.Bool.Decides.{eqb_tells}
 use mathlib.Core.Logic.{dite}
 use native.Mathlib.Decide.{ℕ_discrete}
@@ -11,6 +12,7 @@ use Rattle.zy_check.specs.declared.track.Track.{Track}
 use Rattle.zy_check.specs.Given.{Given, IsHeld}
 use Rattle.zy_check.specs.Held.{AreSums, FoundStray}
 use Rattle.zy_check.specs.Missing.{AreEnded}
+use Rattle.zy_check.proofs.ListLemmas.{read_at}
 use Rattle.zy_check.proofs.StepLemmas.{ended_count}
 
 -- ---- the sum of a connection
@@ -72,7 +74,7 @@ sums_same count before h sums past are =
     }
 
 -- a connection at its end is held exactly where its sum is the number of its commands
-pub held_exactly : (g : Given) (tracks : List Track) (count conn sum : ℕ) (hs : List Hold) (sums : List ℕ) (t : Track) → AreEnded g tracks → AreSums count hs sums → hs ≡ g.holds → conn < count
+held_exactly : (g : Given) (tracks : List Track) (count conn sum : ℕ) (hs : List Hold) (sums : List ℕ) (t : Track) → AreEnded g tracks → AreSums count hs sums → hs ≡ g.holds → conn < count
     → slice_get tracks conn ≡ Some t → get_or sums conn 0 ≡ sum → (sum ≡ t.commands → IsHeld g conn) × (IsHeld g conn → sum ≡ t.commands)
 held_exactly g tracks count conn sum hs sums t ended are holds below is sum_is =
     let commands = ended_count g tracks conn t ended is in
@@ -80,6 +82,14 @@ held_exactly g tracks count conn sum hs sums t ended are holds below is sum_is =
       (λ same. held ∙ same ∙ commands),
       (λ same. sym held ∙ same ∙ sym commands),
     )
+
+-- the same of what is read at a place
+pub held_at : (g : Given) (tracks : List Track) (count conn sum : ℕ) (hs : List Hold) (sums : List ℕ) (t : Track) → AreEnded g tracks → AreSums count hs sums → hs ≡ g.holds → count ≡ length g.streams → conn < count → t ≡ get_or tracks conn t → sum ≡ get_or sums conn sum
+    → (sum ≡ t.commands → IsHeld g conn) × (IsHeld g conn → sum ≡ t.commands)
+held_at g tracks count conn sum hs sums t ended are holds all below track_is sum_is =
+    let size = ended.count in
+    let summed = are.count_is in
+    held_exactly g tracks count conn sum hs sums t ended are holds below (slice_get_read tracks _ conn t refl (omega (arith, size, all, below)) track_is) (read_at sums conn sum 0 (omega (arith, summed, below)) sum_is)
 
 -- ---- connections that are not there
 

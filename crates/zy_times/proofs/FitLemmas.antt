@@ -8,6 +8,8 @@ use native.Mathlib.Decide.{dec_lt}
 use Rattle.zy_capture.specs.declared.record.Record.{Record}
 use Rattle.zy_capture.specs.Streams.{closes}
 use Rattle.zy_check.proofs.ListLemmas.{there}
+use Rattle.zy_times.specs.declared.line.Line.{Line}
+use Rattle.zy_times.specs.Line.{LineHolds}
 use Rattle.zy_times.specs.First.{AreRises}
 use Rattle.zy_times.specs.Times.{Recording, marks_by, marks_in, answered_in, answered_between, first_in, sent_by, sent_until, number_if, FitAt, MarksFit}
 use Rattle.zy_times.specs.InTime.{IsEarlyEnd}
@@ -15,7 +17,8 @@ use Rattle.zy_times.specs.Fitting.{SessionFits, IsUnfitAt, FoundUnfitSession, Fo
 use Rattle.zy_times.proofs.FirstLemmas.{later, at_first, never_above, in_order}
 use Rattle.zy_times.proofs.TrueLemmas.{between_rises}
 use Rattle.zy_times.proofs.RecordLemmas.{marks_past}
-use Rattle.zy_times.proofs.SessionLemmas.{none_past, marks_grow, marks_stay, answered_later}
+use Rattle.zy_times.proofs.LineLemmas.{sent_long}
+use Rattle.zy_times.proofs.SessionLemmas.{first_few, none_past, marks_grow, marks_stay, answered_later}
 
 -- ---- a session
 
@@ -177,3 +180,10 @@ module _ (r : Recording) (count : ℕ) (others : (conn session moment : ℕ) →
   pub early_end : (moment : ℕ) → FoundUnfitConnection r count (Some moment) → IsEarlyEnd r (moment - 1)
   early_end zero found = let some = found.0 in absurd (omega (arith, some))
   early_end (suc moment) found = let is : moment ≡ suc moment - 1 = omega arith in subst (IsEarlyEnd r) is (early_end_next moment found)
+
+-- a command before the end of a session was sent
+pub sent_within : (r : Recording) (conn : ℕ) (line : Line) → LineHolds r.records conn line → (session index last : ℕ) → last ≡ first_in r conn (session + 1) → index < last → index < length line.sent.items
+sent_within r conn line h session index last end low =
+    let few = first_few r conn (session + 1) in
+    let long = sent_long r.records conn line h in
+    omega (arith, end, low, few, long)

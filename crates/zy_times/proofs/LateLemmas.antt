@@ -1,10 +1,11 @@
 -- Walking through the entries: the latest moment at which a command was sent so far.
 use Rattle.std.specs.List.{slice_get}
-use Rattle.std.proofs.Common.{◌≡◌, ℕ, ◌+◌, ◌<◌, ◌≤◌, max, List, length, Option, None, Some, refl, sym, ap, ◌∙◌, subst, arith}
+use Rattle.std.proofs.Common.{◌≡◌, ℕ, ◌+◌, ◌<◌, ◌≤◌, max, List, ◌∷◌, length, drop, Option, None, Some, refl, sym, ap, ◌∙◌, subst, arith}
 use Rattle.std.specs.Prelude.{◌↔◌}
 use mathlib.Core.Logic.{dite}
 use native.Mathlib.Decide.{dec_lt}
 use Rattle.mc_calls.specs.declared.entry.Entry.{Entry}
+use Rattle.zy_check.proofs.WalkLemmas.{left_first}
 use Rattle.zy_times.specs.First.{AreRises}
 use Rattle.zy_times.specs.Times.{Recording, sent_by}
 use Rattle.zy_times.specs.InTime.{IsEntrySent, IsEntryEnded, AreLate, IsOutOfTime}
@@ -95,3 +96,7 @@ out_of_time r at moment first late unsent = record {
         dite (dec_lt other.0 first)
         (λ below. absurd (other.2.2 (unsent.before other.0 other.2.0 below other.2.1)))
         (λ above. omega (arith, near, above))
+
+-- the first entry that is left of a journal is the one at its place
+pub entry_there : (r : Recording) (es : List Entry) (at : ℕ) (e : Entry) (rest : List Entry) → r.entries ≡ es → drop at es ≡ e ∷ rest → slice_get r.entries at ≡ Some e
+entry_there r es at e rest are left = ap (λ (l : List Entry). slice_get l at) are ∙ (left_first es at e rest left).0

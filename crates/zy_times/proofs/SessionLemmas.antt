@@ -1,6 +1,7 @@
 -- Sessions: where their commands begin and end, and how what is counted of them grows.
 use Rattle.std.specs.List.{slice_get}
-use Rattle.std.proofs.Common.{◌≡◌, ℕ, ◌+◌, ◌<◌, ◌≤◌, Bool, true, false, List, length, take, drop, None, Some, sym, ap, ◌∙◌, arith}
+use Rattle.std.proofs.Common.{◌≡◌, ℕ, ◌+◌, ◌<◌, ◌≤◌, Bool, true, false, List, length, take, drop, get_or, None, Some, sym, ap, ◌∙◌, arith}
+use Rattle.std.proofs.lemmas.Option.{slice_get-get_or}
 use Rattle.std.proofs.lemmas.List.{take_all, take-append-drop, length-append, length-map}
 use Rattle.std.proofs.lemmas.List.Concat.{flat_map-append}
 use Rattle.mc_calls.specs.Order.{of_connection}
@@ -16,7 +17,7 @@ use Rattle.zy_check.proofs.ListLemmas.{there, take_one}
 use Rattle.zy_times.specs.First.{Grows}
 use Rattle.zy_times.specs.Times.{Recording, sent_by, marks_by, marks_in, answered_in, answered_between, first_in, sent_until, number_if, IsSent, IsEnded}
 use Rattle.zy_times.proofs.FirstLemmas.{later}
-use Rattle.zy_times.proofs.TrueLemmas.{between_rises, between_more, between_few}
+use Rattle.zy_times.proofs.TrueLemmas.{between_none, between_rises, between_more, between_few}
 use Rattle.zy_times.proofs.CountLemmas.{count_grows, count_stays}
 use Rattle.zy_times.proofs.RecordLemmas.{commands_count, commands_rise, marks_rise, over_length}
 
@@ -105,15 +106,38 @@ answered_long r conn =
     length-map (texts_of (commands_in r.records conn) (of_connection conn r.entries)) has_bytes ∙ length-texts_from 0 (commands_in r.records conn) (of_connection conn r.entries)
 
 -- one further command of a session, which is answered or not
-pub one_more : (r : Recording) (conn session index ended : ℕ) (flag : Bool) → first_in r conn session ≤ index → ended ≡ answered_between r conn (first_in r conn session) index → slice_get (answered_in r conn) index ≡ Some flag
+one_more : (r : Recording) (conn session index ended : ℕ) (flag : Bool) → first_in r conn session ≤ index → ended ≡ answered_between r conn (first_in r conn session) index → slice_get (answered_in r conn) index ≡ Some flag
     → ended + number_if flag ≡ answered_between r conn (first_in r conn session) (index + 1)
 one_more r conn session index ended flag from is there =
     ap (λ (n : ℕ). n + number_if flag) is ∙ sym (between_more (answered_in r conn) (first_in r conn session) index flag from there)
 
 -- no more are answered than there are
-pub ended_few : (r : Recording) (conn session index ended : ℕ) → ended ≡ answered_between r conn (first_in r conn session) index → ended ≤ index
+ended_few : (r : Recording) (conn session index ended : ℕ) → ended ≡ answered_between r conn (first_in r conn session) index → ended ≤ index
 ended_few r conn session index ended is = let few = between_few (answered_in r conn) (first_in r conn session) index in omega (arith, is, few)
 
-pub one_at_most : (flag : Bool) → number_if flag ≤ 1
+one_at_most : (flag : Bool) → number_if flag ≤ 1
 one_at_most true = omega arith
 one_at_most false = omega arith
+
+-- the same with the command
+pub ended_most : (r : Recording) (conn session index ended : ℕ) (flag : Bool) → ended ≡ answered_between r conn (first_in r conn session) index → ended + number_if flag ≤ index + 1
+ended_most r conn session index ended flag is = let few = ended_few r conn session index ended is in let one = one_at_most flag in omega (arith, few, one)
+
+-- before the first command of a session none of it is answered
+pub at_begin : (r : Recording) (conn session first : ℕ) → first ≡ first_in r conn session → (first_in r conn session ≤ first) × ((first ≤ first_in r conn (session + 1)) × (0 ≡ answered_between r conn (first_in r conn session) first))
+at_begin r conn session first is =
+    let grows = first_grows r conn session in
+    (omega (arith, is), (omega (arith, is, grows), sym (between_none (answered_in r conn) (first_in r conn session) first (omega (arith, is)))))
+
+-- ---- the flag of a command of a session
+
+module _ (r : Recording) (conn session index last : ℕ) (flags : List Bool) (are : flags ≡ answered_in r conn) (end : last ≡ first_in r conn (session + 1)) (low : index < last) where
+  pub flag_within : index < length flags
+  flag_within =
+      let few = first_few r conn (session + 1) in
+      let long = ap (λ (l : List Bool). length l) are ∙ answered_long r conn in
+      omega (arith, end, low, few, long)
+
+  -- it is counted with those before it
+  pub flag_more : (ended : ℕ) → first_in r conn session ≤ index → ended ≡ answered_between r conn (first_in r conn session) index → ended + number_if (get_or flags index false) ≡ answered_between r conn (first_in r conn session) (index + 1)
+  flag_more ended from is = one_more r conn session index ended (get_or flags index false) from is (ap (λ (l : List Bool). slice_get l index) (sym are) ∙ slice_get-get_or flags index false flag_within)

@@ -1,16 +1,19 @@
 -- The times of all connections, one connection after the other.
 use Rattle.std.specs.List.{slice_get}
 use Rattle.std.specs.Prelude.{◌↔◌, is_some}
-use Rattle.std.proofs.Common.{◌≡◌, ℕ, zero, suc, ◌+◌, Bool, true, List, [], ◌∷◌, ◌++◌, length, map, Option, None, Some, refl, sym, ap, ◌∙◌, subst, arith}
+use Rattle.std.proofs.Common.{◌≡◌, ℕ, zero, suc, ◌+◌, ◌<◌, Bool, true, List, [], ◌∷◌, ◌++◌, length, get_or, map, Option, None, Some, refl, sym, ap, ◌∙◌, subst, arith}
 use Rattle.std.proofs.lemmas.List.{length-append, length-map}
-use Rattle.std.proofs.lemmas.Option.{slice_get_within}
+use Rattle.std.proofs.lemmas.Option.{slice_get_read, slice_get_within}
 use mathlib.Core.Logic.{dite}
 use native.Mathlib.Decide.{dec_lt}
 use Rattle.zy_check.proofs.ListLemmas.{there, get_append, get_behind}
-use Rattle.zy_times.specs.Times.{Recording, IsEnded, trues}
+use Rattle.zy_times.specs.Times.{Recording, IsEnded, answered_in, trues}
 use Rattle.zy_times.specs.InTime.{total_below, AreEndedFlags, EndedOfAll}
+use Rattle.zy_times.specs.declared.line.Line.{Line}
 use Rattle.zy_times.specs.declared.spans.Spans.{Spans}
-use Rattle.zy_times.specs.Recorded.{AreSpans}
+use Rattle.zy_times.specs.declared.times.Times.{Times}
+use Rattle.zy_times.specs.Line.{LineHolds}
+use Rattle.zy_times.specs.Recorded.{IsKept, AreSpans}
 use Rattle.zy_times.specs.Ending.{IsEndedFrom, AreEnds}
 
 -- one further element, of which something holds at its place
@@ -76,3 +79,9 @@ ended_of_all r count spans number are is = record {
       subst (AreEndedFlags r conn) (sym (flags_here spans conn at.0 at.1)) (are_flags r conn at.0.items (are.each conn at.0 at.1));
   adds = is;
 }
+
+-- a connection that is gone over has its times, and the flags of its commands
+pub line_there : (r : Recording) (count : ℕ) (times : Times) (answered : List (List Bool)) → IsKept r count times answered → (conn : ℕ) (line : Line) (flags : List Bool) → conn < length times.lines.items → line ≡ get_or times.lines.items conn line → slice_get answered conn ≡ Some flags
+    → LineHolds r.records conn line × (flags ≡ answered_in r conn)
+line_there r count times answered kept conn line flags low is there =
+    (kept.times_hold.each conn line (slice_get_read times.lines.items _ conn line refl low is), kept.flags conn flags there)

@@ -4,7 +4,7 @@ use Rattle.std.proofs.lemmas.Option.{slice_get_within}
 use Rattle.mc_calls.specs.declared.entry.Entry.{Entry}
 use Rattle.zy_check.proofs.WalkLemmas.{left_first, none_left}
 use Rattle.zy_times.specs.Recorded.{CameBefore}
-use Rattle.zy_times.proofs.LateLemmas.{before_first, before_more, late_here}
+use Rattle.zy_times.proofs.LateLemmas.{before_first, before_more, late_here, entry_there}
 use Rattle.zy_times.proofs.late.first_late.Goals as goal
 
 pub loop-at-init : goal.loop-at-init
@@ -23,24 +23,19 @@ returns-in_default c = record {
 pub end_of-end-requires : goal.end_of-end-requires
 end_of-end-requires c =
     let h = c.requires.holds in
-    let at = c.loop-at.at in
-    let first = left_first c.args.journal.now.entries at c.in-Some.entry.now c.next.new.self (sym c.loop-at.invariant.left ∙ c.in-Some.ensures.some) in
-    record { holds = (h.0, h.1, at, h.2.of_run, h.4, ap (λ (es : List Entry). slice_get es at) h.3 ∙ first.0) }
+    record { holds = (h.0, h.1, c.loop-at.at, h.2.of_run, h.4, entry_there h.0 c.args.journal.now.entries c.loop-at.at c.in-Some.entry.now c.next.new.self h.3 (sym c.loop-at.invariant.left ∙ c.in-Some.ensures.some)) }
 
 pub sent_of-requires : goal.sent_of-requires
 sent_of-requires c =
     let h = c.requires.holds in
-    let at = c.loop-at.at in
-    let first = left_first c.args.journal.now.entries at c.in-Some.entry.now c.next.new.self (sym c.loop-at.invariant.left ∙ c.in-Some.ensures.some) in
-    record { holds = (h.0, h.1, at, h.2, ap (λ (es : List Entry). slice_get es at) h.3 ∙ first.0) }
+    record { holds = (h.0, h.1, c.loop-at.at, h.2, entry_there h.0 c.args.journal.now.entries c.loop-at.at c.in-Some.entry.now c.next.new.self h.3 (sym c.loop-at.invariant.left ∙ c.in-Some.ensures.some)) }
 
 pub returns-in-Some-end_before : goal.returns-in-Some-end_before
 returns-in-Some-end_before c = record {
   found = λ r count h is spans.
       let at = c.loop-at.at in
       let e = c.in-Some.entry.now in
-      let first = left_first c.args.journal.now.entries at e c.next.new.self (sym c.loop-at.invariant.left ∙ c.in-Some.ensures.some) in
-      let here : slice_get r.entries at ≡ Some e = ap (λ (es : List Entry). slice_get es at) is ∙ first.0 in
+      let here : slice_get r.entries at ≡ Some e = entry_there r c.args.journal.now.entries at e c.next.new.self is (sym c.loop-at.invariant.left ∙ c.in-Some.ensures.some) in
       let some = c.end_before.ensures.some c.in-Some-end_before.moment c.in-Some-end_before.is in
       late_here r at c.loop-at.latest e c.end_of-end.result here (c.end_of-end.ensures.ends r count at h.of_run spans here) (c.loop-at.invariant.before r count h is spans) c.in-Some-end_before.moment some.0 some.1;
 }

@@ -5,22 +5,20 @@ use native.Mathlib.Decide.{dec_lt}
 use Rattle.mc_calls.specs.declared.entry.Entry.{Entry}
 use Rattle.zy_check.proofs.WalkLemmas.{left_first}
 use Rattle.zy_times.specs.InTime.{IsEntrySent}
+use Rattle.zy_times.proofs.LateLemmas.{entry_there}
 use Rattle.zy_times.proofs.late.first_unsent.Goals as goal
 
 pub sent_of-requires : goal.sent_of-requires
 sent_of-requires c =
     let h = c.requires.holds in
-    let at = c.loop-at.at in
-    let first = left_first c.args.journal.now.entries at c.in-Some.entry.now c.next.new.self (sym c.loop-at.invariant.left ∙ c.in-Some.ensures.some) in
-    record { holds = (h.0, h.1, at, h.2, ap (λ (es : List Entry). slice_get es at) h.3 ∙ first.0) }
+    record { holds = (h.0, h.1, c.loop-at.at, h.2, entry_there h.0 c.args.journal.now.entries c.loop-at.at c.in-Some.entry.now c.next.new.self h.3 (sym c.loop-at.invariant.left ∙ c.in-Some.ensures.some)) }
 
 pub returns-then-moment-sent_of : goal.returns-then-moment-sent_of
 returns-then-moment-sent_of c = record {
   found = λ r count h is.
       let at = c.loop-at.at in
       let e = c.in-Some.entry.now in
-      let first = left_first c.args.journal.now.entries at e c.next.new.self (sym c.loop-at.invariant.left ∙ c.in-Some.ensures.some) in
-      let here : slice_get r.entries at ≡ Some e = ap (λ (es : List Entry). slice_get es at) is ∙ first.0 in
+      let here : slice_get r.entries at ≡ Some e = entry_there r c.args.journal.now.entries at e c.next.new.self is (sym c.loop-at.invariant.left ∙ c.in-Some.ensures.some) in
       let low = c.if-moment-sent_of.true in
       record {
         e = e;

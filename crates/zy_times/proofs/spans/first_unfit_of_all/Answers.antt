@@ -1,24 +1,14 @@
-use Rattle.std.proofs.Common.{◌+◌, refl, sym, subst, arith}
-use Rattle.std.proofs.lemmas.Option.{slice_get_read}
+use Rattle.std.proofs.Common.{◌+◌, sym, subst, arith}
 use Rattle.zy_times.specs.Fitting.{FoundUnfitConnection}
 use Rattle.zy_times.proofs.FitLemmas.{unfit_connections}
+use Rattle.zy_times.proofs.SpanLemmas.{line_there}
 use Rattle.zy_times.proofs.spans.first_unfit_of_all.Goals as goal
 
 pub first_unfit-requires : goal.first_unfit-requires
 first_unfit-requires c =
-    let kept = c.requires.kept.2 in
-    let conn = c.loop-conn.conn in
-    let low = c.loop-conn-test.true in
-    let len = c.len-conn-end.ensures in
-    let line = c.index.result.now in
-    record {
-      holds = (
-        c.requires.kept.0,
-        conn,
-        kept.times_hold.each conn line (slice_get_read c.args.times.now.lines.items _ conn line refl (omega (arith, low, len)) c.index.ensures),
-        kept.flags conn c.of.result.now c.of.ensures.value,
-      );
-    }
+    let h = c.requires.kept in
+    let there = line_there h.0 h.1 c.args.times.now c.args.answered.now h.2 c.loop-conn.conn c.index.result.now c.of.result.now (omega (arith, c.len-conn-end.ensures, c.loop-conn-test.true)) c.index.ensures c.of.ensures.value in
+    record { holds = (h.0, c.loop-conn.conn, there.0, there.1) }
 
 pub loop-conn-preserved : goal.loop-conn-preserved
 loop-conn-preserved c = λ r count kept.
@@ -27,9 +17,8 @@ loop-conn-preserved c = λ r count kept.
     let low = c.loop-conn-test.true in
     let len = c.len-conn-end.ensures in
     let size = kept.times_hold.count_is in
-    let line = c.index.result.now in
-    let held = kept.times_hold.each conn line (slice_get_read c.args.times.now.lines.items _ conn line refl (omega (arith, low, len)) c.index.ensures) in
-    let here = c.first_unfit.ensures.found r conn held (kept.flags conn c.of.result.now c.of.ensures.value) in
+    let there = line_there r count c.args.times.now c.args.answered.now kept conn c.index.result.now c.of.result.now (omega (arith, low, len)) c.index.ensures c.of.ensures.value in
+    let here = c.first_unfit.ensures.found r conn there.0 there.1 in
     record {
       within = omega (arith, low, len, size);
       found = subst (FoundUnfitConnection r (conn + 1)) (sym c.earlier-found.ensures.value)

@@ -8,11 +8,7 @@ pub returns : goal.returns
 returns c = record {
   value = λ r count are.
       let inv = c.loop-conn.invariant in
-      let size = are.size in
-      let within = inv.within in
-      let len = c.len-conn-end.ensures in
-      let past = c.loop-conn-test.false in
-      let all : c.loop-conn.conn ≡ count = omega (arith, size, within, len, past) in (
+      let all : c.loop-conn.conn ≡ count = omega (arith, are.size, inv.within, c.len-conn-end.ensures, c.loop-conn-test.false) in (
         inv.commands r count are ∙ ap (commands_of_all r) all,
         ended_of_all r count c.args.self.now c.loop-conn.ended are (inv.ended ∙ ap (total_below (λ conn. trues (flags_at c.args.self.now conn))) all),
       );

@@ -1,6 +1,6 @@
 use Rattle.std.proofs.Common.{refl}
 use Rattle.zy_capture.specs.Replies.{replies_bytes}
-use Rattle.format_laws.proofs.replies.worked_replies.Goals as goal
+use Rattle.format_laws.proofs.examples.worked_replies.Goals as goal
 
 pub returns-clause-written : goal.returns-clause-written
 unfolding replies_bytes
