@@ -7,13 +7,14 @@ over after which they are.
 from __future__ import annotations
 
 import functools
-from collections import deque
-from collections.abc import Iterable, Iterator, Sequence
-from typing import Generic, NamedTuple, TypeVar
+from collections.abc import Iterator, Sequence
+from typing import NamedTuple
 
-from zygos_tools.protocol.answers import FAULT, Group, answers, first_word, groups, name_of, without_uniques
-from zygos_tools.protocol.meaning import Command, words_of
-from zygos_tools.protocol.table import BY_WORD, TELLING, Kind
+from zygos_tools.comparing.ahead import (EIGHT, LOOK, MOST_KEPT, MOVES, MOVES_OF_ANSWERS, PAIRED, WEIGHTS, Agreement,
+                                         AnswersAhead, GroupsAhead, Move, fits, is_silent)
+from zygos_tools.protocol.answers import FAULT, Group, answers, groups, name_of, without_uniques
+from zygos_tools.protocol.meaning import Command
+from zygos_tools.protocol.table import TELLING
 
 # the number of an answer, and its bytes; None in place of bytes where there is none
 Numbered = tuple[int, "bytes | None"]
@@ -39,48 +40,13 @@ class Exchange(NamedTuple):
 # with the number of answers that are left of the other; and all that is left, where both are never in step again
 BOTH, ALONE, ENDED, LEFT = "both", "alone", "ended", "left"
 
-# how many answers are looked at ahead, how many are passed over at most, and for how many the step is not asked again
-# while they fit their commands: for twice as many each time that both are in step
-LOOK, MOST, LEAST_SURE, MOST_SURE = 64, 8, 16, 1024
+# for how many answers the step is not asked again while they fit their commands: for twice as many each time that both
+# are in step
+LEAST_SURE, MOST_SURE = 16, 1024
 # how many are looked at for one command that may be silent
 SHORT = 16
-# what counts of each eight answers ahead that differ
-WEIGHTS = (1, 0.7, 0.5, 0.35, 0.25, 0.18, 0.12, 0.09)
 
-
-class Move(NamedTuple):
-    """How far the answers of both are passed over, how many commands, and what that costs."""
-
-    one: int
-    other: int
-    groups: int
-    cost: float
-
-
-# how many lines and answers are kept with what is known of them, as each is looked at in many moves
-MOST_KEPT = 1 << 13
-
-
-@functools.lru_cache(MOST_KEPT)
-def kind_and_words(line: bytes) -> tuple[Kind | None, list[bytes]]:
-    """The command of a line, if memcached has it, and its words."""
-    words = words_of(line)
-    return BY_WORD.get(words[0]) if words else None, words
-
-
-@functools.lru_cache(2 * MOST_KEPT)
-def fits(line: bytes, answer: bytes) -> bool:
-    """Whether an answer can be that of the command of a line."""
-    if FAULT.match(answer):
-        return True
-    kind, words = kind_and_words(line)
-    if kind is None:
-        return False
-    if answer.startswith(b"VALUE "):
-        return kind.fits(b"VALUE") and answer[:400].split(b" ", 2)[1] in words
-    return kind.fits(first_word(answer))
-
-
+# what is known of answers that differ is kept, as some come again and again
 unmarked = functools.lru_cache(MOST_KEPT)(without_uniques)
 
 
@@ -88,58 +54,6 @@ def alike(one: bytes, other: bytes) -> bool:
     """Whether two answers are the same but for the numbers of their uniques."""
     return one == other or one[:2] == other[:2] and unmarked(one) == unmarked(other)
 
-
-Given = TypeVar("Given")
-
-
-class Ahead(Generic[Given]):
-    """What an iterator gives, and what comes after it; `taken` were passed over."""
-
-    def __init__(self, source: Iterable[Given]):
-        self.source, self.kept, self.taken = iter(source), deque[Given](), 0
-
-    def get(self, at: int = 0) -> Given | None:
-        """The next one, or one after it; None where there is none."""
-        while len(self.kept) <= at:
-            found = next(self.source, None)
-            if found is None:
-                return None
-            self.kept.append(found)
-        return self.kept[at]
-
-    def take(self) -> tuple[int, Given | None]:
-        """The next one after its number."""
-        found = self.get()
-        if found is not None:
-            self.kept.popleft()
-            self.taken += 1
-        return self.taken - (found is not None), found
-
-    def left(self) -> int:
-        """How many there are; they are passed over."""
-        count = len(self.kept) + sum(1 for _ in self.source)
-        self.kept.clear()
-        return count
-
-
-class AnswersAhead(Ahead[bytes]):
-    """The answers of an output."""
-
-    def take_group(self, group: Group) -> Numbered:
-        """The answers of the commands of a group, as one after the number of the first."""
-        first = self.taken
-        found: list[bytes] = []
-        while len(found) < len(group) and (answer := self.take()[1]) is not None:
-            found.append(answer)
-            if group.is_last(found):
-                break
-        return first, b"".join(found) or None
-
-
-def is_silent(group: Group) -> bool:
-    """Whether a command is one that zygos answers and a memcached mostly does not: a faulty line with noreply."""
-    _, line, command = group[0]
-    return command.verb == "fault" and len(group) == 1 and line.rstrip().endswith(b" noreply")
 
 
 def is_fault(answer: bytes | None) -> bool:
@@ -167,7 +81,8 @@ class Steps:
 
     def __init__(self, one: bytes, other: bytes, stream: bytes | None = None):
         self.one, self.other = AnswersAhead(answers(one)), AnswersAhead(answers(other))
-        self.groups = None if stream is None else Ahead(groups(stream))
+        self.groups = None if stream is None else GroupsAhead(groups(stream))
+        self.agreement = Agreement(self.one, self.other, self.groups)
         self.sure, self.next_sure = 0, LEAST_SURE
 
     def exchange(self, kind: str, group: Group | None, one: Numbered, other: Numbered) -> Exchange:
@@ -288,22 +203,21 @@ class Steps:
     def move(self) -> Move | None:
         """What is passed over so that both are in step; a move of nothing where they are; None if they never are."""
         stay = Move(0, 0, 0, 0)
-        if self.sure and all(self.fits(self.line(0), side.get() or b"") for side in (self.one, self.other)):
+        if self.sure and self.are_fitting():
             return stay
-        differ, odd, seen = self.ahead()
+        is_plain = self.groups is None or self.groups.are_plain()
+        differ, odd, seen = self.agreement.look() if is_plain else self.ahead()
         if differ <= seen // (2 if self.groups else 8) and not odd:
             self.be_sure()
             return stay
-        best, least = stay, self.cost(stay, LOOK * 4)
-        for count in range(1, MOST + 1):
-            for move in (Move(1, 1 + count, 1 + count, count), Move(1 + count, 1, 1 + count, count)):
-                cost = self.cost(move, least, True)
-                if cost < least:
-                    best, least = stay, cost
-        for move in self.moves():
-            cost = self.cost(move, least)
-            if cost < least:
-                best, least = move, cost
+        cost = self.agreement.cost if is_plain else self.cost
+        best, least = stay, cost(stay, LOOK * 400)
+        for move in PAIRED:
+            least = min(least, cost(move, least, True))
+        for move in MOVES if self.groups else MOVES_OF_ANSWERS:
+            found = cost(move, least)
+            if found < least:
+                best, least = move, found
         if best is stay and odd > seen and seen > 4:
             return None
         if best is stay and not odd:
@@ -315,14 +229,12 @@ class Steps:
     def be_sure(self) -> None:
         self.sure, self.next_sure = self.next_sure, min(2 * self.next_sure, MOST_SURE)
 
-    def moves(self) -> Iterator[Move]:
-        for count in range(1, MOST + 1):
-            yield Move(0, count, count, count)
-            yield Move(count, 0, count, count)
-            if self.groups:
-                yield Move(0, count, 0, count + 0.5)
-                yield Move(count, 0, 0, count + 0.5)
-                yield Move(0, 0, count, count + 1)
+    def are_fitting(self) -> bool:
+        """Whether both next answers can be those of the next command."""
+        group = self.groups.get() if self.groups else None
+        if not self.groups or not group or len(group) > 1:
+            return True
+        return self.groups.token_fits(self.one.token()) and self.groups.token_fits(self.other.token())
 
     def pairs(self, one_at: int, other_at: int,
               group_at: int) -> Iterator[tuple[bytes | None, bytes | None, bytes | None]]:
@@ -367,21 +279,21 @@ class Steps:
     def fits(line: bytes | None, answer: bytes) -> bool:
         return line is None or fits(line, answer)
 
-    def cost(self, move: Move, most: float, is_paired: bool = False) -> float:
-        """How badly the next answers agree after a move, the nearest most; no more than about `most` is counted."""
+    def cost(self, move: Move, most: int, is_paired: bool = False) -> int:
+        """The same as the cost of an agreement, where commands ahead may have several answers or none."""
         cost = move.cost
-        if is_paired:  # the first answers belong together all the same
+        if is_paired:
             line = self.line(0)
-            cost += 1 + sum(not self.fits(line, side.get() or b"") for side in (self.one, self.other))
+            cost += 100 + 100 * sum(not self.fits(line, side.get() or b"") for side in (self.one, self.other))
         for side, count in ((self.one, move.one), (self.other, move.other)):
             for at in range(is_paired, count if count == move.groups else 0):
                 if (answer := side.get(at)) is not None:
-                    cost += not self.fits(self.line(at), answer)
+                    cost += 100 * (not self.fits(self.line(at), answer))
         for at, (one, other, line) in enumerate(self.pairs(move.one, move.other, move.groups)):
             texts = [text for text in (one, other) if text is not None]
             differ = len(texts) < 2 or one != other and not alike(*texts)
-            cost += WEIGHTS[at // 8] * (differ + sum(not self.fits(line, text) for text in texts[: 1 + differ]))
-            if cost > most:
+            cost += WEIGHTS[at // EIGHT] * (differ + sum(not self.fits(line, text) for text in texts[: 1 + differ]))
+            if cost >= most:
                 break
         return cost
 

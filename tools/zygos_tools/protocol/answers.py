@@ -41,10 +41,19 @@ def block_end(text: bytes, begin: int, at: int, word: int) -> int:
     return at if size is None else min(at + size + 2, len(text))
 
 
+# the line of an item as servers write it, with its length
+USUAL_ITEM = re.compile(rb"VALUE [^ \n]+ [0-9]+ ([0-9]{1,9})(?: [0-9]+)?\r\n")
+
+
 def answer_end(text: bytes, begin: int) -> int:
     """The end of the answer that begins at a place of an output."""
+    first = begin
+    while found := USUAL_ITEM.match(text, begin):  # most answers are such items and an END
+        begin = min(found.end() + int(found[1]) + 2, len(text))
+        if text.startswith(b"END\r\n", begin):
+            return begin + 5
     at = line_end(text, begin)
-    if text.startswith(b"VA ", begin):
+    if begin == first and text.startswith(b"VA ", begin):
         return block_end(text, begin, at, 1)
     while text.startswith(LISTS, begin) and at < len(text):
         if text.startswith(b"VALUE ", begin):
