@@ -132,9 +132,11 @@ class Judge:
                               f" {MOST_TURNS} turns")
             self.clock.set(f"one order of all, {len(sorting.order) / sorting.due:.0%}:"
                            f" {keys_in(circles, self.table)} are fitted to each other")
-            mending.turn(circles, len(sorting.order), stores.in_order() if stores else ())
+            mending.turn(circles, sorting.high, stores.in_order() if stores else ())
             if stores:
+                high = sorting.high
                 sorting, stores = self.linked(graph)
+                sorting.high = high
         order = numbered(graph, stores) if stores else None
         self.keys.orders.listener = None
         self.graph, self.order = graph, graph.ordered(order or sorting.order)

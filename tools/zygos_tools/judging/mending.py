@@ -44,13 +44,13 @@ class Mending:
         self.numbers: Sequence[int] = ()
         self.together: list[set[bytes]] = []
         self.softness: dict[tuple[bytes, tuple[int, ...]], bool] = {}
-        self.effort, self.least, self.furthest, self.turns = 0, FOREVER, -1, 0
+        self.effort, self.least, self.high, self.turns = 0, FOREVER, -1, 0
 
-    def turn(self, circles: list[list[int]], reached: int, numbers: Sequence[int] = ()) -> None:
-        """Mends these circles, those of long times only where no other was mended; `reached` says how far an order got.
-        If it gets no further and the circles don't become fewer, more is tried in the next turn, and at last their
-        keys are searched together."""
-        self.begin_turn(sum(map(len, circles)), reached)
+    def turn(self, circles: list[list[int]], high: int, numbers: Sequence[int] = ()) -> None:
+        """Mends these circles, those of long times only where no other was mended; all are before the call `high`. If
+        the circles don't become fewer, more is tried in the next turn, and at last their keys are searched together.
+        """
+        self.begin_turn(sum(map(len, circles)), high)
         self.numbers = numbers
         joined = self.joined(circles)
         for is_long in (False, True):
@@ -59,12 +59,11 @@ class Mending:
         if self.effort >= MUCH:
             self.search_together(circles)
 
-    def begin_turn(self, size: int, reached: int) -> None:
-        """Sets how much is tried."""
+    def begin_turn(self, size: int, high: int) -> None:
+        """Sets how much is tried; behind where circles were mended so far, not much at first."""
+        if high != self.high:
+            self.high, self.turns, self.effort, self.least = high, 0, 0, FOREVER
         self.turns += 1
-        if reached > self.furthest:
-            self.furthest, self.turns, self.effort, self.least = reached, 1, 0, size
-            return
         self.effort = max(0, self.effort - 1) if size < self.least else self.effort + 1
         self.least = min(size, self.least)
 

@@ -9,6 +9,7 @@ import heapq
 from array import array
 from bisect import bisect_right
 from collections.abc import Callable
+from itertools import chain
 
 from zygos_tools.judging.graph import Graph, Line
 from zygos_tools.judging.orders import Order
@@ -17,7 +18,7 @@ from zygos_tools.judging.table import DROPPED
 # the count of nodes left before one that is in the order, or that there is not
 TAKEN = -1
 # among how many calls circles are looked for at first; how many times as many if there is none among them
-SOME_CALLS, MORE = 512, 4
+SOME_CALLS, MORE = 4096, 4
 LOOKS = 65536
 
 
@@ -25,6 +26,7 @@ class Sorting:
     """`order` has the nodes so far, `at` where each is, and `left` how many of those before a node are not in it.
 
     Of the nodes that can come next the one that probably ended first does. `waiting` has nodes that may be such.
+    `low` is the first call that is left, and circles are mended up to the call `high` before others.
     """
 
     def __init__(self, graph: Graph):
@@ -36,7 +38,7 @@ class Sorting:
         self.order, self.at = array("I"), array("I", bytes(4 * len(self.left)))
         self.waiting = [node for node, left in enumerate(self.left) if not left]
         self.due = len(self.left) - self.left.count(TAKEN)
-        self.low = 0
+        self.low = self.high = 0
 
     def run(self, look: Callable[[], None]) -> bool:
         """Takes nodes into the order until none can come next. Gives whether all are in it."""
@@ -108,32 +110,32 @@ class Sorting:
     # ---- circles
 
     def circles(self, look: Callable[[], None]) -> list[list[int]]:
-        """Circles among the first nodes that are left."""
-        count = SOME_CALLS
+        """Circles among the first calls that are left: up to `high`, and more only if there are none among them."""
+        most = SOME_CALLS
         while True:
-            nodes = self.first_left(count)
+            nodes = self.left_up_to(self.high)
             found = self.graph.circles(nodes, look)
-            if found or len(nodes) == self.due - len(self.order):
+            if found or self.high == self.graph.count:
                 return found
-            count *= MORE
+            self.high, most = self.reach(most), most * MORE
 
-    def first_left(self, most: int) -> list[int]:
-        """The first calls that are left, with the barriers and the losses between them."""
+    def reach(self, most: int) -> int:
+        """The call behind the first ones that are left."""
+        call = self.low
+        while call < self.graph.count and most:
+            most -= self.left[call] != TAKEN
+            call += 1
+        return call
+
+    def left_up_to(self, high: int) -> list[int]:
+        """The nodes that are left up to a call: calls, and the barriers and the losses between them."""
         graph, left = self.graph, self.left
-        found: list[int] = []
         while self.low < graph.count and left[self.low] == TAKEN:
             self.low += 1
-        call = self.low
-        while call < graph.count and len(found) < most:
-            if left[call] != TAKEN:
-                found.append(call)
-            call += 1
-        times = graph.table.begin
-        stop = len(graph.times) if call == graph.count else bisect_right(graph.times, times[graph.table.command[call]])
-        start = bisect_right(graph.times, times[graph.table.command[self.low]]) if self.low < graph.count else 0
-        while start and left[graph.count + start - 1] != TAKEN:
-            start -= 1
-        found += [node for node in range(graph.count + start, graph.count + stop) if left[node] != TAKEN]
-        if graph.lost:
-            found += [node for node in range(graph.base, len(left)) if left[node] != TAKEN]
-        return found
+        begins, commands = graph.table.begin, graph.table.command
+        first, last = [bisect_right(graph.times, begins[commands[call]]) if call < graph.count else len(graph.times)
+                       for call in (self.low, high)]
+        while first and left[graph.count + first - 1] != TAKEN:
+            first -= 1
+        some = chain(range(self.low, high), range(graph.count + first, graph.count + last), range(graph.base, len(left)))
+        return [node for node in some if left[node] != TAKEN]
