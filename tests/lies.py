@@ -19,6 +19,7 @@ from zygos_tools.files.formats import replies_records, replies_version
 from zygos_tools.files.part import Part
 from zygos_tools.judging.events import ADD, CAS, DELETE, FLUSH, FOREVER, GET, INCR, SET, Verdict
 from zygos_tools.judging.judge import Judge
+from zygos_tools.judging.nearby import Nearby
 from zygos_tools.judging.seeing import all_items
 from zygos_tools.judging.table import VERBS
 
@@ -39,7 +40,8 @@ class Liar:
         judge = Judge(capture, self.outputs)
         judge.run()
         self.recording, self.keys, self.table = judge.recording, judge.keys, judge.table
-        self.events = {key: self.keys.view(key).events for key in self.keys.names}
+        self.nearby = Nearby(self.table, self.keys.range_of)
+        self.events = {key: self.keys.calls_on([key]).events for key in self.keys.names}
         self.stored = Counter(self.item(event) for some in self.events.values() for event in some if self.is_store(event))
         self.reads, self.seen = [], {}
         for key in sorted(self.keys.found):
@@ -174,8 +176,8 @@ class Liar:
 
     def only_counted(self, key, one, other):
         """Whether nothing but counting up can have changed a key at the time of two calls."""
-        near = self.keys.overlapping(key, min(one.begin, other.begin), max(one.end, other.end))
-        return all(event.kind == GET or event.kind == INCR and event.want == "number" for event in near)
+        near = self.nearby.overlapping([key], min(one.begin, other.begin), max(one.end, other.end))[key]
+        return all(event.kind == GET or event.kind == INCR and event.want == "number" for event in self.table.events(near))
 
     def unstored(self):
         """An add is answered that it stored nothing, and its value was seen."""

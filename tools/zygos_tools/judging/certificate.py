@@ -26,7 +26,8 @@ from zygos_tools.files.formats import (END, JOURNAL_START, MOST_CONNECTIONS, MOS
                                        segment)
 from zygos_tools.files.part import Part
 from zygos_tools.judging.events import CAS, Unknown
-from zygos_tools.judging.keys import CHANGED, WAS_LOST, Keys, Order
+from zygos_tools.judging.keys import Keys
+from zygos_tools.judging.orders import CHANGED, WAS_LOST, Order
 from zygos_tools.judging.reading import Recording, sessions_of
 from zygos_tools.judging.replay import Replay
 from zygos_tools.judging.table import ANSWERED, DROPPED, LOST, REPLACED, VERBS

@@ -16,7 +16,7 @@ from typing import TYPE_CHECKING, NamedTuple
 from zygos_tools.judging.events import ADD, CAS, DELETE, FLUSH, REPLACE, SET, Event
 
 if TYPE_CHECKING:
-    from zygos_tools.judging.keys import Placed
+    from zygos_tools.judging.orders import Placed
 
 
 class Contradiction(Exception):

@@ -11,40 +11,44 @@ barriers, and its place in the order of its key.
 """
 from __future__ import annotations
 
-import heapq
 from array import array
 from bisect import bisect_right
 from collections import deque
-from collections.abc import Callable, Iterator, Sequence
+from collections.abc import Callable, Iterable, Iterator, Sequence
 
 from zygos_tools.judging.events import FLUSH, FOREVER
-from zygos_tools.judging.keys import CHANGED, WAS_LOST, Order
+from zygos_tools.judging.orders import CHANGED, WAS_LOST, Order
 from zygos_tools.judging.table import DROPPED, LOST, Table
 
 # a part of more nodes is mended by short circles in it: of how many nodes, at most, found among how many
 MOST_NODES, MOST_LENGTH, MOST_REACHED = 150, 12, 500
 NONE = -1
+# by the marks of a call, whether it changed its key; the marks of calls without losses
+IS_CHANGE, NO_LOSS = bytes([mark & CHANGED for mark in range(256)]), bytes([0, CHANGED])
+NOWHERE: dict[int, int] = {}
 
 
 class Line:
-    """The nodes of the order of a key, the losses of its items among them.
+    """The nodes of the order of a key, the losses of its items among them; `is_change` says of each whether it changed
+    the key."""
 
-    `is_change` says of each node whether it changed the key, and `stops` where the next one is that did.
-    """
-
-    __slots__ = ("nodes", "is_change", "stops")
+    __slots__ = ("nodes", "is_change")
 
     def __init__(self, nodes: array[int], is_change: bytearray):
-        self.nodes, self.is_change, self.stops = nodes, is_change, array("I", bytes(4 * len(nodes)))
-        stop = len(nodes)
-        for at in range(len(nodes) - 1, -1, -1):
-            self.stops[at] = stop
-            if is_change[at]:
-                stop = at
+        self.nodes, self.is_change = nodes, is_change
+
+    def stop(self, at: int) -> int:
+        """Where the next node is that changed the key; behind the last one if there is none."""
+        found = self.is_change.find(1, at + 1)
+        return len(self.nodes) if found < 0 else found
+
+    def change_before(self, at: int) -> int:
+        """Where the last node before a place is that changed the key; the first place if there is none."""
+        return max(0, self.is_change.rfind(1, 0, at))
 
     def after(self, at: int) -> Sequence[int]:
         """The nodes after the one of a place."""
-        stop, nodes = self.stops[at], self.nodes
+        stop, nodes = self.stop(at), self.nodes
         if self.is_change[at] and stop > at + 1:
             return nodes[at + 1 : stop]
         return nodes[stop : stop + 1]
@@ -66,8 +70,9 @@ class Line:
 class Graph:
     """Nodes are the calls by their numbers, the barriers behind them, and then the losses of items.
 
-    `following` has the next call of the connection of a call, and `barrier` the first barrier after its end. A call is
-    `kept` if it is in the order of its keys. `lost` has the keys of losses.
+    `following` has the next call of the connection of a call, and `barrier` the first barrier after its end. `spots`
+    has the places of calls in the line of their key, and `flushed` those of flushes in all lines. `lost` has the keys
+    of losses; losses that are `free` are of no key. `left` has how many nodes come directly before each.
     """
 
     def __init__(self, table: Table):
@@ -80,11 +85,13 @@ class Graph:
         self.put_calls()
         self.lines: dict[int, Line] = {}
         self.spots = array("I", bytes(4 * self.count))
-        self.flushed: dict[int, list[tuple[Line, int]]] = {}
+        self.flushed: dict[int, dict[int, int]] = {}
         self.linked: dict[int, list[int]] = {}
         self.lost: list[bytes] = []
-        self.line_of_loss: list[tuple[Line, int]] = []
-        self.kept = bytearray(self.count)
+        self.spot_of_loss: list[tuple[int, int]] = []
+        self.free: list[int] = []
+        self.found: dict[bytes, Order] = {}
+        self.left: list[int] = []
 
     def put_calls(self) -> None:
         """The edges of connections and of times."""
@@ -123,58 +130,80 @@ class Graph:
 
     def link(self, found: dict[bytes, Order]) -> None:
         """Puts the orders of the keys into the graph."""
-        self.lines, self.flushed, self.linked, self.lost, self.line_of_loss = {}, {}, {}, [], []
-        states, commands = self.table.state, self.table.command
-        self.kept = bytearray([not states[command] & (LOST | DROPPED) for command in commands])
-        self.left: list[int] = list(self.before)
+        self.lines, self.flushed, self.linked, self.lost, self.spot_of_loss, self.free = {}, {}, {}, [], [], []
+        self.found, self.left = found, list(self.before)
         for key, order in found.items():
-            self.put_line(key, order)
-        self.keep_whole()
+            number = self.table.key_of[key]
+            line = self.lines[number] = Line(*self.nodes_of(key, order))
+            self.set_spots(number, line, 0, len(line.nodes))
+            for node, many in line.count_before():
+                self.left[node] += many
 
-    def put_line(self, key: bytes, order: Order) -> None:
-        """The order of a key."""
-        nodes, is_change = order.calls, bytearray([mark & CHANGED for mark in order.marks])
-        losses = [at for at, mark in enumerate(order.marks) if mark & WAS_LOST] if any(
-            mark & WAS_LOST for mark in order.marks) else []
-        if losses:
-            nodes, is_change = self.with_losses(key, order, is_change)
-        line, spots, kinds, count = Line(nodes, is_change), self.spots, self.table.kind, self.count
-        self.lines[self.table.key_of[key]] = line
-        for at, node in enumerate(nodes):
-            if node >= count:
-                self.line_of_loss[node - self.base] = line, at
-            elif kinds[node] == FLUSH:
-                self.flushed.setdefault(node, []).append((line, at))
-            else:
-                spots[node] = at
-            if node < count:
-                self.kept[node] = 1
-        for node, many in line.count_before():
-            self.left[node] += many
-
-    def with_losses(self, key: bytes, order: Order, is_change: bytearray) -> tuple[array[int], bytearray]:
-        """The nodes of an order with those of its losses."""
-        nodes, changes = array("I"), bytearray()
-        for call, mark, change in zip(order.calls, order.marks, is_change):
+    def nodes_of(self, key: bytes, order: Order) -> tuple[array[int], bytearray]:
+        """The nodes of calls in their order, and whether each changed the key: the calls, and their losses."""
+        changes = order.marks.translate(IS_CHANGE)
+        if not order.marks.strip(NO_LOSS):
+            return array("I", order.calls), changes
+        nodes, is_change = array("I"), bytearray()
+        for call, mark, change in zip(order.calls, order.marks, changes):
             if mark & WAS_LOST:
-                nodes.append(self.base + len(self.lost))
-                changes.append(1)
-                self.lost.append(key)
-                self.line_of_loss.append((None, 0))  # type: ignore[arg-type]
-                self.left.append(0)
+                nodes.append(self.loss(key))
+                is_change.append(1)
             nodes.append(call)
-            changes.append(change)
-        return nodes, changes
+            is_change.append(change)
+        return nodes, is_change
 
-    def keep_whole(self) -> None:
-        """Keeps all calls of a command of which one is kept."""
-        table = self.table
-        for command, state in enumerate(table.state):
-            if state & LOST and not state & DROPPED:
-                calls = table.calls_of(command)
-                if any(self.kept[call] for call in calls):
-                    for call in calls:
-                        self.kept[call] = 1
+    def loss(self, key: bytes) -> int:
+        """A loss of an item of a key."""
+        if self.free:
+            node = self.free.pop()
+            self.lost[node - self.base] = key
+            return node
+        self.lost.append(key)
+        self.spot_of_loss.append((0, 0))
+        self.left.append(0)
+        return self.base + len(self.lost) - 1
+
+    def set_spots(self, number: int, line: Line, first: int, last: int) -> None:
+        """Notes where the nodes of some places of a line are."""
+        spots, kinds, count, base = self.spots, self.table.kind, self.count, self.base
+        for at in range(first, last):
+            node = line.nodes[at]
+            if node >= base:
+                self.spot_of_loss[node - base] = number, at
+            elif node < count:
+                if kinds[node] == FLUSH:
+                    self.flushed.setdefault(node, {})[number] = at
+                else:
+                    spots[node] = at
+
+    def spot(self, number: int, node: int) -> int:
+        """Where a call is in the line of a key."""
+        return self.flushed[node][number] if self.table.kind[node] == FLUSH else self.spots[node]
+
+    def part_of(self, key: bytes, first: int, last: int) -> tuple[int, Line, int, int]:
+        """The line of a key, with the places in it of some places of its order."""
+        number = self.table.key_of[key]
+        line, calls = self.lines[number], self.found[key].calls
+        if len(line.nodes) == len(calls) or first >= last:
+            return number, line, first, last
+        begin, end = self.spot(number, calls[first]), self.spot(number, calls[last - 1]) + 1
+        return number, line, begin - (begin > 0 and line.nodes[begin - 1] >= self.base), end
+
+    def exchange(self, key: bytes, number: int, first: int, last: int, order: Order) -> int:
+        """Puts nodes in place of others in the line of a key. Gives where they end."""
+        line = self.lines[number]
+        for node in line.nodes[first:last]:
+            if node >= self.base:
+                self.free.append(node)
+            elif self.table.kind[node] == FLUSH:
+                del self.flushed[node][number]
+        nodes, is_change = self.nodes_of(key, order)
+        line.nodes[first:last] = nodes
+        line.is_change[first:last] = is_change
+        end = first + len(nodes)
+        self.set_spots(number, line, first, end if end == last else len(line.nodes))
+        return end
 
     def add_link(self, one: int, other: int) -> None:
         """One call comes before another one."""
@@ -186,22 +215,19 @@ class Graph:
     def by_keys(self, node: int) -> Sequence[int]:
         """The nodes that come after another one by the order of a key."""
         if node >= self.base:
-            line, at = self.line_of_loss[node - self.base]
-            return line.after(at)
+            number, at = self.spot_of_loss[node - self.base]
+            return self.lines[number].after(at)
         if node >= self.count:
             return ()
         table = self.table
+        found: Sequence[int] = ()
         if table.kind[node] == FLUSH:
-            found = [other for line, at in self.flushed.get(node, ()) for other in line.after(at)]
+            found = [other for number, at in self.flushed.get(node, NOWHERE).items()
+                     for other in self.lines[number].after(at)]
         else:
-            mine = self.lines.get(table.key[node]) if self.kept[node] else None
-            at = self.spots[node]
-            if mine is None or at >= len(mine.nodes) or mine.nodes[at] != node:
-                found = []
-            elif node not in self.linked:
-                return mine.after(at)
-            else:
-                found = list(mine.after(at))
+            mine, at = self.lines.get(table.key[node]), self.spots[node]
+            if mine is not None and at < len(mine.nodes) and mine.nodes[at] == node:
+                found = mine.after(at)
         return [*found, *self.linked[node]] if node in self.linked else found
 
     def after(self, node: int) -> list[int]:
@@ -230,32 +256,41 @@ class Graph:
 
     # ---- orders of the whole
 
-    def sorted(self, look: Callable[[], None] = lambda: None) -> tuple[array[int], list[int]]:
-        """The nodes of calls in an order, and the nodes that have none since they are in or behind a circle."""
-        left, hints, commands, count, base = list(self.left), self.table.hint, self.table.command, self.count, self.base
-        states, total, push, pop, after = self.table.state, len(self.left), heapq.heappush, heapq.heappop, self.after
-        ready = [self.weight(node) * total + node for node in range(total) if not left[node]
-                 and not (node < count and states[commands[node]] & DROPPED)]
-        heapq.heapify(ready)
-        order, taken = array("I"), 0
-        while ready:
-            node = pop(ready) % total
-            taken += 1
-            if not taken & 65535:
-                look()
-            left[node] = NONE
-            if node < count or node >= base:
-                order.append(node)
-            for other in after(node):
-                left[other] -= 1
-                if not left[other]:
-                    push(ready, (hints[commands[other]] if other < count else 0) * total + other)
-        return order, [node for node in range(total) if left[node] > 0]
+    def ordered(self, order: Iterable[int]) -> array[int]:
+        """The calls and losses of an order, without the calls that were not made; losses are numbered anew."""
+        kept, count, base = self.kept(), self.count, self.base
+        found = array("I")
+        lost: list[bytes] = []
+        for node in order:
+            if node < count:
+                if kept[node]:
+                    found.append(node)
+            elif node >= base:
+                found.append(base + len(lost))
+                lost.append(self.lost[node - base])
+        self.lost = lost
+        return found
 
-    def ordered(self, order: Sequence[int]) -> array[int]:
-        """An order of nodes without the calls that were not made."""
-        kept, count = self.kept, self.count
-        return array("I", [node for node in order if node >= count or kept[node]])
+    def kept(self) -> bytearray:
+        """Whether each call was made: of the commands that may not have been carried out, those of which a call is in
+        the order of its key."""
+        table = self.table
+        kept = bytearray([not table.state[command] & (LOST | DROPPED) for command in table.command])
+        for command, state in enumerate(table.state):
+            if state & LOST and not state & DROPPED:
+                calls = table.calls_of(command)
+                if any(self.is_in_line(call) for call in calls):
+                    kept[calls.start : calls.stop] = bytes([1] * len(calls))
+        return kept
+
+    def is_in_line(self, call: int) -> bool:
+        """Whether a call is in the order of a key."""
+        if self.table.kind[call] == FLUSH:
+            return bool(self.flushed.get(call))
+        line, at = self.lines.get(self.table.key[call]), self.spots[call]
+        return line is not None and at < len(line.nodes) and line.nodes[at] == call
+
+    # ---- circles
 
     def circles(self, left: list[int], look: Callable[[], None] = lambda: None) -> list[list[int]]:
         """Circles among these nodes: the strongly connected parts of more than one node (Tarjan), and in place of a

@@ -15,6 +15,7 @@ from zygos_tools.judging.mending import MOST_TURNS, Mending, keys_in
 from zygos_tools.judging.numbering import Stores, numbered
 from zygos_tools.judging.reading import Recording
 from zygos_tools.judging.seeing import Seeing
+from zygos_tools.judging.sorting import Sorting
 from zygos_tools.judging.table import DROPPED, HAS_UNIQUE
 
 
@@ -121,26 +122,37 @@ class Judge:
 
     def merge(self) -> None:
         """Makes one order of those of all keys, and mends these where they do not fit."""
+        self.clock.set("one order of all")
         graph, mending = Graph(self.table), Mending(self.table, self.keys, self.clock.look)
-        for turn in range(MOST_TURNS):
-            self.clock.set(f"one order of all, turn {turn + 1}")
-            graph.link(self.keys.found)
-            stores = Stores(self.table, self.keys.found) if self.is_numbered else None
-            rising = stores.in_order() if stores else []
-            for one, other in zip(rising, rising[1:]):
-                graph.add_link(one, other)
-            order, left = graph.sorted(self.clock.look)
-            if not left:
-                if stores:
-                    order = numbered(graph, stores) or order
-                self.graph, self.order = graph, graph.ordered(order)
-                self.check_times()
-                return
-            circles = graph.circles(left, self.clock.look)
-            self.clock.set(f"{keys_in(circles, self.table)}: their orders are fitted to each other, turn {turn + 1}")
-            mending.turn(circles, rising)
-        raise Unknown(f"{keys_in(circles, self.table)}: their orders were not fitted to each other in {MOST_TURNS}"
-                      " turns")
+        sorting, stores = self.linked(graph)
+        while not sorting.run(self.clock.look):
+            circles = sorting.circles(self.clock.look)
+            if mending.turns == MOST_TURNS:
+                raise Unknown(f"{keys_in(circles, self.table)}: their orders were not fitted to each other in"
+                              f" {MOST_TURNS} turns")
+            self.clock.set(f"one order of all, {len(sorting.order) / sorting.due:.0%}:"
+                           f" {keys_in(circles, self.table)} are fitted to each other")
+            mending.turn(circles, sorting.high, stores.in_order() if stores else ())
+            if stores:
+                high = sorting.high
+                sorting, stores = self.linked(graph)
+                sorting.high = high
+        order = numbered(graph, stores) if stores else None
+        self.keys.orders.listener = None
+        self.graph, self.order = graph, graph.ordered(order or sorting.order)
+        self.check_times()
+
+    def linked(self, graph: Graph) -> tuple[Sorting, Stores | None]:
+        """The graph with the orders of all keys. Their changes change it, if stores need not keep the order of their
+        uniques."""
+        graph.link(self.keys.found)
+        stores = Stores(self.table, self.keys.found) if self.is_numbered else None
+        rising = stores.in_order() if stores else []
+        for one, other in zip(rising, rising[1:]):
+            graph.add_link(one, other)
+        sorting = Sorting(graph)
+        self.keys.orders.listener = None if stores else sorting.change
+        return sorting, stores
 
     def calls(self) -> Iterator[int]:
         """The calls of the order, without losses."""

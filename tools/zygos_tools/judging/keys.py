@@ -2,48 +2,25 @@
 from __future__ import annotations
 
 from array import array
-from bisect import bisect_left, bisect_right
-from collections import OrderedDict
-from collections.abc import Callable, Iterable, Iterator, Sequence
+from collections.abc import Callable, Iterator, Sequence
 from dataclasses import dataclass
 from itertools import accumulate
-from typing import NamedTuple
 
 from zygos_tools.files.formats import shown
 from zygos_tools.judging.events import CAS, FLUSH, GET, Event, Unknown, counted
 from zygos_tools.judging.flushes import Flushes
 from zygos_tools.judging.needs import ITEM, Needs
+from zygos_tools.judging.orders import CHANGED, WAS_LOST, Order, Orders, Placed
 from zygos_tools.judging.origin import Origin
 from zygos_tools.judging.search import GaveUp, Made, Search, Stuck
-from zygos_tools.judging.states import (ABSENT, ANYTHING, NOTHING_KNOWN, AnyState, Lost, State, States, Step,
-                                        of_several, reached)
+from zygos_tools.judging.states import (ABSENT, ANYTHING, NOTHING_KNOWN, AnyState, Lost, States, Step, of_several,
+                                        reached)
 from zygos_tools.judging.table import DROPPED, Table
 
 # how many states are looked at where an item is guessed, and how many items are tried
 MOST_STATES, MOST_GUESSES = 20000, 30
-# how many calls there are at most in the views that are kept
-MOST_KEPT = 200000
 # for how many values it is looked where else they are stored
 MOST_ELSEWHERE = 20
-# the marks of a call in the order of a key: it changed the key; the item was lost before it
-CHANGED, WAS_LOST = 1, 2
-
-
-class Placed(NamedTuple):
-    """A call in the order of a key: whether it changed the key, whether the item was lost before it, and the state
-    after it."""
-
-    event: Event
-    is_change: bool
-    was_lost: bool
-    state: State
-
-
-class Order(NamedTuple):
-    """The order of the calls on a key, by their numbers, and the marks of each."""
-
-    calls: array[int]
-    marks: bytearray
 
 
 @dataclass(slots=True)
@@ -66,17 +43,6 @@ class Calls:
         self.first, self.begin = {self.names[0]: item}, (item, 0, 0)
 
 
-class View:
-    """The calls on a key as events, with its states; `placed` is its order, where that was asked for."""
-
-    def __init__(self, calls: Calls):
-        self.calls, self.events = calls, calls.events
-        self.begins = [event.begin for event in calls.events]
-        self.latest = list(accumulate((event.end for event in calls.events), max))
-        self.placed: list[Placed] | None = None
-        self.places: dict[int, int] = {}
-
-
 class Keys:
     """The calls of each key, and their orders that were found.
 
@@ -92,11 +58,12 @@ class Keys:
         self.table, self.loses, self.is_warm, self.limit, self.look = table, loses, is_warm, limit, look
         self.unsure, self.has_reasons = unsure or {}, has_reasons
         self.first: dict[bytes, tuple[int, bytes] | None] = {}
-        self.found: dict[bytes, Order] = {}
+        self.orders = Orders(table, loses, self.first)
+        self.found = self.orders.found
         self.flushes = Flushes(table)
         self.begins, self.calls = by_key(table)
-        self.views: OrderedDict[bytes, View] = OrderedDict()
-        self.kept, self.looks_left = 0, MOST_ELSEWHERE
+        self.with_flushes: dict[bytes, array[int]] = {}
+        self.looks_left = MOST_ELSEWHERE
         self.names = sorted(key for key, number in table.key_of.items() if self.begins[number] < self.begins[number + 1]
                             and (is_chosen is None or is_chosen(key)))
 
@@ -109,13 +76,22 @@ class Keys:
         flushes = self.flushes.of(self.table.shard_of[number], own) if self.flushes.all else []
         return sorted([*own, *flushes]) if flushes else list(own)
 
+    def range_of(self, key: bytes) -> tuple[Sequence[int], int, int]:
+        """The same calls as a range of an array, which may have those on other keys too."""
+        if not self.flushes.all:
+            number = self.table.key_of[key]
+            return self.calls, self.begins[number], self.begins[number + 1]
+        if key not in self.with_flushes:
+            self.with_flushes[key] = array("I", self.numbers(key))
+        return self.with_flushes[key], 0, len(self.with_flushes[key])
+
     def calls_on(self, names: Sequence[bytes], loses: bool | None = None, is_wide: bool = False) -> Calls:
         """The calls on some keys, which may have the items at first that are known so far."""
         several = {one for key in names for one in self.numbers(key)} if len(names) > 1 else ()
         numbers = sorted(several) if several else self.numbers(names[0])
         events, states = self.table.events(numbers), States(self.loses if loses is None else loses, is_wide)
         states.learn(events)
-        first: dict[bytes | None, int] = {key: self.item_at_first(key, states) for key in names}
+        first: dict[bytes | None, int] = {key: self.orders.item_at_first(key, states) for key in names}
         if len(names) == 1:
             return Calls(tuple(names), events, states, first, states.step, (first[names[0]], 0, 0), None)
         slots: dict[bytes | None, int] = {key: at for at, key in enumerate(names)}
@@ -125,32 +101,9 @@ class Keys:
         begin = tuple([(first[key], 0, 0) for key in names])
         return Calls(tuple(names), events, states, first, of_several(states, slots, of_shard), begin, slots)
 
-    def item_at_first(self, key: bytes, states: States) -> int:
-        """The number of the item that a key has at first, as far as that is known."""
-        pair = self.first.get(key)
-        return states.values.number(*pair) if pair else ABSENT
-
     def shard(self, key: bytes) -> int:
         """The shard of a key."""
         return self.table.shard_of[self.table.key_of[key]]
-
-    def view(self, key: bytes) -> View:
-        """The calls on a key, kept for a while."""
-        found = self.views.get(key)
-        if found is None:
-            found = self.views[key] = View(self.calls_on([key]))
-            self.kept += len(found.events)
-            while self.kept > MOST_KEPT and len(self.views) > 1:
-                _, old = self.views.popitem(last=False)
-                self.kept -= len(old.events)
-        else:
-            self.views.move_to_end(key)
-        return found
-
-    def forget(self, key: bytes) -> None:
-        """Lets a view go whose order is no longer that of its key."""
-        old = self.views.pop(key, None)
-        self.kept -= len(old.events) if old else 0
 
     # ---- orders
 
@@ -179,8 +132,11 @@ class Keys:
             if event.key == key or event.kind == FLUSH and event.shard == shard:
                 ids.append(event.id)
                 marks.append(CHANGED * made.is_change | WAS_LOST * made.was_lost)
-        self.found[key] = Order(ids, marks)
-        self.forget(key)
+        self.orders.put(key, Order(ids, marks))
+
+    def placed(self, key: bytes) -> list[Placed]:
+        """The order of a key with the states after its calls."""
+        return self.orders.stretch(key, 0, len(self.found[key].calls)).placed
 
     def order_of(self, calls: Calls, found: list[Made] | None = None) -> list[Made]:
         """An order of these calls; one without losses, if such a one is soon found. `found` is one with losses, where it
@@ -256,35 +212,6 @@ class Keys:
         states = [(calls.events[made.place], made.state) for made in order]
         return Origin(calls.states, states).items()  # type: ignore[arg-type]
 
-    # ---- the order of a key, to be mended
-
-    def placed(self, key: bytes) -> list[Placed]:
-        """The order of a key with the states after its calls."""
-        view = self.view(key)
-        if view.placed is None:
-            view.placed = self.with_states(view, self.found[key])
-            view.places = {one.event.id: at for at, one in enumerate(view.placed)}
-        return view.placed
-
-    def with_states(self, view: View, order: Order) -> list[Placed]:
-        """The calls of an order with the states after them."""
-        of_number = {event.id: event for event in view.events}
-        layers: list[dict[State, State | None]] = [{view.calls.begin: None}]  # type: ignore[dict-item]
-        for call, mark in zip(order.calls, order.marks):
-            layers.append(after(view.calls.states, layers[-1], of_number[call], bool(mark & WAS_LOST)))
-        state, found = next(iter(layers[-1])), []
-        for call, mark, layer in zip(reversed(order.calls), reversed(order.marks), reversed(layers[1:])):
-            found.append(Placed(of_number[call], bool(mark & CHANGED), bool(mark & WAS_LOST), state))
-            state = layer[state]  # type: ignore[assignment]
-        found.reverse()
-        return found
-
-    def keep(self, key: bytes) -> None:
-        """The order of a key is that of its view, which was mended."""
-        placed = self.placed(key)
-        self.found[key] = Order(array("I", [one.event.id for one in placed]), bytearray(
-            [CHANGED * one.is_change | WAS_LOST * one.was_lost for one in placed]))
-
     # ---- other keys
 
     def stored_elsewhere(self, event: Event) -> Event | None:
@@ -301,29 +228,6 @@ class Keys:
                     return None
                 found = call if found is None else found
         return None if found is None else table.event(found)
-
-    # ---- times
-
-    def overlapping(self, key: bytes, begin: int, end: int) -> list[Event]:
-        """The calls on a key that overlap a time."""
-        view = self.view(key)
-        some = view.events[bisect_left(view.latest, begin) : bisect_right(view.begins, end)]
-        return [event for event in some if event.end >= begin]
-
-    def near(self, key: bytes, some: Sequence[Event], count: int) -> list[Event]:
-        """These calls on a key, those between them by their begins, and `count` more on both sides."""
-        begins, view = [event.begin for event in some], self.view(key)
-        return view.events[max(0, bisect_left(view.begins, min(begins)) - count) :
-                           bisect_right(view.begins, max(begins)) + count]
-
-    def names_at(self, begin: int, end: int) -> list[bytes]:
-        """The keys with calls that overlap a time and are not much longer than it."""
-        table, commands = self.table, self.table.begin
-        low = bisect_left(commands, begin - 4 * (end - begin) - 1000)
-        some = [one for one in range(low, bisect_right(commands, end))
-                if table.end[one] >= begin and not table.state[one] & DROPPED]
-        names = {table.keys[table.key[call]] for one in some for call in table.calls_of(one) if table.key[call] >= 0}
-        return sorted(names & self.found.keys())
 
 
 def by_key(table: Table) -> tuple[array[int], array[int]]:
@@ -357,13 +261,3 @@ def quick(calls: Calls) -> list[Made] | None:
         last[event.connection] = event.id
         state = new
     return order
-
-
-def after(states: States, before: Iterable[State], event: Event, was_lost: bool) -> dict[State, State | None]:
-    """The states after a call, each with one before it."""
-    found: dict[State, State | None] = {}
-    for state in before:
-        for new in states.step(state, event):
-            if isinstance(new, Lost) == was_lost:
-                found.setdefault(reached(new), state)  # type: ignore[arg-type]
-    return found

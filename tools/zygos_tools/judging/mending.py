@@ -5,11 +5,12 @@ from collections.abc import Callable, Iterable, Iterator, Sequence
 
 from zygos_tools.judging.events import ADD, APPEND, CAS, DECR, FOREVER, INCR, PREPEND, REPLACE, Event, brief
 from zygos_tools.judging.fitting import Contradiction, Fitting, Piece, fit
-from zygos_tools.judging.keys import Keys, Placed, after
+from zygos_tools.judging.keys import Keys
+from zygos_tools.judging.nearby import Nearby
 from zygos_tools.judging.needs import Needs
+from zygos_tools.judging.orders import CHANGED, Placed, Stretch
 from zygos_tools.judging.search import GaveUp, Search, Stuck
-from zygos_tools.judging.states import State
-from zygos_tools.judging.table import Table
+from zygos_tools.judging.table import WANT_BITS, Table
 
 # with how much effort circles that overlap in time are mended together, if they are few, and keys are searched together
 SOME, MOST_JOINED, MUCH = 2, 50, 8
@@ -28,37 +29,29 @@ SOFT: tuple[tuple[int, ...], ...] = ((), (INCR, DECR), (INCR, DECR, APPEND, PREP
 
 # some keys, and calls by their numbers
 Window = tuple[list[bytes], dict[int, Event]]
-# where the piece of a key's order is, and the runs of those of its calls that are fitted
-Fitted = tuple[int, int, list[list[int]]]
+# a piece of a key's order: with states, where it is, and the runs of those of its calls that are fitted
+Fitted = tuple[Stretch, int, int, list[list[int]]]
+# the kinds of calls that may change something and may have done nothing
+PERHAPS = (CAS, ADD, REPLACE, APPEND, PREPEND)
 
 
 class Mending:
     """Mends circles of a graph; `numbers` has the stores that must keep the order of their uniques."""
 
     def __init__(self, table: Table, keys: Keys, look: Callable[[], None] | None = None):
-        self.table, self.keys, self.look = table, keys, look
+        self.table, self.keys, self.orders, self.look = table, keys, keys.orders, look
+        self.nearby = Nearby(table, keys.range_of)
         self.numbers: Sequence[int] = ()
         self.together: list[set[bytes]] = []
         self.softness: dict[tuple[bytes, tuple[int, ...]], bool] = {}
-        self.effort, self.least = 0, FOREVER
+        self.effort, self.least, self.high, self.turns = 0, FOREVER, -1, 0
 
-    def event(self, number: int) -> Event:
-        """A call as an event, which has the numbers of its key's items where it has a key."""
-        key = self.table.key[number]
-        if key < 0:
-            return self.table.event(number)
-        name = self.table.keys[key]
-        if name not in self.keys.found:
-            return self.table.event(number)
-        placed, places = self.keys.placed(name), self.keys.view(name).places
-        return placed[places[number]].event if number in places else self.table.event(number)
-
-    def turn(self, circles: list[list[int]], numbers: Sequence[int] = ()) -> None:
-        """Mends these circles, those of long times only where no other was mended. If the circles don't become fewer,
-        more is tried in the next turn, and at last their keys are searched together."""
-        size = sum(map(len, circles))
-        self.effort = max(0, self.effort - 1) if size < self.least else self.effort + 1
-        self.least, self.numbers = min(size, self.least), numbers
+    def turn(self, circles: list[list[int]], high: int, numbers: Sequence[int] = ()) -> None:
+        """Mends these circles, those of long times only where no other was mended; all are before the call `high`. If
+        the circles don't become fewer, more is tried in the next turn, and at last their keys are searched together.
+        """
+        self.begin_turn(sum(map(len, circles)), high)
+        self.numbers = numbers
         joined = self.joined(circles)
         for is_long in (False, True):
             if sum([self.mend(calls, is_long) for calls in joined]):
@@ -66,10 +59,18 @@ class Mending:
         if self.effort >= MUCH:
             self.search_together(circles)
 
+    def begin_turn(self, size: int, high: int) -> None:
+        """Sets how much is tried; behind where circles were mended so far, not much at first."""
+        if high != self.high:
+            self.high, self.turns, self.effort, self.least = high, 0, 0, FOREVER
+        self.turns += 1
+        self.effort = max(0, self.effort - 1) if size < self.least else self.effort + 1
+        self.least = min(size, self.least)
+
     def joined(self, circles: list[list[int]]) -> list[list[Event]]:
         """The calls in circles; where some have been tried already, those of circles whose times overlap together."""
         count = len(self.table.kind)
-        found = [[self.event(node) for node in circle if node < count] for circle in circles]
+        found = [self.table.events([node for node in circle if node < count]) for circle in circles]
         if self.effort < SOME or len(circles) > MOST_JOINED:
             return found
         found.sort(key=lambda calls: min(event.begin for event in calls))
@@ -88,47 +89,48 @@ class Mending:
         was tried, before that the same of all keys, for an ever longer time. Of a long time, the calls near to
         those in circles."""
         begin, end = min(event.begin for event in calls), max(event.end for event in calls)
-        own = {event.key for event in calls if event.key is not None}
+        own = {event.key for event in calls if event.key is not None and event.key in self.keys.found}
         if is_long:
             for count in (8 << self.effort, 2 << self.effort):
-                yield self.window(calls, own, lambda key, many=count: self.near(key, calls, many))  # type: ignore[misc]
+                yield self.window(calls, {key: self.near(key, calls, count) for key in own})
             return
         if self.effort >= SOME:
             more = (self.effort - SOME) * (end - begin) // 2
-            names = self.keys.names_at(begin - more, end + more) if end < FOREVER else self.keys.found
-            yield self.window(calls, {*names, *own}, lambda key: self.keys.overlapping(key, begin - more, end + more))
-        yield self.window(calls, own, lambda key: self.keys.overlapping(key, begin, end))
+            names = self.nearby.keys_at(begin - more, end + more) if end < FOREVER else self.keys.found
+            keys = own.union(names) & self.keys.found.keys()
+            yield self.window(calls, self.nearby.overlapping(keys, begin - more, end + more))
+        yield self.window(calls, self.nearby.overlapping(own, begin, end))
 
-    def near(self, key: bytes, calls: list[Event], count: int) -> list[Event]:
+    def near(self, key: bytes, calls: list[Event], count: int) -> list[int]:
         """The calls on a key that begin, or come in its order, shortly before or after these."""
-        found: dict[int, Event] = {}
-        placed, places = self.keys.placed(key), self.keys.view(key).places
+        found: dict[int, None] = {}
+        order = self.keys.found[key].calls
         for event in [event for event in calls if event.key == key]:
-            at = places.get(event.id)
-            near = list(self.keys.near(key, [event], count))
-            near += [one.event for one in placed[max(0, at - count) : at + count]] if at is not None else []
-            found.update((one.id, one) for one in near)
-        return list(found.values())
+            at = self.orders.place(key, event.id)
+            found.update(dict.fromkeys(self.nearby.around(key, [event], count)))
+            found.update(dict.fromkeys(order[max(0, at - count) : at + count] if at is not None else ()))
+        return list(found)
 
-    def window(self, calls: list[Event], keys: Iterable[bytes], calls_of: Callable[[bytes], list[Event]]) -> Window:
+    def window(self, calls: list[Event], numbers: dict[bytes, list[int]]) -> Window:
         """Some keys, and these calls and others on the keys, by their numbers."""
+        found = sorted(key for key, some in numbers.items() if some)
         window: dict[int, Event] = {event.id: event for event in calls}
-        found: list[bytes] = []
-        for key in sorted(keys):
-            some = calls_of(key)
-            window.update((event.id, event) for event in some)
-            found += [key] * bool(some)
-        return found, window
+        more = {number: None for key in found for number in numbers[key] if number not in window}
+        if len(window) + len(more) <= self.most():
+            window.update((event.id, event) for event in self.table.events(more))
+            return found, window
+        return [], {}
+
+    def most(self) -> int:
+        """How many calls are fitted at a time."""
+        return MANY_CALLS if self.effort >= SOME else FEW_CALLS
 
     def mend(self, calls: list[Event], is_long: bool) -> bool:
         """Fits the orders of the keys in a circle to each other. Gives whether that was done."""
-        most = MANY_CALLS if self.effort >= SOME else FEW_CALLS
         for names, window in self.windows(calls, is_long):
-            if len(window) > most:
-                continue
             for kinds in SOFT:
                 soft = [key for key in names if kinds and self.is_soft(key, kinds)]
-                if (soft or not kinds) and self.fit_wider(names, window, soft):
+                if (soft or names and not kinds) and self.fit_wider(names, window, soft):
                     return True
         return False
 
@@ -146,7 +148,8 @@ class Mending:
                 return False
             soft = [key, *[other for other in soft if other != key]]
             some = [event for event in window.values() if event.key == key]
-            window.update((event.id, event) for event in self.keys.near(key, some, count))
+            more = [number for number in self.nearby.around(key, some, count) if number not in window]
+            window.update((event.id, event) for event in self.table.events(more))
         return False
 
     def fit(self, names: list[bytes], window: dict[int, Event], soft: list[bytes]) -> None:
@@ -167,80 +170,59 @@ class Mending:
                 fitting = fit(fitting, MOST_CHOICES, self.look)
             except Contradiction:
                 raise Contradiction(key) from None
-        for key, (first, last, runs) in pieces.items():
-            self.put(key, fitting, first, last, runs)
+        for key, piece in pieces.items():
+            self.put(key, fitting, piece)
 
     def is_soft(self, key: bytes, kinds: tuple[int, ...]) -> bool:
         """Whether another one may have made what a call on this key saw: if there are such kinds of calls, or calls
         that may change something without an answer."""
-        if (key, kinds) not in self.softness:
-            self.softness[key, kinds] = any(
-                event.kind in kinds or event.want is None and event.kind in (CAS, ADD, REPLACE, APPEND, PREPEND)
-                for event in self.keys.view(key).events)
-        return self.softness[key, kinds]
+        found = self.softness.get((key, kinds))
+        if found is None:
+            table = self.table
+            found = self.softness[key, kinds] = any(
+                table.kind[call] in kinds or not table.want[call] & WANT_BITS and table.kind[call] in PERHAPS
+                for call in self.keys.numbers(key))
+        return found
 
     # ---- pieces of a key's order
 
     def bounds(self, key: bytes, window: dict[int, Event]) -> tuple[int, int]:
         """Where the piece of a key's order is that has the calls of a window, and what saw the last of them."""
-        placed, places = self.keys.placed(key), self.keys.view(key).places
-        ours = [places[number] for number in window if number in places]
+        marks = self.keys.found[key].marks
+        ours = [at for number, event in window.items() if event.key in (key, None)
+                and (at := self.orders.place(key, number)) is not None]
+        if not ours:
+            raise Contradiction
         first, last = min(ours), max(ours) + 1
-        while last < len(placed):  # and those behind them that saw the last change, and the next one
+        while last < len(marks):  # and those behind them that saw the last change, and the next one
             last += 1
-            if placed[last - 1].is_change:
+            if marks[last - 1] & CHANGED:
                 break
         return first, last
 
     def piece(self, key: bytes, window: dict[int, Event], fitting: Fitting) -> Fitted:
         """Puts a piece of a key's order into a fitting. Gives where it is, and its runs."""
         first, last = self.bounds(key, window)
-        return first, last, Piece(fitting, self.keys.placed(key)[first:last], self.state(key, first)[0] != 0).runs
+        stretch = self.orders.stretch(key, first, last)
+        is_there = stretch.state(first)[0] != 0
+        return stretch, first, last, Piece(fitting, stretch.between(first, last), is_there).runs
 
-    def state(self, key: bytes, at: int) -> State:
-        """The state of a key before a place of its order."""
-        if at:
-            return self.keys.placed(key)[at - 1].state
-        return self.keys.view(key).calls.begin  # type: ignore[return-value]
-
-    def put(self, key: bytes, fitting: Fitting, first: int, last: int, runs: list[list[int]]) -> None:
+    def put(self, key: bytes, fitting: Fitting, piece: Fitted) -> None:
         """Puts the calls of a key that were fitted in their new order."""
-        placed = self.keys.placed(key)[first:last]
+        stretch, first, last, runs = piece
+        placed = stretch.between(first, last)
         by_number = {one.event.id: one for one in placed}
         fresh = iter([fitting.events[at].id for run in runs for at in fitting.sorted(run)])
         new = [by_number[next(fresh)] if one.event.id in fitting.place else one for one in placed]
-        self.exchange(key, first, last, new)
-
-    def exchange(self, key: bytes, first: int, last: int, new: list[Placed]) -> None:
-        """Puts a piece of a key's order in place of another one, with the states after its calls."""
-        placed, states = self.keys.placed(key), self.keys.view(key).calls.states
-        layers: list[dict[State, State | None]] = [{self.state(key, first): None}]
-        for one in new:
-            layers.append(after(states, layers[-1], one.event, one.was_lost))
-        end = placed[last - 1].state
-        while last < len(placed) and layers[-1] and end[0] not in {state[0] for state in layers[-1]}:
-            new.append(placed[last])  # other states up to a later place
-            end = placed[last].state
-            layers.append(after(states, layers[-1], placed[last].event, placed[last].was_lost))
-            last += 1
-        if not layers[-1]:
-            raise Contradiction
-        alike = [state for state in layers[-1] if state[0] == end[0]]
-        state = end if end in layers[-1] else (alike or list(layers[-1]))[0]
-        so_far: list[State] = []
-        for layer in reversed(layers[1:]):
-            so_far.append(state)
-            state = layer[state]  # type: ignore[assignment]
-        so_far.reverse()
-        placed[first:last] = [one._replace(state=state) for one, state in zip(new, so_far)]
-        self.keys.view(key).places.update((placed[at].event.id, at) for at in range(first, last))
-        self.keys.keep(key)
+        if any(one is not other for one, other in zip(new, placed)):
+            self.orders.exchange(key, stretch, first, last, new)
 
     def search_within(self, key: bytes, window: dict[int, Event], fitting: Fitting) -> None:
         """Looks for another order of a piece of a key, within the bounds of a fitting; what is not in its window
         stays."""
         first, last = self.bounds(key, window)
-        placed = self.keys.placed(key)[first:last]
+        stretch = self.orders.stretch(key, first, last)
+        placed = stretch.between(first, last)
         events = sorted([one.event for one in placed], key=lambda event: (event.begin, event.id))
         places = {event.id: at for at, event in enumerate(events)}
         comes_after: dict[int, list[int]] = {}
@@ -258,14 +240,14 @@ class Mending:
         for at in ours:
             comes_after[places[fitting.events[at].id]] += [places[fitting.events[one].id] for one in ours
                                                      if fitting.before[at] >> one & 1]
-        state, states = self.state(key, first), self.keys.view(key).calls.states
+        state, states = stretch.state(first), stretch.states
         try:
             order = Search(events, state, states.step, MOST_STATES, Needs(events, states, {key: state[0]}), None,
                            comes_after, self.look).run()
         except (Stuck, GaveUp):
             raise Contradiction from None
         new = [Placed(events[one.place], one.is_change, one.was_lost, state) for one in order]
-        self.exchange(key, first, last, new)
+        self.orders.exchange(key, stretch, first, last, new)
 
     def search_together(self, circles: list[list[int]]) -> None:
         """Searches the keys of circles together, where they cannot be fitted and have few calls."""

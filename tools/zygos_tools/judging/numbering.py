@@ -10,7 +10,7 @@ from collections.abc import Mapping
 
 from zygos_tools.judging.events import CAS, DELETE, FLUSH, GET
 from zygos_tools.judging.graph import Graph
-from zygos_tools.judging.keys import CHANGED, Order
+from zygos_tools.judging.orders import CHANGED, Order
 from zygos_tools.judging.table import HAS_UNIQUE, Table
 
 

@@ -8,7 +8,8 @@ import signal
 from typing import IO, Protocol
 
 from zygos_tools.judging.events import Unknown, Verdict, counted
-from zygos_tools.judging.keys import Keys, Order
+from zygos_tools.judging.keys import Keys
+from zygos_tools.judging.orders import Order
 
 # recordings of fewer calls are searched in one process
 LEAST_CALLS = 50000
@@ -117,6 +118,7 @@ def take(keys: Keys, text: bytes, faults: list[Verdict]) -> None:
     if not text:
         raise Unknown("a process that searched keys has ended; --processes 1 searches in one")
     found, first, new = pickle.loads(text)
-    keys.found.update(found)
+    for key, order in found.items():
+        keys.orders.put(key, order)
     keys.first.update(first)
     faults += new
