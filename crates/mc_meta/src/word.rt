@@ -1,5 +1,5 @@
 //! The words of a line.
-ghost use Rattle.std.specs.Prelude.{◌≡◌, ◌≢◌, ◌<◌, ◌≤◌, ◌+◌, ℕ, [], ◌∷◌, length, IfSome, IfNone, drop, take, get_or};
+ghost use Rattle.std.specs.Prelude.{◌≡◌, ◌≢◌, ◌<◌, ◌≤◌, ◌+◌, ℕ, false, [], ◌∷◌, length, IfSome, IfNone, drop, take, get_or};
 ghost use Rattle.mc_meta.specs.Words.{words, words_at, line_limit};
 ghost use Rattle.mc_meta.specs.Meta.{is_key, span_of};
 
@@ -75,7 +75,8 @@ pub fn count_spaces(text: &[u8]) -> usize
 }
 
 /// The length of the word that a text begins with: the number of bytes before the first space, or
-/// of all bytes where there is none. The other words are those of the text after it.
+/// of all bytes where there is none. The other words are those of the text after it. Keys are long, so that
+/// four bytes are looked at in a step.
 #[tactic(auto, using(crate::proofs::WordLemmas::word_ends_at, crate::proofs::WordLemmas::ended_whole))]
 pub fn word_length(text: &[u8]) -> usize
     requires some { 0 < length text.now }
@@ -87,12 +88,28 @@ pub fn word_length(text: &[u8]) -> usize
         ≡ record { from = at; text = take result text.now }
         ∷ words_at (at + result) (drop result text.now) }
 {
-    for at in 0..text.len() {
+    let mut start = 0;
+    while text.len() - start >= 4 && !has_space(text, start) {
+        start += 4;
+    }
+    for at in start..text.len() {
         if text[at] == b' ' {
             return at;
         }
     }
     text.len()
+}
+
+// Whether one of the four bytes from a place on is a space.
+#[inline(always)]
+fn has_space(text: &[u8], at: usize) -> bool
+    requires within { at + 4 ≤ length text.now }
+    ensures first { result ≡ false → get_or text.now at 0 ≢ 32 }
+    ensures second { result ≡ false → get_or text.now (at + 1) 0 ≢ 32 }
+    ensures third { result ≡ false → get_or text.now (at + 2) 0 ≢ 32 }
+    ensures fourth { result ≡ false → get_or text.now (at + 3) 0 ≢ 32 }
+{
+    text[at] == b' ' || text[at + 1] == b' ' || text[at + 2] == b' ' || text[at + 3] == b' '
 }
 
 /// Whether a word has at most 250 bytes, and so is not too long for a key.

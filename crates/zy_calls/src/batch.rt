@@ -2,6 +2,7 @@
 ghost use Rattle.std.specs.Prelude.{◌≡◌, length, OnOk, OnErr, IfErr};
 ghost use Rattle.zy_calls.specs.Batch.{no_text, with_text, with_finished};
 
+use crate::room::Room;
 use crate::texts::Texts;
 use crate::writes::Writes;
 use std::alloc::Global;
@@ -72,6 +73,22 @@ impl Batch {
         ensures value { self.new ≡ with_finished self.old finished }
     {
         self.finished = finished;
+    }
+
+    /// Takes this room for its texts, if it has none.
+    pub fn take_room(&mut self, room: &mut Room)
+        ensures same { self.new ≡ self.old }
+        ensures room { room.new ≡ room.old }
+    {
+        self.texts.take_room(&mut room.texts);
+    }
+
+    /// Gives its room back, if it has no text and there is none yet.
+    pub fn give_room(&mut self, room: &mut Room)
+        ensures same { self.new ≡ self.old }
+        ensures room { room.new ≡ room.old }
+    {
+        room.texts.take_room(&mut self.texts);
     }
 
     /// The number of texts.

@@ -112,6 +112,16 @@ impl Texts {
         Ok(())
     }
 
+    /// Takes the room of another list, if it has none itself and neither has a text.
+    pub(crate) fn take_room(&mut self, other: &mut Texts)
+        ensures value { self.new ≡ self.old }
+        ensures other { other.new ≡ other.old }
+    {
+        if self.ends.capacity() == 0 && self.ends.is_empty() && other.ends.is_empty() {
+            mem::swap(self, other);
+        }
+    }
+
     // Appends copies of the texts of another list.
     fn append_copy(&mut self, other: &Texts) -> Result<(), NoMemory>
         ensures ok { OnOk result (self.new ≡ self.old ++ other.now) }
