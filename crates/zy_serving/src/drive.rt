@@ -40,6 +40,7 @@ pub(crate) fn drive_capture<R: Threads + Wait + Sync, S: Source, G: Gate + Sync>
     requires cores { AreCores running.shared (identities running.cores) }
     requires count { length running.shared.rings ≡ run.cores }
     requires rings { rings_of running.inlets.items ≡ rings_in (identities running.cores) }
+    requires inlets { AreInlets (rings_of running.inlets.items) (identities running.cores) }
     requires fresh { AreUnusedRings running.inlets.items }
 
     // The capture, and why it was read no further.

@@ -1,8 +1,7 @@
 use Rattle.std.proofs.Common.{rules, ◌≡◌, ◌≤◌, List, sym, ◌∙◌, subst, Some, arith}
-use Rattle.zy_rx.specs.Ring.{Offering}
-use Rattle.zy_rx.specs.Feed.{rings_of, sent_by}
-use Rattle.zy_core.specs.Cores.{identities, AreInlets}
-use Rattle.zy_core.proofs.RunningLemmas.{inlet_count, inlets_by_number}
+use Rattle.zy_rx.specs.Feed.{sent_by}
+use Rattle.zy_core.specs.Cores.{identities}
+use Rattle.zy_core.proofs.RunningLemmas.{inlet_count}
 use Rattle.zy_feed.specs.Reads.{StopsIntakeBy}
 use Rattle.zy_feed.specs.Feeding.{stop_in, HasFedAll}
 use Rattle.zy_drive.specs.declared.driven.Driven.{Driven}
@@ -46,11 +45,6 @@ returns-in-NoMemory-clause-reads g c = λ first header begins.
     let h = c.drive_cores-driven.new.feeder in
     let count : g.S.Source.faults first ≤ g.S.Source.faults h.source.now = counted g.S.Source.rest g.S.Source.faults first header c.args.source.now f.source.now h.source.now c.args.intake f.intake h.intake c.args.running.inlets.items f.inlets h.inlets f.stage h.stage begins (none_sent c.args.running.inlets.items c.requires.fresh) c.new-feeder.ensures.now c.new-feeder.ensures.intake (c.new-feeder.ensures.inlets ∙ c.new.ensures.value) c.new-feeder.ensures.stage c.drive_cores-driven.ensures.leads.1 in
     search rules
-
-pub drive_cores-driven-requires-clause-inlets : goal.drive_cores-driven-requires-clause-inlets
-drive_cores-driven-requires-clause-inlets g c =
-    let inlets = inlets_by_number c.args.running.shared (identities c.args.running.cores) c.args.running.inlets.items c.requires.cores c.requires.rings in
-    subst (λ (l : List Offering). AreInlets (rings_of l) (identities c.args.running.cores)) (sym (c.new-feeder.ensures.inlets ∙ c.new.ensures.value)) inlets
 
 pub new-requires : goal.new-requires
 new-requires g c =
