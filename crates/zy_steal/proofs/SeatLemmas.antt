@@ -6,7 +6,7 @@ use Rattle.zy_shuffle.specs.declared.ring.view.Trace.{Trace}
 use Rattle.zy_shuffle.specs.Pass.{Held, Ringed, after_give_back}
 use Rattle.zy_steal.specs.Order.{other_core, number_of}
 use Rattle.zy_steal.proofs.OrderLemmas.{other-number_of}
-use Rattle.zy_steal.specs.Steal.{ArePasses, Holds, HoldsOf, GivesTo, seat_of, seats_of, pass_list}
+use Rattle.zy_steal.specs.Steal.{PassList, ArePasses, Holds, HoldsOf, GivesTo, seat_of, seats_of, pass_list}
 
 module _ {T : Type 0} where
   -- one pass is changed
@@ -52,7 +52,7 @@ module _ {T : Type 0} where
 
   module _ {M : Type 0} (mark : T → M) (label : T → Name) where
     -- what giving a block back requires of the pass on the ring of this core
-    pub asks_of : (rings : List Ringed) (core victim at place : ℕ) (block : T) (vs : List (Held T)) (v : Held T) (r : Ringed) → ArePasses rings (pass_list core vs) → core ≢ victim → HoldsOf mark label (pass_list core vs) victim place block
+    asks_of : (rings : List Ringed) (core victim at place : ℕ) (block : T) (vs : List (Held T)) (v : Held T) (r : Ringed) → ArePasses rings (pass_list core vs) → core ≢ victim → HoldsOf mark label (pass_list core vs) victim place block
         → at ≡ number_of core victim → v ≡ get_or vs at v → slice_get rings victim ≡ Some r → (v.table ≡ r.id) × Holds mark label v place block × (slice_get vs at ≡ Some v)
     asks_of rings core victim at place block vs v r h ne holds is here ring =
         let there : slice_get vs at ≡ Some holds.pass = ap (slice_get vs) is ∙ holds.there in
@@ -62,3 +62,9 @@ module _ {T : Type 0} where
           subst (λ (x : Held T). Holds mark label x place block) same holds.holds,
           there ∙ ap Some same,
         )
+
+    -- the same of passes as a contract sees them
+    pub asks_seen : (rings : List Ringed) (core victim at place : ℕ) (block : T) (vs : List (Held T)) (v : Held T) (r : Ringed) (p : PassList T) → pass_list core vs ≡ p → ArePasses rings p → p.core ≢ victim → HoldsOf mark label p victim place block
+        → at ≡ number_of core victim → v ≡ get_or vs at v → slice_get rings victim ≡ Some r → (v.table ≡ r.id) × Holds mark label v place block × (slice_get vs at ≡ Some v)
+    asks_seen rings core victim at place block vs v r p seen h ne holds =
+        asks_of rings core victim at place block vs v r (subst (ArePasses rings) (sym seen) h) (subst (λ (q : PassList T). q.core ≢ victim) (sym seen) ne) (subst (λ (q : PassList T). HoldsOf mark label q victim place block) (sym seen) holds)

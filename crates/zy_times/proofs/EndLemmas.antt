@@ -1,15 +1,11 @@
 -- From which moment on commands are ended, by the marks of their sessions.
 use Rattle.std.specs.List.{slice_get}
-use Rattle.std.proofs.Common.{◌≡◌, ℕ, ◌+◌, ◌<◌, ◌≤◌, List, [], ◌∷◌, ◌++◌, length, Option, None, Some, sym, ap, ◌∙◌, subst, arith}
+use Rattle.std.proofs.Common.{◌≡◌, ℕ, ◌+◌, ◌<◌, ◌≤◌, List, [], ◌∷◌, ◌++◌, length, Option, None, Some, sym, subst, arith}
 use Rattle.std.proofs.lemmas.List.{length-append}
-use Rattle.std.proofs.lemmas.Option.{slice_get_within}
-use mathlib.Core.Logic.{dite}
-use native.Mathlib.Decide.{dec_lt}
-use Rattle.zy_check.proofs.ListLemmas.{get_append, get_behind}
 use Rattle.zy_times.specs.First.{AreRises}
 use Rattle.zy_times.specs.Times.{Recording, marks_by, answered_between, first_in, IsEnded}
 use Rattle.zy_times.specs.Ending.{IsEndedFrom, AreEndsBelow}
-use Rattle.zy_times.proofs.FirstLemmas.{above_from, at_first, never_above}
+use Rattle.zy_times.proofs.FirstLemmas.{each_next, above_from, at_first, never_above}
 use Rattle.zy_times.proofs.SessionLemmas.{none_past, marks_grow, marks_stay, one_session}
 
 module _ (r : Recording) (conn session index : ℕ) (marks : List ℕ) (are : AreRises (marks_by r conn session) (length r.records) marks) (from : first_in r conn session ≤ index) (until : index < first_in r conn (session + 1)) where
@@ -47,15 +43,5 @@ module _ (r : Recording) (conn session index : ℕ) (marks : List ℕ) (are : Ar
 pub ends_more : (r : Recording) (conn count : ℕ) (ends : List (Option ℕ)) (first : Option ℕ) → AreEndsBelow r conn count ends → IsEndedFrom r conn count first → AreEndsBelow r conn (count + 1) (ends ++ first ∷ [])
 ends_more r conn count ends first are at = record {
   size = let size = are.size in let long = length-append ends (first ∷ []) in omega (arith, size, long);
-  each = λ index end is. dite (dec_lt index (length ends))
-      (λ low. are.each index end (sym (get_append ends (first ∷ []) index low) ∙ is))
-      (λ high.
-      let size = are.size in
-      let below = slice_get_within (ends ++ first ∷ []) index end is in
-      let long = length-append ends (first ∷ []) in
-      let last : index ≡ length ends + 0 = omega (arith, below, long, high) in
-      let same_index : count ≡ index = omega (arith, below, long, high, size) in
-      let both : Some first ≡ Some end = sym (get_behind ends (first ∷ []) 0) ∙ ap (slice_get (ends ++ first ∷ [])) (sym last) ∙ is in
-      let same : first ≡ end = cc in
-      subst (λ (n : ℕ). IsEndedFrom r conn n end) same_index (subst (IsEndedFrom r conn count) same at));
+  each = each_next (λ (n : ℕ) (end : Option ℕ). IsEndedFrom r conn n end) ends first are.each (subst (λ (n : ℕ). IsEndedFrom r conn n first) (sym are.size) at);
 }

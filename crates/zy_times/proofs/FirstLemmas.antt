@@ -1,12 +1,25 @@
 -- The moments at which a count rises.
 use Rattle.std.specs.List.{slice_get}
-use Rattle.std.proofs.Common.{◌≡◌, ℕ, zero, suc, ◌+◌, ◌<◌, ◌≤◌, List, ◌++◌, length, replicate, Some, sym, ap, ◌∙◌, subst, arith}
+use Rattle.std.proofs.Common.{◌≡◌, ℕ, zero, suc, ◌+◌, ◌<◌, ◌≤◌, List, [], ◌∷◌, ◌++◌, length, replicate, Some, sym, ap, ◌∙◌, subst, arith}
 use Rattle.std.proofs.lemmas.List.{length-append, length-replicate, append-nil}
 use Rattle.std.proofs.lemmas.Option.{slice_get_within}
 use mathlib.Core.Logic.{dite}
 use native.Mathlib.Decide.{dec_lt}
 use Rattle.zy_times.specs.First.{IsFirstRise, AreRises, Grows}
 use Rattle.zy_check.proofs.ListLemmas.{there, get_append, get_behind}
+
+-- one further element, of which something holds at its place
+pub each_next : {A : Type 0} (P : ℕ → A → Type 0) (xs : List A) (x : A) → ((k : ℕ) (y : A) → slice_get xs k ≡ Some y → P k y) → P (length xs) x → (k : ℕ) (y : A) → slice_get (xs ++ x ∷ []) k ≡ Some y → P k y
+each_next P xs x each next k y is = dite (dec_lt k (length xs))
+    (λ low. each k y (sym (get_append xs (x ∷ []) k low) ∙ is))
+    (λ high.
+    let below = slice_get_within (xs ++ x ∷ []) k y is in
+    let long = length-append xs (x ∷ []) in
+    let last : k ≡ length xs + 0 = omega (arith, below, long, high) in
+    let place : length xs ≡ k = omega (arith, last) in
+    let both : Some x ≡ Some y = sym (get_behind xs (x ∷ []) 0) ∙ ap (slice_get (xs ++ x ∷ [])) (sym last) ∙ is in
+    let same : x ≡ y = cc in
+    subst (λ (n : ℕ). P n y) place (subst (P (length xs)) same next))
 
 -- a count that never falls is no less later
 pub later : (count : ℕ → ℕ) → Grows count → (first last : ℕ) → first ≤ last → count first ≤ count last

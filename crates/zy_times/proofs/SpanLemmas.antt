@@ -1,12 +1,10 @@
 -- The times of all connections, one connection after the other.
 use Rattle.std.specs.List.{slice_get}
 use Rattle.std.specs.Prelude.{◌↔◌, is_some}
-use Rattle.std.proofs.Common.{◌≡◌, ℕ, zero, suc, ◌+◌, ◌<◌, Bool, true, List, [], ◌∷◌, ◌++◌, length, get_or, map, Option, None, Some, refl, sym, ap, ◌∙◌, subst, arith}
-use Rattle.std.proofs.lemmas.List.{length-append, length-map}
+use Rattle.std.proofs.Common.{◌≡◌, ℕ, zero, suc, ◌<◌, Bool, true, List, [], ◌∷◌, length, get_or, map, Option, None, Some, refl, sym, ap, ◌∙◌, subst, arith}
+use Rattle.std.proofs.lemmas.List.{length-map}
 use Rattle.std.proofs.lemmas.Option.{slice_get_read, slice_get_within}
-use mathlib.Core.Logic.{dite}
-use native.Mathlib.Decide.{dec_lt}
-use Rattle.zy_check.proofs.ListLemmas.{there, get_append, get_behind}
+use Rattle.zy_check.proofs.ListLemmas.{there}
 use Rattle.zy_times.specs.Times.{Recording, IsEnded, answered_in, trues}
 use Rattle.zy_times.specs.InTime.{total_below, AreEndedFlags, EndedOfAll}
 use Rattle.zy_times.specs.declared.line.Line.{Line}
@@ -15,19 +13,6 @@ use Rattle.zy_times.specs.declared.times.Times.{Times}
 use Rattle.zy_times.specs.Line.{LineHolds}
 use Rattle.zy_times.specs.Recorded.{IsKept, AreSpans}
 use Rattle.zy_times.specs.Ending.{IsEndedFrom, AreEnds}
-
--- one further element, of which something holds at its place
-pub each_next : {A : Type 0} (P : ℕ → A → Type 0) (xs : List A) (x : A) → ((k : ℕ) (y : A) → slice_get xs k ≡ Some y → P k y) → P (length xs) x → (k : ℕ) (y : A) → slice_get (xs ++ x ∷ []) k ≡ Some y → P k y
-each_next P xs x each next k y is = dite (dec_lt k (length xs))
-    (λ low. each k y (sym (get_append xs (x ∷ []) k low) ∙ is))
-    (λ high.
-    let below = slice_get_within (xs ++ x ∷ []) k y is in
-    let long = length-append xs (x ∷ []) in
-    let last : k ≡ length xs + 0 = omega (arith, below, long, high) in
-    let place : length xs ≡ k = omega (arith, last) in
-    let both : Some x ≡ Some y = sym (get_behind xs (x ∷ []) 0) ∙ ap (slice_get (xs ++ x ∷ [])) (sym last) ∙ is in
-    let same : x ≡ y = cc in
-    subst (λ (n : ℕ). P n y) place (subst (P (length xs)) same next))
 
 -- an element of a list, after a function
 pub get_map : {A B : Type 0} (f : A → B) (xs : List A) (k : ℕ) (x : A) → slice_get xs k ≡ Some x → slice_get (map f xs) k ≡ Some (f x)

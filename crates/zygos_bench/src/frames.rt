@@ -21,13 +21,10 @@ pub(crate) fn measured<R: CpuClock>(
     let counted = count_frames(alloc, &traffic, bytes, piece);
     let spent = nanos(rt).saturating_sub(start);
     drop(traffic);
-    match counted {
-        Ok(count) => Ok(Done {
-            count,
-            nanos: spent,
-        }),
-        Err(e) => Err(e),
-    }
+    Ok(Done {
+        count: counted?,
+        nanos: spent,
+    })
 }
 
 /// Commands of a few kinds, again and again.

@@ -21,13 +21,10 @@ pub(crate) fn measured<R: CpuClock>(rt: &R, alloc: Global, rounds: u64) -> Resul
     let counted = read_rounds(alloc, &traffic, rounds);
     let spent = nanos(rt).saturating_sub(start);
     drop(traffic);
-    match counted {
-        Ok(count) => Ok(Done {
-            count,
-            nanos: spent,
-        }),
-        Err(e) => Err(e),
-    }
+    Ok(Done {
+        count: counted?,
+        nanos: spent,
+    })
 }
 
 // The number of commands in `rounds` rounds.

@@ -53,51 +53,23 @@ fn word<'a, R: Env>(rt: &R, place: usize, buffer: &'a mut [u8; 20]) -> &'a [u8] 
 
 // What the first two words name.
 fn what_named(word: &[u8], part: &[u8]) -> Option<What> {
-    match word {
-        b"shard" => Some(What::Shard),
-        b"frames" => Some(What::Frames),
-        b"parse" => Some(What::Parse),
-        b"capture" => Some(What::Capture),
-        b"journal" => journal_named(part).map(What::Journal),
-        b"pcap" => Some(What::Pcap),
-        b"store" => store_named(part).map(What::Store),
-        b"shuffle" => queue_named(part).map(What::Shuffle),
-        b"conn" => conn_named(part).map(What::Conn),
-        _ => None,
-    }
-}
-
-fn journal_named(part: &[u8]) -> Option<journal::Part> {
-    match part {
-        b"merge" => Some(journal::Part::Merge),
-        b"write" => Some(journal::Part::Write),
-        b"read" => Some(journal::Part::Read),
-        _ => None,
-    }
-}
-
-fn store_named(part: &[u8]) -> Option<store::Part> {
-    match part {
-        b"shard" => Some(store::Part::Shard),
-        b"pass" => Some(store::Part::Pass),
-        b"threads" => Some(store::Part::Threads),
-        _ => None,
-    }
-}
-
-fn queue_named(part: &[u8]) -> Option<shuffle::Queue> {
-    match part {
-        b"ring" => Some(shuffle::Queue::Ring),
-        b"lock" => Some(shuffle::Queue::Lock),
-        _ => None,
-    }
-}
-
-fn conn_named(part: &[u8]) -> Option<conn::Part> {
-    match part {
-        b"shard" => Some(conn::Part::Shard),
-        b"block" => Some(conn::Part::Block),
-        b"home" => Some(conn::Part::Home),
+    match (word, part) {
+        (b"shard", _) => Some(What::Shard),
+        (b"frames", _) => Some(What::Frames),
+        (b"parse", _) => Some(What::Parse),
+        (b"capture", _) => Some(What::Capture),
+        (b"pcap", _) => Some(What::Pcap),
+        (b"journal", b"merge") => Some(What::Journal(journal::Part::Merge)),
+        (b"journal", b"write") => Some(What::Journal(journal::Part::Write)),
+        (b"journal", b"read") => Some(What::Journal(journal::Part::Read)),
+        (b"store", b"shard") => Some(What::Store(store::Part::Shard)),
+        (b"store", b"pass") => Some(What::Store(store::Part::Pass)),
+        (b"store", b"threads") => Some(What::Store(store::Part::Threads)),
+        (b"shuffle", b"ring") => Some(What::Shuffle(shuffle::Queue::Ring)),
+        (b"shuffle", b"lock") => Some(What::Shuffle(shuffle::Queue::Lock)),
+        (b"conn", b"shard") => Some(What::Conn(conn::Part::Shard)),
+        (b"conn", b"block") => Some(What::Conn(conn::Part::Block)),
+        (b"conn", b"home") => Some(What::Conn(conn::Part::Home)),
         _ => None,
     }
 }

@@ -41,13 +41,8 @@ fn add_entries(alloc: Global, entries: &mut Entries, shard: u32, count: u64) -> 
     ensures entries { OnOk result (AllByRecursion IsEntry entries.new) }
 {
     for i in 0..count {
-        let next = match entry(alloc, shard, i) {
-            Ok(next) => next,
-            Err(refused) => return Err(refused),
-        };
-        if let Err(refused) = add_entry(entries, next) {
-            return Err(refused);
-        }
+        let next = entry(alloc, shard, i)?;
+        add_entry(entries, next)?;
     }
     Ok(())
 }
@@ -122,13 +117,8 @@ fn add_histories(alloc: Global, all: &mut Histories, shards: u32, each: u64) -> 
     ensures ordered { OnOk result ((shard : _) → IsOrdered None (history_of all.new shard)) }
 {
     for shard in 0..shards {
-        let made = match history(alloc, shard, each) {
-            Ok(made) => made,
-            Err(refused) => return Err(refused),
-        };
-        if let Err(refused) = add_history(all, made) {
-            return Err(refused);
-        }
+        let made = history(alloc, shard, each)?;
+        add_history(all, made)?;
     }
     Ok(())
 }

@@ -1,7 +1,8 @@
 use Rattle.std.specs.List.{slice_get}
 use Rattle.std.proofs.Common.{rules, ◌≡◌, ℕ, List, Some, sym, subst, arith}
 use Rattle.zy_times.specs.Ending.{AreEnds}
-use Rattle.zy_times.proofs.SpanLemmas.{each_next, line_there}
+use Rattle.zy_times.proofs.FirstLemmas.{each_next}
+use Rattle.zy_times.proofs.SpanLemmas.{line_there}
 use Rattle.zy_times.proofs.spans.find_spans.Goals as goal
 
 pub ends-requires : goal.ends-requires
