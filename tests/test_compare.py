@@ -459,7 +459,7 @@ def edited_outputs():
                         fail(name, f"{len(differ)} differences")
                     for exchange in differ:
                         if exchange.kind == BOTH and exchange.group:
-                            same(f"a cause: {name}", True, bool(causes.differed(exchange).causes))
+                            same(f"a cause: {name}", True, bool(causes.differed(exchange)))
 
 
 def texts_of(made, connection, session):

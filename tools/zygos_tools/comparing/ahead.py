@@ -20,8 +20,9 @@ LOOK, MOST = 64, 8
 AHEAD = LOOK + MOST + 1
 # what each eight answers ahead that differ count, in hundredths
 WEIGHTS, EIGHT = (100, 70, 50, 35, 25, 18, 12, 9), 8
-# how many are taken from a source at one time, how many are kept behind, and for how many shifts sums are kept
-PIECE, BEHIND, SHIFTS = 64, 1024, 256
+# how many are taken from a source at one time, and of how many it is found what is known of them; how many are kept
+# behind, and for how many shifts sums are kept
+PIECE, FEW, BEHIND, SHIFTS = 64, 16, 1024, 256
 
 # how many lines and answers are kept with what is known of them
 MOST_KEPT = 1 << 13
@@ -151,7 +152,8 @@ class AnswersAhead(Ahead[bytes]):
 
     def token(self) -> bytes:
         """The token of the next answer."""
-        self.learn(1)
+        if self.place >= len(self.tokens):
+            self.learn(FEW)
         return self.tokens[self.place]
 
     def take_group(self, group: Group) -> tuple[int, bytes | None]:
@@ -163,12 +165,6 @@ class AnswersAhead(Ahead[bytes]):
             if group.is_last(found):
                 break
         return first, b"".join(found) or None
-
-
-def is_silent(group: Group) -> bool:
-    """Whether a command is one that zygos answers and a memcached mostly does not: a faulty line with noreply."""
-    _, line, command = group[0]
-    return command.verb == "fault" and len(group) == 1 and line.rstrip().endswith(b" noreply")
 
 
 class GroupsAhead(Ahead[Group]):
@@ -190,7 +186,7 @@ class GroupsAhead(Ahead[Group]):
         end = self.place + count
         self.fill(end - 1)
         for group in self.kept[len(self.fitting) : end]:
-            if len(group) > 1 or not group.is_whole or is_silent(group):
+            if not group.is_plain:
                 self.odd = self.begin + len(self.fitting) + 1
             self.fitting.append(fitting(group[0][1]))
         self.fitting += [NONE] * (end - len(self.fitting))
@@ -202,7 +198,8 @@ class GroupsAhead(Ahead[Group]):
 
     def token_fits(self, token: bytes) -> bool:
         """Whether an answer with this token can be that of the next command."""
-        self.learn(1)
+        if self.place >= len(self.fitting):
+            self.learn(FEW)
         return token in self.fitting[self.place]
 
 

@@ -11,7 +11,7 @@ from typing import NamedTuple
 
 from zygos_tools.comparing.apart import Callers, Stream, frames_in, is_touching, keys_of, stored_by, timed_by
 from zygos_tools.comparing.steps import Exchange
-from zygos_tools.protocol.answers import FAULT, items, meta, without_uniques
+from zygos_tools.protocol.answers import FAULT, items, meta, usual_item, without_uniques
 from zygos_tools.protocol.meaning import Command, Frame
 from zygos_tools.protocol.table import SHOWING, TELLING, does, is_there
 
@@ -32,14 +32,6 @@ class Expected(NamedTuple):
     causes: Mapping[bytes, tuple[str, ...]]
 
 
-class Blame(NamedTuple):
-    """The causes of a difference, of which one or several may be the true one; and why it depends on the order, if it
-    does."""
-
-    causes: tuple[str, ...]
-    why: str | None = None
-
-
 class Seen(NamedTuple):
     """What two answers show of a key: whether there is an item, and its value; None where they do not show it."""
 
@@ -54,6 +46,10 @@ def is_retrieval(command: Command) -> bool:
 
 def found(answer: bytes) -> dict[bytes, Item]:
     """The items of an answer to `get` or `gets`, by key, without their uniques."""
+    if answer == b"END\r\n":
+        return {}
+    if item := usual_item(answer):
+        return {item.key: ((item.flags, item.size), item.value)}
     return {item.key: (item.words[1:3], item.value) for item in items(answer)}
 
 
@@ -146,8 +142,13 @@ class Causes:
             for name in command.keys:
                 self.key(name).cause = None
 
-    def differed(self, exchange: Exchange) -> Blame:
-        """The causes of a difference."""
+    def why(self, exchange: Exchange) -> str | None:
+        """Why a difference may depend on the order; None if it does not."""
+        called = [command._replace(keys=keys_of(command, line)) for _, line, command in exchange.group]
+        return next(filter(None, map(self.callers.order, called)), None)
+
+    def differed(self, exchange: Exchange) -> tuple[str, ...]:
+        """The causes of a difference, of which one or several may be the true one."""
         commands = [command for _, _, command in exchange.group]
         if len(commands) > 1:
             self.pass_over(exchange.first)
@@ -156,11 +157,11 @@ class Causes:
             causes = self.by_key(exchange).values()
             found = [cause if isinstance(cause, tuple) else (cause,) for cause in causes]
             found = found or [self.without_key(commands[0], exchange)]
+        if len(found) == 1:
+            return found[0]
         last = max((causes[-1] for causes in found), key=CAUSES.index)
         some = {cause for causes in found if causes[-1] == last for cause in causes}
-        called = [command._replace(keys=keys_of(command, line)) for _, line, command in exchange.group]
-        why = next(filter(None, map(self.callers.order, called)), None)
-        return Blame(tuple(cause for cause in CAUSES if cause in some), why)
+        return tuple(cause for cause in CAUSES if cause in some)
 
     def of_several(self, commands: Sequence[Command]) -> str:
         """The cause where it is not known which of several commands was answered how."""

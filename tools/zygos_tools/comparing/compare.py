@@ -183,7 +183,7 @@ class Comparison:
         if one is not None:
             self.answers += sum(1 for _ in answers(one))
         if one is None or other is None:
-            self.differ((OUTPUTS,), None, "", 1, lambda: (
+            self.differ((OUTPUTS,), "", 1, lambda: (
                 f"connection {key[0]}, session {key[1]}",
                 ["no output" if text is None else f"{len(text)} bytes" for text in (one, other)]))
         elif one == other:
@@ -238,25 +238,25 @@ class Comparison:
 
     def exchange(self, key: Key, exchange: Exchange) -> None:
         """A difference, or what is left out of it."""
-        found, why = self.blame(exchange)
-        name = exchange.name or ""
+        found, name = self.blame(exchange), exchange.name or ""
         if name in self.left_out and exchange.kind in (steps.BOTH, steps.ALONE):
             self.excepted[name] += 1
         else:
             self.note(found[0], exchange)
-            self.differ(found, why, name, exchange.last if exchange.kind in (steps.ENDED, steps.LEFT) else 1,
-                        lambda: (f"connection {key[0]}, session {key[1]}{place_of(exchange)}", texts_of(exchange)))
+            self.differ(found, name, exchange.last if exchange.kind in (steps.ENDED, steps.LEFT) else 1,
+                        lambda: (f"connection {key[0]}, session {key[1]}{place_of(exchange)}", texts_of(exchange)),
+                        lambda: self.causes.why(exchange) if self.causes and exchange.kind == steps.BOTH else None)
 
-    def blame(self, exchange: Exchange) -> tuple[Causes, str | None]:
-        """The causes of a difference, and why it depends on the order."""
+    def blame(self, exchange: Exchange) -> Causes:
+        """The causes of a difference."""
         if exchange.kind == steps.ENDED:
-            return (ENDED if exchange.group or self.sent is None else BEYOND,), None
+            return (ENDED if exchange.group or self.sent is None else BEYOND,)
         if exchange.kind in (steps.LEFT, steps.ALONE):
-            return (exchange.kind,), None
+            return (exchange.kind,)
         if not exchange.group:
-            return (UNKNOWN if self.sent is None else BEYOND,), None
+            return (UNKNOWN if self.sent is None else BEYOND,)
         if self.causes is None:
-            return (UNKNOWN,), None
+            return (UNKNOWN,)
         is_swapped = self.recorded == 1
         return self.causes.differed(exchange._replace(one=exchange.other, other=exchange.one) if is_swapped else exchange)
 
@@ -269,10 +269,12 @@ class Comparison:
         if cause == ALONE:
             self.alone[1 - at][exchange.name or ""] += 1
 
-    def differ(self, causes_of: Causes, why: str | None, name: str, count: int,
-               told: Callable[[], tuple[str, list[str]]]) -> None:
-        """Counts a difference, and keeps what `told` gives, its place and both texts, where that may be printed."""
-        found = self.found.setdefault(causes_of, Found(why))
+    def differ(self, causes_of: Causes, name: str, count: int, told: Callable[[], tuple[str, list[str]]],
+               why: Callable[[], str | None] = lambda: None) -> None:
+        """Counts a difference, and keeps what `told` gives, its place and both texts, where that may be printed; `why` is
+        asked of the first one of its causes."""
+        if (found := self.found.get(causes_of)) is None:
+            self.found[causes_of] = found = Found(why())
         if self.prints_all or not found.told:
             found.told.append((self.differences, *told()))
         self.differences += 1

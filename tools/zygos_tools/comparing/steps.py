@@ -11,7 +11,7 @@ from collections.abc import Iterator, Sequence
 from typing import NamedTuple
 
 from zygos_tools.comparing.ahead import (EIGHT, LOOK, MOST_KEPT, MOVES, MOVES_OF_ANSWERS, PAIRED, WEIGHTS, Agreement,
-                                         AnswersAhead, GroupsAhead, Move, fits, is_silent)
+                                         AnswersAhead, GroupsAhead, Move, fits)
 from zygos_tools.protocol.answers import FAULT, Group, answers, groups, name_of, without_uniques
 from zygos_tools.protocol.meaning import Command
 from zygos_tools.protocol.table import TELLING
@@ -86,28 +86,37 @@ class Steps:
         self.sure, self.next_sure = 0, LEAST_SURE
 
     def exchange(self, kind: str, group: Group | None, one: Numbered, other: Numbered) -> Exchange:
-        """What is exchanged, and the next place."""
+        """What is exchanged; it has a name if both differ."""
         if self.groups is not None and group:
-            (first, line, _), last = group[0], group[-1][0]
-            return Exchange(kind, first, last, name_of(line), line, group, one, other)
+            first, line, _ = group[0]
+            name = name_of(line) if one[1] != other[1] else None
+            return Exchange(kind, first, group[-1][0], name, line, group, one, other)
         name = "no command" if self.groups is not None else named_by(one[1], other[1])
         return Exchange(kind, None, 0, name, None, (), one, other)
 
     def all(self) -> Iterator[Exchange]:
         """The exchanges in order."""
-        while self.one.get() is not None or self.other.get() is not None:
+        while True:
+            one, other = self.one.get(), self.other.get()
+            if one is None and other is None:
+                return
             group = self.groups.get() if self.groups else None
-            is_open = group is not None and not group.is_whole
-            if group and is_silent(group):
-                yield from self.perhaps(group)
-            elif (self.one.get() is None or self.other.get() is None) and not is_open:
-                yield self.finish(self.exchange(ENDED, group, (self.one.taken, self.one.get()),
-                                                (self.other.taken, self.other.get())))
-            elif group and self.groups and (len(group) > 1 or is_open):
-                self.groups.take()
-                yield self.exchange(BOTH, group, self.one.take_group(group), self.other.take_group(group))
+            if group and not group.is_plain:
+                yield from self.of_group(group)
+            elif one is None or other is None:
+                yield self.finish(self.exchange(ENDED, group, (self.one.taken, one), (self.other.taken, other)))
+            elif one == other:
+                yield self.pair(group)
             else:
-                yield from self.both(group)
+                yield from self.both(group, one, other)
+
+    def of_group(self, group: Group) -> Iterator[Exchange]:
+        """Commands whose answers are not known one by one."""
+        if group.is_silent:
+            yield from self.perhaps(group)
+            return
+        self.skip_group()
+        yield self.exchange(BOTH, group, self.one.take_group(group), self.other.take_group(group))
 
     def perhaps(self, group: Group) -> Iterator[Exchange]:
         """A command that has an error for an answer, or none."""
@@ -156,10 +165,9 @@ class Steps:
         """All that is left is one exchange, whose last command is the number of answers that are left."""
         return exchange._replace(last=max(self.one.left(), self.other.left()))
 
-    def both(self, group: Group | None) -> Iterator[Exchange]:
-        """Both sides go on."""
-        one, other = self.one.get() or b"", self.other.get() or b""
-        if one == other or alike(one, other):
+    def both(self, group: Group | None, one: bytes, other: bytes) -> Iterator[Exchange]:
+        """Both sides go on, with answers that differ."""
+        if alike(one, other):
             yield self.pair(group)
             return
         for side, text, longer in ((self.one, one, other), (self.other, other, one)):
@@ -179,9 +187,11 @@ class Steps:
         yield from self.passed(move)
 
     def pair(self, group: Group | None) -> Exchange:
-        if group:
-            self.skip_group()
-        self.sure = max(0, self.sure - 1)
+        """The next answers of both belong to the next command."""
+        if group and self.groups:
+            self.groups.take()
+        if self.sure:
+            self.sure -= 1
         return self.exchange(BOTH, group, self.one.take(), self.other.take())
 
     def passed(self, move: Move) -> Iterator[Exchange]:
@@ -247,7 +257,7 @@ class Steps:
                 if group and (len(group) > 1 or not group.is_whole):
                     return
                 line = group[0][1] if group else b""
-                if not group or not is_silent(group):
+                if not group or not group.is_silent:
                     break
                 is_one, is_other = self.answering(one_at, other_at, group_at)
                 one_at, other_at, group_at = one_at + is_one, other_at + is_other, group_at + 1

@@ -7,6 +7,7 @@ does not show as it should is None.
 import re
 from collections.abc import Iterator
 from dataclasses import dataclass
+from typing import NamedTuple
 
 from zygos_tools.protocol.meaning import Command, frames_of, line_of, words_of
 
@@ -42,14 +43,14 @@ def block_end(text: bytes, begin: int, at: int, word: int) -> int:
 
 
 # the line of an item as servers write it, with its length
-USUAL_ITEM = re.compile(rb"VALUE [^ \n]+ [0-9]+ ([0-9]{1,9})(?: [0-9]+)?\r\n")
+USUAL_ITEM = re.compile(rb"VALUE ([^ \n]+) ([0-9]+) ([0-9]{1,9})(?: [0-9]+)?\r\n")
 
 
 def answer_end(text: bytes, begin: int) -> int:
     """The end of the answer that begins at a place of an output."""
     first = begin
     while found := USUAL_ITEM.match(text, begin):  # most answers are such items and an END
-        begin = min(found.end() + int(found[1]) + 2, len(text))
+        begin = min(found.end() + int(found[3]) + 2, len(text))
         if text.startswith(b"END\r\n", begin):
             return begin + 5
     at = line_end(text, begin)
@@ -127,6 +128,23 @@ def items(text: bytes) -> Iterator[Item]:
         at = end
 
 
+class UsualItem(NamedTuple):
+    """The one item of an answer, with the words of its flags and its length."""
+
+    key: bytes
+    flags: bytes
+    size: bytes
+    value: bytes
+
+
+def usual_item(text: bytes) -> UsualItem | None:
+    """The item of an answer with one item, as servers write it; None for another answer."""
+    found = USUAL_ITEM.match(text)
+    if found is None or len(text) != found.end() + int(found[3]) + 7 or not text.endswith(b"\r\nEND\r\n"):
+        return None
+    return UsualItem(found[1], found[2], found[3], text[found.end() : -7])
+
+
 def last_line(text: bytes) -> bytes:
     """What follows the items of an answer to `get` or `gets`, without its end."""
     at = 0
@@ -179,8 +197,8 @@ def without_uniques(text: bytes) -> object:
 
 def name_of(line: bytes) -> str:
     """The name of the command of a line."""
-    words = words_of(line)
-    return words[0].decode() if words and NAME.fullmatch(words[0]) else "other lines"
+    word = line.lstrip(b" ").partition(b" ")[0]
+    return word.decode() if NAME.fullmatch(word) else "other lines"
 
 
 class Outcome:
@@ -213,9 +231,12 @@ class Group(list[tuple[int, bytes, Command]]):
     A command with the flag `q` may have no answer. Then it is not known whose the next answers are, up to one that no
     such command has: that of `mn`, or of a classic command. The commands up to there are a group; every other command
     is one by itself, but for those with `noreply`, which are in none.
+
+    A group is plain if it is one command that surely has one answer. It is silent if it is one that zygos answers and a
+    memcached does not as a rule: a faulty line with `noreply`.
     """
 
-    is_whole = ends_in_mn = False
+    is_whole = is_plain = is_silent = ends_in_mn = False
     faults = 0
 
     def add(self, number_of: int, command: Command, line: bytes) -> None:
@@ -223,6 +244,8 @@ class Group(list[tuple[int, bytes, Command]]):
         self.faults += command.verb == "fault"
         is_open = len(self) > 1 or "q" in command.letters
         self.is_whole = not is_open or command.verb not in ("mg", "ms", "md", "fault")
+        self.is_silent = not is_open and command.verb == "fault" and line.rstrip().endswith(b" noreply")
+        self.is_plain = not is_open and not self.is_silent
         self.ends_in_mn = command.verb == "mn"
 
     def is_last(self, answers_of: list[bytes]) -> bool:
