@@ -1,10 +1,16 @@
-"""Charts of curves as SVG: axes with units and round ticks, the spread of runs, and the command that made it."""
+"""Charts of curves as SVG: axes with units and round ticks, a mark for each curve, the spread of runs, and the command
+that made it."""
 import html
 import math
 from dataclasses import dataclass, field
 
 WIDTH, HEIGHT, LEFT, RIGHT, BELOW = 820, 430, 84, 276, 92
 BLUE, ORANGE, GREEN, GOLD, GRAY, PURPLE = "#1f5fa8", "#c0501f", "#3a8a3a", "#b8860b", "#6f6f6f", "#7b3fa0"
+# the marks of points, so that curves differ without colours: circle, square, two triangles, diamond, cross
+MARKS = ("m-3 0a3 3 0 1 0 6 0a3 3 0 1 0-6 0z", "m-3-3h6v6h-6z", "m0-4l4 7h-8z", "m0-4l4 4l-4 4l-4-4z", "m0 4l4-7h-8z",
+         "m-3-3l6 6m0-6l-6 6")
+# how many points of a computed curve have marks, at most
+MOST_MARKS = 8
 
 
 @dataclass
@@ -62,7 +68,7 @@ class Chart:
     """A chart: a title, lines below it, two axes, curves, bounds, and notes below."""
 
     def __init__(self, title, lines, x, y):
-        self.x, self.y, self.lines = x, y, []
+        self.x, self.y, self.lines, self.curves = x, y, [], 0
         self.title, self.about = title, "; ".join([*lines, f"upwards: {y.label}; across: {x.label}"])
         self.top = 34 + 16 * len(lines) + 12
         self.text(14, 24, title, size=15)
@@ -116,25 +122,40 @@ class Chart:
         return shown
 
     def curve(self, curve):
-        """Draws a curve: solid with points where it was measured, dashed where it is computed. It ends at the edge."""
+        """Draws a curve: solid with full marks where it was measured, dashed with empty ones where it is computed. It
+        ends at the edge."""
         shown = self.within(curve.points)
         dashes = ' stroke-dasharray="7 4"' if curve.is_computed else ""
         line = " ".join("{:.1f},{:.1f}".format(*self.at(*point[:2])) for point in shown)
         self.lines.append(f'<polyline points="{line}" fill="none" stroke="{curve.colour}" stroke-width="2"{dashes}/>')
-        for point in [] if curve.is_computed else shown[: len(shown) - (shown != curve.points[: len(shown)])]:
+        for point in self.marked(curve, shown):
             across, up = self.at(*point[:2])
             if len(point) == 4:
                 low, high = self.at(point[0], point[2])[1], self.at(point[0], point[3])[1]
                 ends = "".join(f"M{across - 4:.1f} {end:.1f}h8" for end in (low, high))
                 self.lines.append(f'<path d="M{across:.1f} {low:.1f}V{high:.1f}{ends}" stroke="{curve.colour}" '
                                   'fill="none"/>')
-            self.lines.append(f'<circle cx="{across:.1f}" cy="{up:.1f}" r="3" fill="{curve.colour}"/>')
+            self.mark(curve, across, up)
         self.name(curve, dashes)
+        self.curves += 1
+
+    @staticmethod
+    def marked(curve, shown):
+        """The points that have marks: all that were measured, and some of those that were computed."""
+        whole = shown[: len(shown) - (shown != curve.points[: len(shown)])]
+        return whole[:: math.ceil(len(whole) / MOST_MARKS) or 1] if curve.is_computed else whole
+
+    def mark(self, curve, x, y):
+        """The mark of the curve that is drawn."""
+        fill = "white" if curve.is_computed else curve.colour
+        self.lines.append(f'<path d="M{x:.1f} {y:.1f}{MARKS[self.curves % len(MARKS)]}" stroke="{curve.colour}" '
+                          f'fill="{fill}"/>')
 
     def name(self, curve, dashes):
         """The curve's line, name and notes at the right."""
         x = WIDTH - RIGHT + 18
         self.line(x, self.named - 4, x + 26, self.named - 4, curve.colour, f' stroke-width="2"{dashes}')
+        self.mark(curve, x + 13, self.named - 4)
         self.text(x + 32, self.named, curve.name, colour=curve.colour)
         for note in curve.notes:
             self.named += 15

@@ -40,10 +40,15 @@ def called(name):
     NAME = name
 
 
+def say(text):
+    """Prints a line of the script on standard error."""
+    sys.stdout.flush()
+    print(f"{NAME}: {text}", file=sys.stderr)
+
+
 def stop(why, status=1):
     """Ends the script with a line."""
-    sys.stdout.flush()
-    print(f"{NAME}: {why}", file=sys.stderr)
+    say(why)
     sys.exit(status)
 
 

@@ -48,6 +48,8 @@ REQUEST = {"item": 300, "command": 300, "call": 100, "away": 150}
 CALLS, LARGE = 3.3, 19
 CORES, FEW = (1, 2, 4, 8, 16, 32, 64), (1, 2, 3, 4)
 BOUND, SERVICES = 10, (5, 10, 25)
+# after how many seconds it is said that the simulation goes on
+SECONDS = 10
 PLAIN = ["run", "--cores", "1", "--threads", "1"]
 
 
@@ -177,9 +179,16 @@ class Simulation:
             low, high = (middle, high) if self.is_in_time(middle, cores, service, **words) else (low, middle)
         return 50 * (low + high)
 
-    def all(self, call, cases):
-        """What a call gives for each case, side by side; a case is its words."""
-        return list(self.pool.map(lambda case: call(*case[0], **case[1]), cases))
+    def all(self, what, call, cases):
+        """What a call gives for each case, side by side; a case is its words. From time to time it is said how many are
+        done."""
+        begun = [self.pool.submit(call, *places, **words) for places, words in cases]
+        left = set(begun)
+        while left:
+            left = concurrent.futures.wait(left, SECONDS).not_done
+            if left:
+                common.say(f"{what}: {len(begun) - len(left)} of {len(begun)} are simulated; it goes on")
+        return [one.result() for one in begun]
 
 
 # ---- what is printed
@@ -191,7 +200,7 @@ def print_few(simulation, rates):
     here = max(FEW[-1], os.cpu_count() or 1)
     cases = [((cores,), {"connections": common.CONNECTIONS, "processors": here, "caller": int(cores in (1, here))})
              for cores in FEW]
-    for cores, found in zip(FEW, simulation.all(simulation.rate, cases)):
+    for cores, found in zip(FEW, simulation.all("1 to 4 cores", simulation.rate, cases)):
         told = ""
         if cores in rates:
             told = f"; measured {rates[cores] / 1e3:.0f}: {found['rate'] / rates[cores] - 1:+.0%}"
@@ -210,8 +219,9 @@ def print_tail(simulation, tail):
     cores = tail["cores"] if tail else 3
     print(f"\n{cores} cores, exponential service times: the load with 99 % within ten times the mean", flush=True)
     cases = [(skewed, stealing, service) for skewed in (0, 1) for stealing in (1, 0) for service in SERVICES]
-    loads = simulation.all(simulation.carried, [((cores, service), {"skewed": skewed, "stealing": stealing})
-                                                for skewed, stealing, service in cases])
+    loads = simulation.all(f"loads of {cores} cores", simulation.carried,
+                           [((cores, service), {"skewed": skewed, "stealing": stealing})
+                            for skewed, stealing, service in cases])
     for (skewed, stealing, service), load in zip(cases, loads):
         kind = "with stealing" if stealing else "without stealing"
         found = carried_by(tail["points"], kind, skewed, service) if tail else None
@@ -239,7 +249,8 @@ COLOURS = (chart.BLUE, chart.PURPLE, chart.GREEN, chart.GOLD, chart.ORANGE, char
 def print_rates(simulation):
     """The rate by cores of each kind of run, and what keeps the threads busy."""
     cases = [(kind, cores) for kind in RUNS for cores in CORES]
-    found = dict(zip(cases, simulation.all(simulation.rate, [((cores,), RUNS[kind]) for kind, cores in cases])))
+    given = [((cores,), RUNS[kind]) for kind, cores in cases]
+    found = dict(zip(cases, simulation.all("rates", simulation.rate, given)))
     print("\nsimulated, a processor for each core; in percent: the time in which the feeder feeds, in which the busiest\n"
           "home does a home's own work, and in which cores are busy; the calls that found their shard busy; and the part\n"
           "of the cores' time in which lines come from another core\n"
@@ -258,7 +269,8 @@ def print_rates(simulation):
 def print_loads(simulation):
     """The load that is served in time, by cores."""
     cases = [(kind, cores) for kind in LOADS for cores in CORES]
-    found = dict(zip(cases, simulation.all(simulation.carried, [((cores, 10), LOADS[kind]) for kind, cores in cases])))
+    given = [((cores, 10), LOADS[kind]) for kind, cores in cases]
+    found = dict(zip(cases, simulation.all("loads", simulation.carried, given)))
     law = ideal.Law("exponential", 10)
     for kind, shares in (("theory, one queue", True), ("theory, no stealing", False)):
         for cores in CORES:

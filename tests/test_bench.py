@@ -89,6 +89,23 @@ def traffic_of_scripts():
             same(f"bench/run {what} {' '.join(words)}", (2, wanted), (status, line[: len(wanted)]))
 
 
+def help_of_scripts():
+    """The word help does what --help does."""
+    for words in ((), ("scale",), ("shard",)):
+        ran = [subprocess.run([os.path.join(BENCH, "run"), *words, word], capture_output=True, text=True, check=False)
+               for word in ("help", "--help")]
+        same(f"bench/run {' '.join(words)} help", (0, "", ran[1].stdout), (ran[0].returncode, ran[0].stderr, ran[0].stdout))
+
+
+def marks():
+    """Each curve of a chart has a mark of its own, also beside its name; a computed one at some of its points."""
+    code = ("import chart\ndrawn = chart.Chart('', [], chart.linear('x', 100), chart.linear('y', 100))\n"
+            "for at in range(4): drawn.curve(chart.Curve('', 'black', [(x, x + at) for x in range(40)], at == 3))\n"
+            "print(*[drawn.svg('').count(mark) for mark in chart.MARKS])")
+    ran = subprocess.run([sys.executable, "-B", "-c", code], cwd=BENCH, capture_output=True, text=True, check=True)
+    same("how often each mark is drawn", "41 41 41 9 0 0\n", ran.stdout)
+
+
 def ratios():
     """What is said of interleaved runs."""
     costs = [[f"Cost({wall}, {wall + 1}, 0)" for wall in walls] for walls in ((3, 2, 8), (1, 2, 2), (2, 4, 1))]
@@ -119,7 +136,8 @@ def short_runs():
              (status, "faster than plain C with a journal on one" in line))
 
 
-Tests = cases(like_cache, like_cache_drawn, traffic_words, traffic_of_scripts, ratios, short_runs)
+Tests = cases(like_cache, like_cache_drawn, traffic_words, traffic_of_scripts, help_of_scripts, marks, ratios,
+              short_runs)
 
 if __name__ == "__main__":
     unittest.main()

@@ -205,6 +205,11 @@ def losses_by_exptime_are_counted():
     judge.run()
     counts = judge.certificate().counts
     same("losses", (1, 1), (counts["losses of items"], counts["losses of items that an exptime may explain"]))
+    joined = b"set x 0 1 1\r\n1\r\nappend x 0 0 1\r\n2\r\nget x\r\n"
+    judge = Judge(capture(1, pieces(0, joined)), outputs_of(replies([b"STORED\r\nSTORED\r\nEND\r\n"])), loses=True)
+    judge.run()
+    counts = judge.certificate().counts
+    same("a value that was joined keeps the exptime", 1, counts["losses of items that an exptime may explain"])
 
 
 # ---- what memcached reads otherwise

@@ -212,6 +212,21 @@ class Said(Wrapper):
                 self.assertEqual(line + advice, said[: len(line + advice)])
                 self.assertEqual(bool(advice) + bool(line), said.count("\n"))
 
+    def test_the_advice_says_what_a_file_is_that_was_given(self):
+        self.stand_in(MAKING)
+        self.assertEqual(0, self.run_it("zygos", "build")[0])
+        nothing, packets = "zygos: no packet goes to port 7, but ", f"{TOP}/examples/lost.pcap"
+        for words, path, line, advice in (
+            (("run",), f"{TOP}/README.md", "zygos: capture: bad-magic at 0\n", "zygos: this is no capture but text; "),
+            (("run",), packets, "zygos: capture: bad-magic at 0\n", "zygos: this is no capture but recorded packets; "),
+            (("run",), f"{TOP}/examples/first.replies", "zygos: capture: bad-magic at 0\n", "zygos: this is no capture but a"
+             " replies file; "),
+            (("pcap", "--port", "7"), packets, "", nothing + "commands go to 11211 (7 packets); --port names another\n"),
+        ):
+            with self.subTest(words), open(path, "rb") as given:
+                said = self.at_terminal("zygos", *words, stdin=given)[2]
+                self.assertEqual(line + advice, said[: len(line + advice)])
+
     def test_another_program_gets_its_words_and_advice(self):
         self.stand_in(MAKING)
         os.makedirs(f"{self.made}/crates/linear/src")

@@ -129,14 +129,14 @@ def big(size):
 
 
 @contextlib.contextmanager
-def memcached():
-    """A real memcached, by its place; where there is none, the rest of the test is left out."""
+def memcached(*words):
+    """A real memcached with these words, by its place; where there is none, the rest of the test is left out."""
     if not shutil.which("memcached"):
         skip("memcached is not installed")
     user = ["-u", "nobody"] if os.geteuid() == 0 else []
     while True:  # until the port is still free as memcached takes it
         port = free_port()
-        process = subprocess.Popen(["memcached", "-l", "127.0.0.1", "-p", str(port), *user], stderr=subprocess.DEVNULL)
+        process = subprocess.Popen(["memcached", "-l", "127.0.0.1", "-p", str(port), *user, *words], stderr=subprocess.DEVNULL)
         if is_listening(process, port):
             break
     with process:

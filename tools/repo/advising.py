@@ -1,13 +1,14 @@
 """Runs zygos for a person at a terminal: after the program's own line comes one on standard error that says what to do.
 
 The arguments are PROGRAM COMMAND .., from ./zygos, or a program that is one command with its options. Standard input and
-output are the program's, and so are its lines and its status. With --said COMMAND, only the advice on the lines of standard
-input is printed.
+output are the program's, and so are its lines and its status. With --said COMMAND INPUT, only the advice on the lines of
+standard input is printed, which are on this input. If the input is a file, the advice says what is in it.
 """
 import os
 import re
 import shutil
 import signal
+import stat
 import subprocess
 import sys
 import tempfile
@@ -22,7 +23,7 @@ ADVICE = (
     (r"no out-of-time ", "the journal has an order that the recorded times rule out; tools/judge searches for one that fits"),
     (r"\w+: usage: ", "./zygos help has the commands and their options"),
     (r"\w+: capture: bad-magic ",
-     "this is no capture; tools/capture makes one of text, tools/record of live traffic, and zygos pcap of packets"),
+     "this is no capture{}; tools/capture makes one of text, tools/record of live traffic, and zygos pcap of packets"),
     (r"\w+: capture: conn-count ", "a capture has at most 4,096 connections: split it, or use sessions"),
     (r"\w+: capture: bad-tag ", "the file is damaged, or has a close record in version 1"),
     (r"\w+: capture: conn-range ", "the file's count of connections is too small"),
@@ -41,8 +42,14 @@ OF_JOURNAL = {"report": "give a journal alone, which tools/part journal cuts out
 IN_ORDER = "give a capture, a journal and a replies file, in this order; zygos run --out both writes the last two"
 # a capture of no connection, as pcap writes it if no packet goes to the port
 NOTHING = b"ZYGCAP2\n\0\0\0\0E"
+# what a file may be in place of a capture, by its beginning
+KINDS = ((rb"ZYGJRN\d\n", "a journal"), (rb"ZYGREP\d\n", "a replies file"),
+         (rb"\xa1\xb2[\xc3\x3c][\xd4\x4d]|[\xd4\x4d][\xc3\x3c]\xb2\xa1|\n\r\r\n", "recorded packets"),
+         (rb"\x1f\x8b|\x28\xb5\x2f\xfd|BZh|\xfd7zXZ", "a compressed file"), (rb"[\t\n\r -~\x80-\xff]+\Z", "text"))
 # the commands whose output decides the advice, and how much of it
 HEADED, HEAD = ("check", "linear", "pcap"), 200
+# in how many bytes of recorded packets ports are looked for
+MOST_PACKETS = 1 << 22
 FORWARDED = signal.SIGINT, signal.SIGTERM, signal.SIGHUP
 
 
@@ -59,15 +66,41 @@ def command_of(program, words):
     return words[0] if name == "zygos" and words else name
 
 
-def advise(command, words, output, said):
+def beginning(given, size):
+    """The beginning of an input, by its descriptor; None if it is no file."""
+    try:
+        return os.pread(given, size, 0) if stat.S_ISREG(os.fstat(given).st_mode) else None
+    except OSError:
+        return None
+
+
+def kind_in(given):
+    """What an input is that is no capture, to be printed; nothing if that is not known."""
+    head = beginning(given, HEAD)
+    kind = next((kind for pattern, kind in KINDS if re.match(pattern, head)), None) if head is not None else None
+    return f" but {kind}" if kind else ""
+
+
+def ports_in(given, port):
+    """The ports to which the packets of an input go, to be printed; nothing if there are none, or it is no file."""
+    from zygos_tools.recording.packets.command import Reading  # which takes a while, and is hardly ever needed
+    from zygos_tools.recording.packets.report import listed
+    reading = Reading(port)
+    reading.read(beginning(given, MOST_PACKETS) or b"")
+    ports = listed(reading.asking or reading.ports)
+    return f", but {'commands' if reading.asking else 'other bytes'} go to {ports}" if ports else ""
+
+
+def advise(command, words, output, said, given=0):
     """Prints the advice on what the program wrote to standard output, at its beginning, and said on standard error."""
     lines = [*said.decode(errors="replace").splitlines(), *output.decode(errors="replace").splitlines()[:1]]
     found = next(filter(None, (advice_on(command, line) for line in lines)), None)
     if command == "pcap" and output == NOTHING:
         port = re.search(r"--port[ =](\d+)", " ".join(words))
-        found = f"no packet goes to port {port[1] if port else 11211}; --port names another"
+        number = int(port[1]) if port else 11211
+        found = f"no packet goes to port {number}{ports_in(given, number)}; --port names another"
     if found:
-        print(f"zygos: {found}", file=sys.stderr)
+        print(f"zygos: {found.format(kind_in(given))}", file=sys.stderr)
 
 
 def pass_on(source):
@@ -105,7 +138,8 @@ def run(program, words):
 
 def main(program, *words):
     if program == "--said":
-        advise(words[0], words, b"", sys.stdin.buffer.read())
+        with open(words[1], "rb") as given:
+            advise(words[0], words, b"", sys.stdin.buffer.read(), given.fileno())
         return 0
     status, head, said = run(program, words)
     if status < 0:

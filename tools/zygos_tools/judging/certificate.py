@@ -25,7 +25,7 @@ from zygos_tools.files.formats import (END, JOURNAL_START, MOST_CONNECTIONS, MOS
                                        capture_records, capture_start, close, hold, output_start, pieces, replies_start,
                                        segment)
 from zygos_tools.files.part import Part
-from zygos_tools.judging.events import CAS, Unknown
+from zygos_tools.judging.events import ADD, CAS, REPLACE, SET, Unknown
 from zygos_tools.judging.keys import Keys
 from zygos_tools.judging.orders import CHANGED, WAS_LOST, Order
 from zygos_tools.judging.reading import Recording, sessions_of
@@ -34,6 +34,8 @@ from zygos_tools.judging.table import ANSWERED, DROPPED, LOST, REPLACED, VERBS
 from zygos_tools.protocol.meaning import line_of, words_of
 from zygos_tools.protocol.uniques import cut_line, with_unique
 
+# the calls that give an item another exptime; a value that is joined to it keeps the old one
+GIVING = (SET, ADD, REPLACE, CAS)
 # what is counted of a command that another one takes the place of, by its first word
 READ_AS = {b"touch": "touch", b"gat": "gat", b"gats": "gat", b"bget": "gat", b"version": "words left out",
            b"mn": "words left out"}
@@ -102,7 +104,7 @@ class Certificate:
             words = words_of(line_of(line))
             if is_touching(line_of(line)):
                 has_exptime = words[1 if words[0] in (b"gat", b"gats") else 2] not in (b"0", b"-0")
-            elif mark & CHANGED and table.kind[call] <= CAS:
+            elif mark & CHANGED and table.kind[call] in GIVING:
                 has_exptime = table.meaning(table.command[call]).numbers.get("exptime", 0) != 0
         return count
 

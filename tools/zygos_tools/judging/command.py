@@ -72,7 +72,7 @@ NOT_CLOSED = "commands name keys that are left out too, so no checker is asked"
 MOST_FAULTS = 100
 # memory: of the tool itself in MB, and of each command and each byte of the files in bytes; less than so many MB is not
 # worth a line
-OWN, OF_COMMAND, OF_BYTE, MUCH = 30, 250, 1.2, 200
+OWN, OF_COMMAND, OF_BYTE, MUCH = 30, 450, 1.2, 200
 # of how many bytes the commands are counted
 SAMPLE = 1 << 20
 LINE = re.compile(rb"(?:\n|S\0\0..\0\0..)(?:gets?|gats?|set|add|replace|append|prepend|cas|incr|decr|delete|touch"

@@ -136,6 +136,11 @@ class Report:
             self.lines.append(f"  {early} of the server left out, before the first request of a flow")
 
 
+def listed(ports):
+    """The ports to which most packets go, to be printed."""
+    return ", ".join(f"{port} ({several(count, 'packet')})" for port, count in ports.most_common(MOST_PORTS))
+
+
 def refusal(reading, begin, name):
     """Why `zygos pcap` refuses the file, or makes an empty capture of it; None where it does neither."""
     if reading.first:
@@ -152,8 +157,7 @@ def refusal(reading, begin, name):
     if reading.answering:
         return f"{none}, and only what comes from it was recorded\n" \
                f"  record both ways, as by the filter port {reading.port}"
-    ports = ", ".join(f"{port} ({several(count, 'packet')})" for port, count in
-                      (reading.asking or reading.ports).most_common(MOST_PORTS))
+    ports = listed(reading.asking or reading.ports)
     if reading.asking:
         return f"{none}, but commands go to {ports}\n  name the port with --port"
     if ports:
