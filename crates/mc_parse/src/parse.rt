@@ -26,13 +26,8 @@ use crate::reading::{name_in, read_after};
 use crate::word::{Split, next_word};
 use mc_meta::is_key;
 use std::alloc::Global;
+use std::mem;
 use zy_base::{Blob, NoMemory};
-
-// The room for keys that is taken at first is for words of `WORD_LENGTH` bytes, each with the space before it, and for
-// `WORD_ROOM` of them at most.
-const WORD_LENGTH: usize = 6;
-
-const WORD_ROOM: usize = 128;
 
 /// The command of a line that needs nothing. The line is given without the bytes that end it.
 /// A fault of the client is a command.
@@ -60,15 +55,35 @@ pub fn parse_block(alloc: Global, line: &Blob, block: Blob) -> Result<Command, (
 }
 
 /// The command of a line that needs nothing, of which this was read. The keys of a retrieval are parts of the line.
-#[tactic(auto, unfolding(crate::specs::Meaning::line_command, crate::specs::Parsed::IsParsed), using(zy_base::proofs::RestLemmas::rest_after))]
 pub fn parse_read(alloc: Global, line: &Blob, parsed: &Parsed) -> Result<Command, NoMemory>
     requires within { length line.now ≤ line_limit }
     requires parsed { IsParsed line.now parsed.now }
     requires alone { need line.now ≡ Need.Nothing }
     ensures value { IfOk result (λ command. command ≡ line_command line.now) }
 {
+    let mut room = Vec::new(alloc);
+    let command = parse_read_in(alloc, line, parsed, &mut room);
+    drop(room);
+    command
+}
+
+/// The same; a retrieval takes this room for the list of its keys.
+#[tactic(auto, unfolding(crate::specs::Meaning::line_command, crate::specs::Parsed::IsParsed), using(zy_base::proofs::RestLemmas::rest_after))]
+pub fn parse_read_in(
+    alloc: Global,
+    line: &Blob,
+    parsed: &Parsed,
+    room: &mut Vec<Blob>,
+) -> Result<Command, NoMemory>
+    requires within { length line.now ≤ line_limit }
+    requires parsed { IsParsed line.now parsed.now }
+    requires alone { need line.now ≡ Need.Nothing }
+    requires empty { room.old.items ≡ [] }
+    ensures value { IfOk result (λ command. command ≡ line_command line.now) }
+    ensures room { room.new.items ≡ [] }
+{
     match parsed.name {
-        Some(name) => named_command(alloc, name, line, parsed.text(line.bytes())),
+        Some(name) => named_command(alloc, name, line, parsed.text(line.bytes()), room),
         None => meta_command(alloc, line.bytes()),
     }
 }
@@ -109,12 +124,20 @@ pub fn parse_large(line: &[u8]) -> Command
 }
 
 // The command of a name with the text after it, with which its line ends.
-fn named_command(alloc: Global, name: Name, line: &Blob, text: &[u8]) -> Result<Command, NoMemory>
+fn named_command(
+    alloc: Global,
+    name: Name,
+    line: &Blob,
+    text: &[u8],
+    room: &mut Vec<Blob>,
+) -> Result<Command, NoMemory>
     requires rest { IsRestOf text.now line.now }
+    requires empty { room.old.items ≡ [] }
     ensures value { IfOk result (λ command. command ≡ command_for (form_after name (words text.now))) }
+    ensures room { room.new.items ≡ [] }
 {
     match name {
-        Name::Get { unique } => get_command(alloc, line, text, unique),
+        Name::Get { unique } => get_command(alloc, line, text, unique, room),
         _ => command_for(alloc, read_after(name, text)),
     }
 }
@@ -147,12 +170,20 @@ fn alone_command(alloc: Global, ask: Ask<'_>, quiet: bool) -> Result<Command, No
 // A retrieval, whose keys are the words of a text with which its line ends, one at least. A word that is too long for
 // a key is found while the words are taken.
 #[tactic(auto, using(crate::proofs::GetLemmas::gets_keys, crate::proofs::GetLemmas::gets_long))]
-fn get_command(alloc: Global, line: &Blob, text: &[u8], unique: bool) -> Result<Command, NoMemory>
+fn get_command(
+    alloc: Global,
+    line: &Blob,
+    text: &[u8],
+    unique: bool,
+    room: &mut Vec<Blob>,
+) -> Result<Command, NoMemory>
     requires rest { IsRestOf text.now line.now }
+    requires empty { room.old.items ≡ [] }
     ensures value { IfOk result (λ command. command
         ≡ command_for (form_after (Names.Get unique) (words text.now))) }
+    ensures room { room.new.items ≡ [] }
 {
-    let mut keys = Keys::with_capacity(alloc, (text.len() / WORD_LENGTH + 1).min(WORD_ROOM))?;
+    let mut keys = Keys::from_vec(mem::replace(room, Vec::new(alloc)));
     match take_keys(line, &mut keys, text) {
         Ok(true) => Ok(retrieval(keys, unique)),
         Ok(false) => {

@@ -1,9 +1,9 @@
 use Rattle.std.proofs.Common.{arith, ap, length, subst}
 use Rattle.zy_frame.proofs.FrameFits.{Fits, fits}
-use Rattle.zy_frame.proofs.frame_command.meaning.Goals as goal
+use Rattle.zy_frame.proofs.frame_command.meaning_in.Goals as goal
 
-pub parse_read-requires-clause-within : goal.parse_read-requires-clause-within
-parse_read-requires-clause-within c =
+pub parse_read_in-requires-clause-within : goal.parse_read_in-requires-clause-within
+parse_read_in-requires-clause-within c =
     let f = subst Fits c.in-Line.is (fits c.frame.inside.kind c.frame.invariant.0) in
     f.0
 
