@@ -1,11 +1,15 @@
 -- Groups of cores, and how one of them rests. No public clause cites this module.
-use Rattle.std.specs.Prelude.{◌≡◌, ℕ, ◌+◌, nat_lt, ◌&&◌, if◌then◌else◌, List, [], ◌∷◌, map, Bool, true, false, Option, Some, None, ⊤}
+use Rattle.std.specs.Prelude.{◌≡◌, ◌⊎◌, ℕ, ◌+◌, ◌≤◌, ◌^◌, ◌==◌, nat_lt, ◌&&◌, if◌then◌else◌, List, [], ◌∷◌, map, slice_get}
+use Rattle.std.specs.Prelude.{Bool, true, false, Option, Some, None, ⊤}
 use Rattle.zy_park.specs.Pass.{Bells, Passed}
-use Rattle.zy_home.specs.Home.{all_here}
+use Rattle.zy_home.specs.Home.{all_here, is_settled}
+use Rattle.zy_control.specs.View.{MustHaveCounted}
 use Rattle.zy_core.specs.Core.{Cored, Identity}
 use Rattle.zy_core.specs.declared.turn.Turn.TheVariants as turns
 use Rattle.zy_core.specs.declared.turn.Came.{Came}
+use Rattle.zy_core.specs.Turn.{CameTo}
 use Rattle.zy_core.specs.declared.nap.Nap.{Nap}
+use Rattle.zy_steal.specs.declared.looks.Look.{Look}
 use Rattle.zy_drive.specs.declared.round.Round.{Round}
 use Rattle.zy_drive.specs.declared.round.Round.TheVariants.{Worked, Busy, Rested, Idle}
 
@@ -22,6 +26,28 @@ abbrev pub have_all_blocks : List Cored → Bool
 have_all_blocks [] = true
 have_all_blocks (core ∷ cores) = all_here core.home.blocks && have_all_blocks cores
 
+-- ---- cores of a group
+
+-- some core has this property
+abbrev pub HasOne : (Cored → Type 0) → List Cored → Type 0
+HasOne P cores = (i : ℕ) × (core : Cored) × (slice_get cores i ≡ Some core) × P core
+
+-- the core is not settled
+abbrev pub IsUnsettled : Cored → Type 0
+IsUnsettled core = is_settled core.home ≡ false
+
+-- the core has seen that not all cores have counted themselves
+abbrev pub SeesOthers : Cored → Type 0
+SeesOthers core = (core.control.trace.done.value == core.control.cores) ≡ false
+
+-- the core has counted itself if it is settled
+abbrev pub IsNoted : Cored → Type 0
+IsNoted core = is_settled core.home ≡ true → MustHaveCounted core.control.role
+
+-- each core is
+abbrev pub EachNoted : List Cored → Type 0
+EachNoted cores = (i : ℕ) (core : Cored) → slice_get cores i ≡ Some core → IsNoted core
+
 -- ---- rounds
 
 -- what one turn came to
@@ -30,6 +56,13 @@ round_of Came.Worked = Worked
 round_of Came.Busy = Busy
 round_of (Came.Idle own) = Idle
 round_of Came.Settled = Idle
+
+-- a core took a turn, which came to this round, with its looks over those that there were; or it took none, since it
+-- has taken the most turns of a core
+abbrev pub TurnedTo : Cored → Cored → List (Option Look) → List (Option Look) → Round → Type 0
+TurnedTo before after looks looks' round =
+    ((came : Came) × (round ≡ round_of came) × CameTo before after looks looks' came)
+    ⊎ ((2 ^ 48 ≤ before.turns) × (after ≡ before) × (round ≡ Idle))
 
 -- what a nap came to
 abbrev pub round_of_nap : Nap → Round

@@ -1,8 +1,8 @@
 //! Turns of several cores.
-ghost use Rattle.std.specs.Prelude.{◌≡◌, ◌≢◌, true, IfOk};
+ghost use Rattle.std.specs.Prelude.{◌≡◌, ◌≢◌, true, false, IfOk};
 ghost use Rattle.zy_core.specs.Core.{Fits, identity_of};
 ghost use Rattle.zy_core.specs.Cores.{identities, EachFits, EachSettled};
-ghost use Rattle.zy_drive.specs.Group.{have_all_blocks};
+ghost use Rattle.zy_drive.specs.Group.{have_all_blocks, HasOne, IsUnsettled, SeesOthers, EachNoted, TurnedTo};
 ghost use Rattle.zy_drive.specs.Same.{SameCore, SameCores};
 
 use crate::round::Round;
@@ -22,6 +22,7 @@ pub(crate) fn turn_one<G: Gate>(
 ) -> Result<Round, NoMemory>
     requires fits { Fits shared.now (identity_of core.old) }
     ensures same { SameCore core.old core.new }
+    ensures turned { IfOk result (TurnedTo core.old core.new looks.old looks.new) }
     ensures awake { IfOk result (λ round. round ≢ Round.Rested) }
 {
     if core.is_refused() {
@@ -58,6 +59,8 @@ pub(crate) fn turn_each<G: Gate>(
 pub(crate) fn note_each(cores: &mut Vec<Core>, shared: &Shared) -> bool
     requires fits { EachFits shared.now (identities cores.old.items) }
     ensures same { SameCores cores.old.items cores.new.items }
+    ensures noted { EachNoted cores.new.items }
+    ensures kept { result ≡ false → cores.new.items ≡ cores.old.items }
 {
     let mut counted = false;
     for i in 0..cores.len() {
@@ -73,6 +76,7 @@ pub(crate) fn all_done(cores: &mut Vec<Core>, shared: &Shared) -> bool
     requires fits { EachFits shared.now (identities cores.old.items) }
     ensures same { SameCores cores.old.items cores.new.items }
     ensures settled { result ≡ true → EachSettled cores.new.items }
+    ensures others { result ≡ false → HasOne SeesOthers cores.new.items }
 {
     for i in 0..cores.len() {
         let core = &mut cores[i];
@@ -98,6 +102,7 @@ pub(crate) fn have_all_blocks(cores: &[Core]) -> bool
 // Whether each core is settled.
 pub(crate) fn are_settled(cores: &[Core]) -> bool
     ensures settled { result ≡ true → EachSettled cores.now }
+    ensures unsettled { result ≡ false → HasOne IsUnsettled cores.now }
 {
     for i in 0..cores.len() {
         let core = &cores[i];

@@ -4,6 +4,7 @@ ghost use Rattle.zy_core.specs.Core.{Fits, identity_of};
 ghost use Rattle.zy_core.specs.Cores.{identities, EachFits};
 ghost use Rattle.zy_drive.specs.Group.{IsAlone, round_of_nap};
 ghost use Rattle.zy_drive.specs.Same.{SameCore, SameCores, SameBell};
+ghost use Rattle.zy_drive.specs.CallUp.{CallsUp};
 
 use crate::round::Round;
 use crate::rounds::TURN_LIMIT;
@@ -79,6 +80,7 @@ pub(crate) fn call_up_first<R, G>(
     requires bells { pass.old.bells ≡ driving.now.bells.now }
     ensures same { SameCores cores.old.items cores.new.items }
     ensures pass { SameBell pass.old pass.new }
+    ensures rung { CallsUp cores.old.items cores.new.items pass.old pass.new }
 {
     let core = &mut cores[0];
     core.call_up(driving.shared, driving.bells, pass);

@@ -1,6 +1,8 @@
 //! The caller's passes, and how it rings the cores that rest.
-ghost use Rattle.std.specs.Prelude.{◌≡◌, ◌==◌, not};
+ghost use Rattle.std.specs.Prelude.{◌≡◌, ◌==◌, ◌&&◌, not};
+ghost use Rattle.std.specs.Int.{bit_at};
 ghost use Rattle.zy_control.specs.Pass.{seeing_stop};
+ghost use Rattle.zy_drive.specs.CallUp.{RingsIf};
 
 use crate::threads::driving::Driving;
 use zy_control::ControlPass;
@@ -20,6 +22,7 @@ impl<'a> Caller<'a> {
     pub(crate) fn new(shared: &Shared, root: &'a mut BellRoot, rings: bool) -> Caller<'a>
         ensures watch { result.watch.table ≡ shared.now.control.id }
         ensures root { result.root.now ≡ root.old }
+        ensures rings { result.rings ≡ rings }
     {
         let (watch, _) = shared.control().watch();
         Caller { watch, root, rings }
@@ -31,6 +34,9 @@ impl<'a> Caller<'a> {
         requires bells { self.old.root.now.bells ≡ driving.now.bells.now }
         ensures watch { self.new.watch.table ≡ self.old.watch.table }
         ensures bells { self.new.root.now.bells ≡ self.old.root.now.bells }
+        ensures rung { RingsIf (is_due && self.old.rings)
+            self.old.watch self.new.watch self.old.root.now self.new.root.now }
+        ensures rings { self.new.rings ≡ self.old.rings }
     {
         if !is_due || !self.rings {
             return;
@@ -55,6 +61,9 @@ impl<'a> Caller<'a> {
     pub(crate) fn stop<R, G>(&mut self, driving: &Driving<'_, R, G>)
         requires watch { self.old.watch.table ≡ driving.now.shared.now.control.id }
         requires bells { self.old.root.now.bells ≡ driving.now.bells.now }
+        ensures set { bit_at self.new.watch.trace.stop.value 0 ≡ 1 }
+        ensures rung { RingsIf self.old.rings (seeing_stop self.new.watch.trace.stop.value self.old.watch)
+            self.new.watch self.old.root.now self.new.root.now }
     {
         driving.shared.control().stop(&mut self.watch);
         self.ring_if(true, driving);

@@ -1,7 +1,8 @@
 //! The cores that one thread drives.
-ghost use Rattle.std.specs.Prelude.{◌≡◌, ◌≢◌, true, false, IfOk};
+ghost use Rattle.std.specs.Prelude.{◌≡◌, ◌≢◌, true, false, IfOk, OnOk};
 ghost use Rattle.zy_core.specs.Cores.{identities, EachFits, EachSettled};
-ghost use Rattle.zy_drive.specs.Group.{grouped, have_all_blocks, IsAlone};
+ghost use Rattle.zy_drive.specs.Group.{grouped, have_all_blocks, IsAlone, HasOne, SeesOthers, EachNoted};
+ghost use Rattle.zy_drive.specs.CallUp.{CallsUp};
 ghost use Rattle.zy_drive.specs.Same.{SameCores, SameBell};
 
 use crate::round::Round;
@@ -78,6 +79,7 @@ impl Group {
         requires fits { EachFits driving.now.shared.now (identities self.old.cores) }
         ensures same { SameCores self.old.cores self.new.cores }
         ensures awake { IfOk result (λ round. round ≢ Round.Rested) }
+        ensures noted { OnOk result (EachNoted self.new.cores) }
     {
         self.done = false;
         let round = turn_each(
@@ -101,6 +103,7 @@ impl Group {
         requires bells { pass.old.bells ≡ driving.now.bells.now }
         ensures same { SameCores self.old.cores self.new.cores }
         ensures pass { SameBell pass.old pass.new }
+        ensures noted { OnOk result (EachNoted self.new.cores) }
     {
         self.done = false;
         let round = nap_first(driving, &mut self.cores, pass)?;
@@ -115,6 +118,7 @@ impl Group {
         requires bells { pass.old.bells ≡ driving.now.bells.now }
         ensures same { SameCores self.old.cores self.new.cores }
         ensures pass { SameBell pass.old pass.new }
+        ensures rung { CallsUp self.old.cores self.new.cores pass.old pass.new }
     {
         self.done = false;
         call_up_first(driving, &mut self.cores, pass);
@@ -124,6 +128,7 @@ impl Group {
     pub(crate) fn look(&mut self, shared: &Shared)
         requires fits { EachFits shared.now (identities self.old.cores) }
         ensures same { SameCores self.old.cores self.new.cores }
+        ensures others { self.new.done ≡ false → HasOne SeesOthers self.new.cores }
     {
         self.done = false;
         self.done = all_done(&mut self.cores, shared);
