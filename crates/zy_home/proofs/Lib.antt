@@ -8,5 +8,5 @@ pub mod SettleLemmas
 pub mod JoinLemmas
 pub mod ReceiveLemmas
 pub mod TableLemmas
-pub mod ItemLemmas
+pub mod CutLemmas
 pub mod MakeLemmas
