@@ -9,4 +9,5 @@ pub mod JoinLemmas
 pub mod ReceiveLemmas
 pub mod TableLemmas
 pub mod CutLemmas
+pub mod HomeLemmas
 pub mod MakeLemmas

@@ -1,7 +1,8 @@
 -- What a home keeps when a block is settled or put back, and when the blocks of touched places are.
 use Rattle.std.specs.Prelude.{map, is_some, Result, Ok, Err, OnOk, OnErr}
-use Rattle.std.proofs.Common.{◌≡◌, ℕ, zero, suc, ◌+◌, ◌<◌, ◌≤◌, List, [], ◌∷◌, ◌++◌, length, set, get_or, Bool, true, false, Option, Some, None, slice_get, refl, sym, ap, ◌∙◌, subst, arith}
+use Rattle.std.proofs.Common.{◌≡◌, ℕ, zero, suc, drop, ◌+◌, ◌<◌, ◌≤◌, List, [], ◌∷◌, ◌++◌, length, set, get_or, Bool, true, false, Option, Some, None, slice_get, refl, sym, ap, ◌∙◌, subst, arith}
 use Rattle.std.proofs.lemmas.Result.{on_ok_weaker}
+use Rattle.std.proofs.lemmas.List.{drop_more}
 use Rattle.zy_base.specs.declared.outside.NoMemory.{NoMemory}
 use Rattle.zy_table.specs.Member.{is_in}
 use Rattle.zy_table.proofs.MemberLemmas.{in_cons, in_front, in_more, in_without}
@@ -166,14 +167,14 @@ module _ (v : Held Blocked) (bs : List (Option Blocked)) (L L' : Linked) (is : L
 
     module _ (c : Blocked) (e : x0 ≡ Some c) where
       -- the block may be settled
-      touched_out : IsOut (homed v bs L true) p c
-      touched_out =
+      pub touched_due : IsDue v p l c
+      touched_due =
           let here = sound_in.here p c (touched_slot ∙ ap Some e) in
           let each = between_in.0 p (Some c) l (touched_slot ∙ ap Some e) touched_there in
-          record { link = l; there = touched_there; hand = here.0; mark = each.0; label = here.1 }
+          record { hand = here.0; mark = each.0; label = here.1 }
 
-      pub touched_due : IsDue v p l c
-      touched_due = record { hand = touched_out.hand; mark = touched_out.mark; label = touched_out.label }
+      touched_out : IsOut (homed v bs L true) p c
+      touched_out = record { link = l; there = touched_there; hand = touched_due.hand; mark = touched_due.mark; label = touched_due.label }
 
       module _ (m : Link) (w : Held Blocked) (x : Option Blocked) (conn : conn_of m ≡ conn_of l) (r : Result Unit NoMemory) (ok : OnOk r (IsSettled was_idle p c m v w x)) (err : OnErr r (IsPutBack v w x)) where
         pub touched_settling : Settling was_idle p c v w bs x L L' l m r
@@ -195,6 +196,9 @@ pub settles_more : (a b c : Homed) (places : List ℕ) (p : ℕ) → SettlesEach
 settles_more a b c [] p s t = (c, subst (λ z. SettlesHere p z c) s t, refl)
 settles_more a b c (q ∷ qs) p s t = (s.0, s.1, settles_more s.0 b c qs p s.2 t)
 
+pub first_left : (xs : List ℕ) (i p : ℕ) → i < length xs → p ≡ get_or xs i p → drop i xs ≡ p ∷ drop (i + 1) xs
+first_left xs i p lt e = drop_more xs i p lt ∙ ap (λ x. x ∷ drop (i + 1) xs) (sym e)
+
 -- a place without a block need not be touched
 rest_none : (h : Homed) (p : ℕ) (rest : List ℕ) → slice_get h.blocks p ≡ Some None → Between h (p ∷ rest) → Between h rest
 rest_none h p rest none b = (λ q x l eb el. go q x l eb el, λ q e. b.1 q (in_more p q rest e))
@@ -214,6 +218,10 @@ settles_next a b c p rest s t = go t.slot t.there t.steps
       stands = λ items e. step.stands items (s.stands items e);
       between = step.between rest s.between;
     }
+
+-- the first of the places that are left
+pub settles_first : (a b c : Homed) (xs : List ℕ) (i p : ℕ) → i < length xs → p ≡ get_or xs i p → SettlesOn a b (drop i xs) → SettlesAt p b c → SettlesOn a c (drop (i + 1) xs)
+settles_first a b c xs i p lt e s t = settles_next a b c p (drop (i + 1) xs) (subst (SettlesOn a b) (first_left xs i p lt e) s) t
 
 -- ---- what stays
 

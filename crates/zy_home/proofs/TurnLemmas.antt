@@ -1,9 +1,9 @@
 -- What a home keeps, and what it may have received, after a step at one of its places.
-use Rattle.std.proofs.Common.{◌≡◌, ◌≢◌, ℕ, zero, suc, ◌<◌, List, [], ◌∷◌, set, false, Option, Some, None, slice_get, refl, sym, ap, ◌∙◌, subst, length-set}
+use Rattle.std.proofs.Common.{◌≡◌, ◌≢◌, ℕ, zero, suc, ◌<◌, List, [], ◌∷◌, set, false, Option, Some, None, slice_get, refl, sym, ap, ◌∙◌, subst, length, length-set, ⊎_elim}
 use mathlib.Core.Logic.{dite}
 use native.Mathlib.Decide.{ℕ_discrete}
 use Rattle.zy_table.specs.Member.{is_in}
-use Rattle.zy_table.proofs.MemberLemmas.{in_cons, in_more}
+use Rattle.zy_table.proofs.MemberLemmas.{in_cons, in_more, in_or}
 use Rattle.zy_table.proofs.SliceLemmas.{get_set_else, get_set_same}
 use Rattle.zy_rx.specs.Session.{received_by}
 use Rattle.zy_shuffle.specs.Hand.{marked}
@@ -38,6 +38,17 @@ between_none h k live = (λ p x l eb el. go p x l (k.each live p x l eb el), λ 
     go : (p : ℕ) (x : Option Blocked) (l : Link) → IsAt h.pass p l x → IsBetween [] h.pass p l x
     go p None l at = at
     go p (Some b) l at = (at.0, λ e. at.1)
+
+-- one place more
+pub between_one : (h : Homed) (p : ℕ) → p < length h.blocks → Between h [] → Between h (p ∷ [])
+between_one h p near b = (
+  λ q x l eb el. go q x l (b.0 q x l eb el),
+  λ q e. ⊎_elim (λ same. subst (λ z. z < length h.blocks) (sym same) near) (λ no. absurd (let is = no.1 in cc)) (in_or p q [] e),
+)
+  where
+    go : (q : ℕ) (x : Option Blocked) (l : Link) → IsBetween [] h.pass q l x → IsBetween (p ∷ []) h.pass q l x
+    go q None l r = r
+    go q (Some c) l r = (r.0, λ _. r.1 refl)
 
 pub closed : (h : Homed) → IsOpen h → Between h [] → IsSoundHome h
 closed h k b = record { core = k.core; cores = k.cores; conns = k.conns; long = k.long; places = k.places; here = k.here; each = λ live p x l eb el. go p x l (b.0 p x l eb el) }

@@ -1,4 +1,4 @@
-use Rattle.std.proofs.Common.{◌≡◌, ◌×◌, Bool, drop, true}
+use Rattle.std.proofs.Common.{◌≡◌, Bool, drop, true}
 use Rattle.zy_home.specs.Home.{SameFor}
 use Rattle.zy_home.specs.Links.{homed}
 use Rattle.zy_home.specs.Between.{IsOpen, SettlesOn}
