@@ -37,7 +37,7 @@ returns-clause-ok c refused =
     let size = ap (λ (l : Linked). length l.touched) c.self.view_is in
     let long = c.len-i-end.ensures in
     let done = c.loop-i-test.false in
-    subst (SettlesOn (homed c.args.pass.now c.args.slots.now.items c.args.self.now refused) (homed c.loop-i.pass c.loop-i.slots.items c.loop-i.self refused)) (drop_all c.args.self.now.touched c.loop-i.i (omega arith)) (c.loop-i.invariant.on refused)
+    subst (SettlesOn (homed c.args.pass.now c.args.slots.now.items c.args.self.now refused) (homed c.loop-i.pass c.loop-i.slots.items c.loop-i.self refused)) (drop_all c.loop-i.i c.args.self.now.touched (omega arith)) (c.loop-i.invariant.on refused)
 
 -- memory was refused
 pub returns-in-Err-clause-err : goal.returns-in-Err-clause-err
