@@ -1,5 +1,5 @@
 -- What a home keeps and does, once it received an item, or several.
-use Rattle.std.proofs.Common.{◌≡◌, ℕ, ◌+◌, ◌≤◌, List, [], ◌∷◌, ◌++◌, length, Option, Some, None, slice_get, refl, sym, ap, ◌∙◌, subst, arith, append_assoc}
+use Rattle.std.proofs.Common.{◌≡◌, ℕ, ◌≤◌, List, [], ◌∷◌, ◌++◌, length, Option, Some, None, slice_get, refl, sym, ap, ◌∙◌, subst, arith}
 use Rattle.zy_rx.specs.declared.rx.Rx.{Rx}
 use Rattle.zy_shuffle.specs.Run.{was_idle}
 use Rattle.zy_conn.specs.Block.{Blocked}
@@ -7,7 +7,7 @@ use Rattle.zy_home.specs.Own.{own_conns}
 use Rattle.zy_home.specs.Home.{Homed, StandsMore, conns_in}
 use Rattle.zy_home.specs.Place.{ComesTo, Forwards, Settles}
 use Rattle.zy_home.specs.Items.{CutsEach, RefusedAmid}
-use Rattle.zy_home.specs.Between.{Between, CutsIn, SettlesAt, SettlesOn, StepsIn, Stepped}
+use Rattle.zy_home.specs.Between.{Between, CutsIn, SettlesAt, SettlesOn, StepsIn}
 use Rattle.zy_home.proofs.ReceiveLemmas.{comes_once}
 use Rattle.zy_home.proofs.SettleLemmas.{settles_next}
 

@@ -7,7 +7,7 @@ use Rattle.zy_shuffle.specs.Pass.{Held}
 use Rattle.zy_conn.specs.Block.{Blocked}
 use Rattle.zy_home.specs.Link.{Link}
 use Rattle.zy_home.specs.Idle.{IsIdleWith, due_mark, mark_in}
-use Rattle.zy_home.specs.Home.{Homed, IsSoundHome, IsAt, StandsHome, StandsMore, SameHome}
+use Rattle.zy_home.specs.Home.{Homed, IsSoundHome, IsAt, StandsHome, StandsMore}
 use Rattle.zy_home.specs.Place.{Settles}
 use Rattle.zy_home.specs.Items.{CutsOne, CutsEach, SettlesEach, StandsAll}
 

@@ -1,6 +1,6 @@
 -- What a home does with the items that it receives in one call: it cuts all of them first, and then settles the blocks
 -- that got an event.
-use Rattle.std.specs.Prelude.{◌≡◌, ℕ, ◌+◌, ◌<◌, ◌≤◌, List, [], ◌∷◌, ◌++◌, length, ◌||◌, Some, None, slice_get}
+use Rattle.std.specs.Prelude.{◌≡◌, ℕ, ◌<◌, ◌≤◌, List, [], ◌∷◌, ◌++◌, length, ◌||◌, Some, None, slice_get}
 use Rattle.zy_rx.specs.declared.rx.Rx.{Rx}
 use Rattle.zy_rx.specs.Ring.{Taking}
 use Rattle.zy_conn.specs.Block.{Blocked}

@@ -47,7 +47,10 @@ impl Home {
             self.refused = true;
             return Err(e);
         }
-        if let Err(e) = self.links.settle_place(ring, &mut self.pass, &mut self.blocks, at) {
+        if let Err(e) = self
+            .links
+            .settle_place(ring, &mut self.pass, &mut self.blocks, at)
+        {
             self.refused = true;
             return Err(e);
         }
@@ -75,7 +78,10 @@ impl Home {
                 return Err(e);
             }
         };
-        if let Err(e) = self.links.settle_all(ring, &mut self.pass, &mut self.blocks) {
+        if let Err(e) = self
+            .links
+            .settle_all(ring, &mut self.pass, &mut self.blocks)
+        {
             self.refused = true;
             return Err(e);
         }

@@ -29,7 +29,10 @@ impl Home {
         ensures err { OnErr result (PutsBack place self.old self.new) }
     {
         let (pass, slots) = (&mut self.pass, &mut self.blocks);
-        match self.links.settle::<WasHeld>(ring, pass, slots, place, block) {
+        match self
+            .links
+            .settle::<WasHeld>(ring, pass, slots, place, block)
+        {
             Ok(()) => Ok(()),
             Err(e) => {
                 self.refused = true;

@@ -41,7 +41,7 @@ impl Links {
         requires long { length slots.now.items ≡ length self.old.links }
         ensures value { IfOk result (λ count. (pass : Held Blocked) (refused : Bool)
             → CutsAll (homed pass slots.now.items self.old refused) outlet.old.taken (homed pass slots.now.items self.new refused) outlet.new.taken
-                self.new.touched count) }
+            self.new.touched count) }
         ensures few { IfOk result (λ count. (count ≤ 64) × (count < 64 → outlet.new.known ≡ [])) }
         ensures err { OnErr result ((pass : Held Blocked) (before after : Bool)
             → RefusedAmid (homed pass slots.now.items self.old before) (homed pass slots.now.items self.new after)) }
@@ -69,7 +69,7 @@ impl Links {
         requires long { length slots.now.items ≡ length self.old.links }
         ensures value { OnOk result ((pass : Held Blocked) (refused : Bool)
             → CutsIn (homed pass slots.now.items self.old refused) self.old.touched item.now
-                (homed pass slots.now.items self.new refused) self.new.touched) }
+            (homed pass slots.now.items self.new refused) self.new.touched) }
         ensures still { self.old.ended ≡ true → (result ≡ Ok tt) × (self.new ≡ self.old) }
         ensures same { SameConns self.old self.new }
     {

@@ -37,7 +37,14 @@ impl Links {
         ensures ended { self.new.ended ≡ self.old.ended }
     {
         let at = place as usize;
-        settle_at::<B>(ring, pass, &mut slots[at], &mut self.items[at], place, block)
+        settle_at::<B>(
+            ring,
+            pass,
+            &mut slots[at],
+            &mut self.items[at],
+            place,
+            block,
+        )
     }
 
     // Settles the blocks of the places that were touched.

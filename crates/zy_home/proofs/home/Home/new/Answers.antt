@@ -7,8 +7,10 @@ use Rattle.zy_home.proofs.MakeLemmas.{made_conns, made_keeps, made_stands}
 use Rattle.zy_home.proofs.home.Home.new.Goals as goal
 
 pub new-requires-2 : goal.new-requires-2
-new-requires-2 c = record { own = subst (λ (s : Share). conns_in c.fill.new.links.items ≡ own_conns s.core s.cores s.count) (sym c.in-Ok.ensures.ok)
-    (made_conns c.args.core c.args.cores c.args.count c.args.parts.pass c.args.parts.blocks c.args.parts.inlets c.fill.new.links.items c.args.parts refl refl refl c.requires.parts c.fill.ensures.links) }
+new-requires-2 c = record {
+  own = subst (λ (s : Share). conns_in c.fill.new.links.items ≡ own_conns s.core s.cores s.count) (sym c.in-Ok.ensures.ok)
+      (made_conns c.args.core c.args.cores c.args.count c.args.parts.pass c.args.parts.blocks c.args.parts.inlets c.fill.new.links.items c.args.parts refl refl refl c.requires.parts c.fill.ensures.links);
+}
 
 pub invariant_of-result : goal.invariant_of-result
 invariant_of-result c =

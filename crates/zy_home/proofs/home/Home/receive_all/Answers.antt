@@ -1,4 +1,4 @@
-use Rattle.std.proofs.Common.{true, sym, ap, ◌∙◌, arith}
+use Rattle.std.proofs.Common.{true, ap, ◌∙◌, arith}
 use Rattle.zy_home.specs.Home.{Homed}
 use Rattle.zy_home.specs.Links.{homed}
 use Rattle.zy_home.proofs.HomeLemmas.{none_cut, none_left, refused_on}

@@ -1,4 +1,4 @@
-use Rattle.std.proofs.Common.{[], length, sym, ap, ◌∙◌, arith}
+use Rattle.std.proofs.Common.{[], length, ap, ◌∙◌, arith}
 use Rattle.zy_table.proofs.SliceLemmas.{get_below}
 use Rattle.zy_home.specs.Home.{Homed}
 use Rattle.zy_home.specs.Links.{homed}

@@ -11,9 +11,10 @@ settle_place-requires-clause-between c =
     let long = c.len-i-end.ensures in
     let more = c.loop-i-test.true in
     let place = c.index-place.result.now in
-    let at = c.index-place.ensures ∙ ap (λ (l : Linked). get_or l.touched c.loop-i.i place) c.self-in-loop-i.view_is ∙ ap (λ ts. get_or ts c.loop-i.i place) c.loop-i.invariant.touched in
-    (drop (c.loop-i.i + 1) c.args.self.now.touched,
-    subst (Between (homed c.loop-i.pass c.loop-i.slots.items c.loop-i.self true)) (first_left c.args.self.now.touched c.loop-i.i place (omega arith) at) (c.loop-i.invariant.on true).between)
+    let at = c.index-place.ensures ∙ ap (λ (l : Linked). get_or l.touched c.loop-i.i place) c.self-in-loop-i.view_is ∙ ap (λ ts. get_or ts c.loop-i.i place) c.loop-i.invariant.touched in (
+      drop (c.loop-i.i + 1) c.args.self.now.touched,
+      subst (Between (homed c.loop-i.pass c.loop-i.slots.items c.loop-i.self true)) (first_left c.args.self.now.touched c.loop-i.i place (omega arith) at) (c.loop-i.invariant.on true).between,
+    )
 
 pub loop-i-preserved : goal.loop-i-preserved
 loop-i-preserved c =

@@ -1,5 +1,4 @@
 use Rattle.std.proofs.Common.{sym, ap, ◌∙◌, refl, arith}
-use Rattle.zy_home.specs.Links.{Linked}
 use Rattle.zy_home.proofs.SettleLemmas.{place_back, place_empty, place_settled, touched_due, touched_near, touched_settling}
 use Rattle.zy_home.proofs.links.Links.settle_place.Goals as goal
 
