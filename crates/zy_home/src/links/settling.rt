@@ -57,15 +57,15 @@ impl Links {
         requires table { pass.old.table ≡ ring.now.id }
         requires few { pass.old.count < 2 ^ 62 }
         requires sound { IsOpen (homed pass.old slots.old.items self.old true) }
-        requires between { Between (homed pass.old slots.old.items self.old true) self.old.touched }
-        requires most { length self.old.touched ≤ 64 }
+        requires between { Between (homed pass.old slots.old.items self.old true) self.old.touched.items }
+        requires most { length self.old.touched.items ≤ 64 }
         ensures ok { OnOk result ((refused : Bool) → SettlesOn (homed pass.old slots.old.items self.old refused)
             (homed pass.new slots.new.items self.new refused) []) }
         ensures err { OnErr result ((before after : Bool) → RefusedAmid
             (homed pass.old slots.old.items self.old before) (homed pass.new slots.new.items self.new after)) }
         ensures sound { IsOpen (homed pass.new slots.new.items self.new true) }
         ensures same { SameFor 64 (homed pass.old slots.old.items self.old true) (homed pass.new slots.new.items self.new true) }
-        ensures still { self.old.touched ≡ [] → (result ≡ Ok tt) × (self.new ≡ self.old) × (pass.new ≡ pass.old)
+        ensures still { self.old.touched.items ≡ [] → (result ≡ Ok tt) × (self.new ≡ self.old) × (pass.new ≡ pass.old)
             × (slots.new.items ≡ slots.old.items) }
     {
         for i in 0..self.touched.len() {
