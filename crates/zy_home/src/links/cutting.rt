@@ -42,8 +42,8 @@ impl Links {
         requires own { AreOwn self.old }
         requires long { length slots.now.items ≡ length self.old.items.items }
         ensures value { IfOk result (λ count. (pass : Held Blocked) (refused : Bool)
-            → CutsAll (homed pass slots.now.items self.old refused) outlet.old.taken (homed pass slots.now.items self.new refused) outlet.new.taken
-            self.new.touched.items count) }
+            → CutsAll (homed pass slots.now.items self.old refused) outlet.old.taken
+            (homed pass slots.now.items self.new refused) outlet.new.taken self.new.touched.items count) }
         ensures few { IfOk result (λ count. (count ≤ 64) × (count < 64 → outlet.new.known ≡ [])) }
         ensures err { OnErr result ((pass : Held Blocked) (before after : Bool)
             → RefusedAmid (homed pass slots.now.items self.old before) (homed pass slots.now.items self.new after)) }
@@ -102,7 +102,8 @@ impl Links {
         requires long { length slots.now.items ≡ length self.old.items.items }
         requires comes { ComesIn self.old at item.now }
         ensures value { IfOk result (λ touched. (pass : Held Blocked) (refused : Bool)
-            → CutsFor at item.now (homed pass slots.now.items self.old refused) (homed pass slots.now.items self.new refused) touched) }
+            → CutsFor at item.now (homed pass slots.now.items self.old refused)
+            (homed pass slots.now.items self.new refused) touched) }
         ensures same { SameConns self.old self.new }
         ensures kept { (self.new.touched ≡ self.old.touched) × (self.new.ended ≡ self.old.ended) }
     {
