@@ -13,10 +13,11 @@ use Rattle.zy_conn.specs.Work.{Mark}
 use Rattle.zy_conn.specs.Block.{Blocked}
 use Rattle.zy_home.specs.Link.{Link, IsFor, TakesIn, conn_of}
 use Rattle.zy_home.specs.Offer.{WaitsFull}
-use Rattle.zy_home.specs.Own.{own_conns, is_end}
+use Rattle.zy_home.specs.Own.{Share, own_conns, is_end}
 use Rattle.zy_home.specs.Idle.{IsIdleWith, due_mark}
 use Rattle.zy_home.specs.Home.{Homed, HomeStands, StandsMore, conns_in}
-use Rattle.zy_home.specs.Links.{Linked, ComesIn, homed}
+use Rattle.zy_home.specs.declared.links.Links.{Links}
+use Rattle.zy_home.specs.Links.{AreOwn, ComesIn, SameConns, homed}
 use Rattle.zy_home.specs.Place.{ComesTo}
 use Rattle.zy_home.specs.Items.{CutsOne, CutsEach, StandsAll}
 use Rattle.zy_home.specs.Between.{IsBetween, Between, StaysIdle, CutsAll, CutsFor, CutsIn}
@@ -90,34 +91,30 @@ module _ (h : Homed) (own : conns_in h.links ≡ own_conns h.core h.cores h.coun
     λ no. cut_in touched touched (omega arith) (cut_between touched touched (λ q ne. refl) (λ c e old out. stays no c e (old out))),
   )
 
--- ---- the connections of a home, where L is L'
+-- ---- the connections of a home
 
-pub comes_to : (pass : Held Blocked) (bs : List (Option Blocked)) (L : Linked) (refused : Bool) (p : ℕ) (item : Rx) → ComesIn L p item → ComesTo (homed pass bs L refused) p item
+pub comes_to : (pass : Held Blocked) (bs : List (Option Blocked)) (L : Links) (refused : Bool) (p : ℕ) (item : Rx) → ComesIn L p item → ComesTo (homed pass bs L refused) p item
 comes_to pass bs L refused p item c = record { live = c.live; link = c.link; there = c.there; own = c.own }
 
-module _ (p : ℕ) (item : Rx) (bs : List (Option Blocked)) (L L' : Linked) (is : L ≡ L') (long : length bs ≡ length L'.links) (comes : ComesIn L' p item) where
-  comes_in : ComesIn L p item
-  comes_in = subst (λ z. ComesIn z p item) (sym is) comes
+module _ (p : ℕ) (item : Rx) (bs : List (Option Blocked)) (L : Links) (long : length bs ≡ length L.items.items) (comes : ComesIn L p item) where
+  pub cut_near : (p < length bs) × (p < length L.items.items)
+  cut_near = let near = get_below L.items.items p comes.link comes.there in (omega arith, near)
 
-  pub cut_near : (p < length bs) × (p < length L.links)
-  cut_near = let near = get_below L.links p comes_in.link comes_in.there in let same = ap (λ (z : Linked). length z.links) is in (omega arith, near)
-
-  module _ (l : Link) (at : l ≡ get_or L.links p l) where
-    cut_there : slice_get L.links p ≡ Some l
-    cut_there = get_at L.links p l l cut_near.1 at
+  module _ (l : Link) (at : l ≡ get_or L.items.items p l) where
+    cut_there : slice_get L.items.items p ≡ Some l
+    cut_there = get_at L.items.items p l l cut_near.1 at
 
     -- the item is for the connection at this place
     pub cut_own : IsFor (conn_of l) item
-    cut_own = let e : Some comes_in.link ≡ Some l = sym comes_in.there ∙ cut_there in let same : comes_in.link ≡ l = cc in subst (λ (z : Link). IsFor (conn_of z) item) same comes_in.own
+    cut_own = let e : Some comes.link ≡ Some l = sym comes.there ∙ cut_there in let same : comes.link ≡ l = cc in subst (λ (z : Link). IsFor (conn_of z) item) same comes.own
 
-    pub cut_conns : (m : Link) → due_mark m ≡ due_mark l → conns_in (set L.links p m) ≡ conns_in L.links
-    cut_conns m due = conns-set L.links p l m cut_there (ap (λ (z : Mark). z.0) due)
+    pub cut_conns : (m : Link) → due_mark m ≡ due_mark l → conns_in (set L.items.items p m) ≡ conns_in L.items.items
+    cut_conns m due = conns-set L.items.items p l m cut_there (ap (λ (z : Mark). z.0) due)
 
-    pub cut_value : conns_in L.links ≡ own_conns L.share.core L.share.cores L.share.count → (x0 : Option Blocked) → x0 ≡ get_or bs p x0 → (m : Link) → due_mark m ≡ due_mark l → (r : Result Bool NoMemory) → OnOk r (TakesIn item l m) → OnOk r (x0 ≡ None → WaitsFull m) → IfOk r (λ got. got ≡ false → StaysIdle x0 l m)
-        → IfOk r (λ got. (pass : Held Blocked) (refused : Bool) → CutsFor p item (homed pass bs L' refused) (homed pass bs (record L { links = set L.links p m }) refused) got)
+    pub cut_value : AreOwn L → (x0 : Option Blocked) → x0 ≡ get_or bs p x0 → (m : Link) → due_mark m ≡ due_mark l → (r : Result Bool NoMemory) → OnOk r (TakesIn item l m) → OnOk r (x0 ≡ None → WaitsFull m) → IfOk r (λ got. got ≡ false → StaysIdle x0 l m)
+        → IfOk r (λ got. (pass : Held Blocked) (refused : Bool) → CutsFor p item (homed pass bs L refused) (record (homed pass bs L refused) { links = set L.items.items p m }) got)
     cut_value own x0 slot m due (Ok got) takes full idle = λ pass refused.
-        subst (λ z. CutsFor p item (homed pass bs z refused) (homed pass bs (record L { links = set L.links p m }) refused) got) is
-        (cuts_for (homed pass bs L refused) own p item (comes_to pass bs L refused p item comes_in) l x0 cut_there (get_at bs p x0 x0 cut_near.0 slot) cut_own m due takes full got idle)
+        cuts_for (homed pass bs L refused) own p item (comes_to pass bs L refused p item comes) l x0 cut_there (get_at bs p x0 x0 cut_near.0 slot) cut_own m due takes full got idle
     cut_value own x0 slot m due (Err e) takes full idle = tt
 
 -- an item that is for no place
@@ -152,3 +149,6 @@ cuts_next h m h' taken now next touched touched' item count s t is = record {
   between = λ b. t.between (s.between b);
   room = (let a = t.room in let b = s.room in omega arith);
 }
+
+pub same_own : (l m : Links) → AreOwn l → SameConns l m → AreOwn m
+same_own l m own same = same.conns ∙ own ∙ ap (λ (s : Share). own_conns s.core s.cores s.count) (sym same.share)

@@ -16,13 +16,12 @@ use Rattle.zy_conn.specs.Block.{Blocked, label_in}
 use Rattle.zy_home.specs.Link.{Link, StandsOn, conn_of}
 use Rattle.zy_home.specs.Offer.{WaitsBehind}
 use Rattle.zy_home.specs.Idle.{IsIdleWith, mark_in}
-use Rattle.zy_home.specs.Home.{Homed, IsAt, SameFor, SameHome, conns_in}
-use Rattle.zy_home.specs.Links.{Linked, homed}
+use Rattle.zy_home.specs.Home.{Homed, IsAt, SameFor, SameHome}
 use Rattle.zy_home.specs.Place.{IsOut, KnowsAll, SameHand}
 use Rattle.zy_home.specs.Items.{SettlesEach, SettlesHere}
 use Rattle.zy_home.specs.Turn.{IsDue, IsSettled, IsPutBack, PassTurns, Turns, home_turned}
 use Rattle.zy_home.specs.Between.{Between, IsBetween, IsOpen, SettlesAt, SettlesOn, Stepped, StepsIn}
-use Rattle.zy_home.proofs.TurnLemmas.{conns-set, set_stands, turned_between, turned_open, turned_same}
+use Rattle.zy_home.proofs.TurnLemmas.{set_stands, turned_between, turned_open, turned_same}
 
 -- ---- passes
 
@@ -99,33 +98,25 @@ module _ (h : Homed) (p : ℕ) (l m : Link) (w : Held Blocked) (x : Option Block
         between = turned_between h p x l m w t.0 t.1;
       }
 
--- a block was settled at a place, or put back. L has the connections of L', and l is the one of the place
-pub record Settling (before : Before) (p : ℕ) (given : Blocked) (v w : Held Blocked) (bs : List (Option Blocked)) (x : Option Blocked) (L L' : Linked) (l m : Link) (r : Result Unit NoMemory) : Type 0 where
-  pub conns : conns_in (set L.links p m) ≡ conns_in L.links
-  pub sound : IsOpen (homed w (set bs p x) (record L { links = set L.links p m }) true)
-  pub same : SameHome (homed v bs L' true) (homed w (set bs p x) (record L { links = set L.links p m }) true)
-  pub ok : OnOk r (StandsOn l m) → OnOk r ((refused : Bool) → Stepped before p given (homed v bs L' refused) (homed w (set bs p x) (record L { links = set L.links p m }) refused))
+-- a block was settled at a place, or put back. l is the connection of the place
+pub record Settling (before : Before) (h : Homed) (p : ℕ) (given : Blocked) (l m : Link) (w : Held Blocked) (x : Option Blocked) (r : Result Unit NoMemory) : Type 0 where
+  pub sound : IsOpen (home_turned h p x m w)
+  pub same : SameHome h (home_turned h p x m w)
+  pub ok : OnOk r (StandsOn l m) → OnOk r ((refused : Bool) → Stepped before p given (record h { refused = refused }) (home_turned (record h { refused = refused }) p x m w))
 
-settling : (before : Before) (p : ℕ) (given : Blocked) (v w : Held Blocked) (bs : List (Option Blocked)) (x : Option Blocked) (L : Linked) (l m : Link) → IsOpen (homed v bs L true) → IsOut (homed v bs L true) p given → l ≡ get_or L.links p l → conn_of m ≡ conn_of l
-    → (r : Result Unit NoMemory) → OnOk r (IsSettled before p given m v w x) → OnErr r (IsPutBack v w x) → Settling before p given v w bs x L L l m r
-settling before p given v w bs x L l m k o at conn r ok err =
-    let there : slice_get L.links p ≡ Some l = get_at L.links p l l (get_below L.links p o.link o.there) at in
-    let t = step_turns (homed v bs L true) p l m w x there conn o.hand before given r ok err in record {
-      conns = conns-set L.links p l m there conn;
-      sound = turned_open (homed v bs L true) p x l m w t k;
-      same = turned_same (homed v bs L true) p x l m w t;
+pub settling : (before : Before) (h : Homed) (p : ℕ) (given : Blocked) (l m : Link) (w : Held Blocked) (x : Option Blocked) → IsOpen h → IsOut h p given → l ≡ get_or h.links p l → conn_of m ≡ conn_of l
+    → (r : Result Unit NoMemory) → OnOk r (IsSettled before p given m h.pass w x) → OnErr r (IsPutBack h.pass w x) → Settling before h p given l m w x r
+settling before h p given l m w x k o at conn r ok err =
+    let there : slice_get h.links p ≡ Some l = get_at h.links p l l (get_below h.links p o.link o.there) at in
+    let t = step_turns h p l m w x there conn o.hand before given r ok err in record {
+      sound = turned_open h p x l m w t k;
+      same = turned_same h p x l m w t;
       ok = go r ok there;
     }
   where
-    go : (r : Result Unit NoMemory) → OnOk r (IsSettled before p given m v w x) → slice_get L.links p ≡ Some l → OnOk r (StandsOn l m) → OnOk r ((refused : Bool) → Stepped before p given (homed v bs L refused) (homed w (set bs p x) (record L { links = set L.links p m }) refused))
-    go (Ok done) s there on = λ refused. stepped (homed v bs L refused) p l m w x there conn o.hand given s on
+    go : (r : Result Unit NoMemory) → OnOk r (IsSettled before p given m h.pass w x) → slice_get h.links p ≡ Some l → OnOk r (StandsOn l m) → OnOk r ((refused : Bool) → Stepped before p given (record h { refused = refused }) (home_turned (record h { refused = refused }) p x m w))
+    go (Ok done) s there on = λ refused. stepped (record h { refused = refused }) p l m w x there conn o.hand given s on
     go (Err e) s there on = tt
-
-pub settling_out : (before : Before) (p : ℕ) (given : Blocked) (v w : Held Blocked) (bs : List (Option Blocked)) (x : Option Blocked) (L L' : Linked) (l m : Link) → L ≡ L' → IsOpen (homed v bs L' true) → IsOut (homed v bs L' true) p given → l ≡ get_or L.links p l → conn_of m ≡ conn_of l
-    → (r : Result Unit NoMemory) → OnOk r (IsSettled before p given m v w x) → OnErr r (IsPutBack v w x) → Settling before p given v w bs x L L' l m r
-settling_out before p given v w bs x L L' l m is k o at conn r ok err =
-    subst (λ z. Settling before p given v w bs x L z l m r) is
-    (settling before p given v w bs x L l m (subst (λ z. IsOpen (homed v bs z true)) (sym is) k) (subst (λ z. IsOut (homed v bs z true) p given) (sym is) o) at conn r ok err)
 
 -- ---- the hand after a refusal
 
@@ -139,56 +130,47 @@ same_hand bs p v w x b e s = filled-set bs p (Some b) x e (ap is_some s.slot_is)
 
 -- ---- a touched place
 
--- L has the connections of L', l is the one of the place, and x0 is in its slot
-module _ (v : Held Blocked) (bs : List (Option Blocked)) (L L' : Linked) (is : L ≡ L') (k : IsOpen (homed v bs L' true)) (p : ℕ) (t : (rest : List ℕ) × Between (homed v bs L' true) (p ∷ rest)) where
-  sound_in : IsOpen (homed v bs L true)
-  sound_in = subst (λ z. IsOpen (homed v bs z true)) (sym is) k
+-- l is the connection of the place, and x0 is in its slot
+module _ (h : Homed) (k : IsOpen h) (p : ℕ) (t : (rest : List ℕ) × Between h (p ∷ rest)) where
+  pub touched_near : (p < length h.blocks) × (p < length h.links)
+  touched_near = let near = t.1.1 p (in_front p t.0) in let long = k.long in (near, omega arith)
 
-  between_in : Between (homed v bs L true) (p ∷ t.0)
-  between_in = subst (λ z. Between (homed v bs z true) (p ∷ t.0)) (sym is) t.1
+  module _ (l : Link) (x0 : Option Blocked) (slot : x0 ≡ get_or h.blocks p x0) (at : l ≡ get_or h.links p l) where
+    touched_there : slice_get h.links p ≡ Some l
+    touched_there = get_at h.links p l l touched_near.1 at
 
-  pub touched_near : (p < length bs) × (p < length L.links)
-  touched_near = let near = between_in.1 p (in_front p t.0) in let long = sound_in.long in (near, omega arith)
-
-  module _ (l : Link) (x0 : Option Blocked) (slot : x0 ≡ get_or bs p x0) (at : l ≡ get_or L.links p l) where
-    touched_there : slice_get L.links p ≡ Some l
-    touched_there = get_at L.links p l l touched_near.1 at
-
-    touched_slot : slice_get bs p ≡ Some x0
-    touched_slot = get_at bs p x0 x0 touched_near.0 slot
+    touched_slot : slice_get h.blocks p ≡ Some x0
+    touched_slot = get_at h.blocks p x0 x0 touched_near.0 slot
 
     -- the slot is empty
-    pub place_empty : (x : Option Blocked) → x ≡ x0 → x0 ≡ None → (refused : Bool) → SettlesAt p (homed v bs L' refused) (homed v (set bs p x) (record L { links = set L.links p l }) refused)
+    pub place_empty : (x : Option Blocked) → x ≡ x0 → x0 ≡ None → (refused : Bool) → SettlesAt p (record h { refused = refused }) (record h { blocks = set h.blocks p x; links = set h.links p l; refused = refused })
     place_empty x same none refused = record {
       slot = None;
       there = touched_slot ∙ ap Some none;
-      steps = λ i. homed v ((ap (set bs p) same ∙ set_there bs p x0 touched_slot) i) ((ap (λ ls. record L { links = ls }) (set_there L.links p l touched_there) ∙ is) i) refused;
+      steps = λ i. record h { blocks = (ap (set h.blocks p) same ∙ set_there h.blocks p x0 touched_slot) i; links = set_there h.links p l touched_there i; refused = refused };
     }
 
     module _ (c : Blocked) (e : x0 ≡ Some c) where
       -- the block may be settled
-      pub touched_due : IsDue v p l c
+      pub touched_due : IsDue h.pass p l c
       touched_due =
-          let here = sound_in.here p c (touched_slot ∙ ap Some e) in
-          let each = between_in.0 p (Some c) l (touched_slot ∙ ap Some e) touched_there in
+          let here = k.here p c (touched_slot ∙ ap Some e) in
+          let each = t.1.0 p (Some c) l (touched_slot ∙ ap Some e) touched_there in
           record { hand = here.0; mark = each.0; label = here.1 }
 
-      touched_out : IsOut (homed v bs L true) p c
-      touched_out = record { link = l; there = touched_there; hand = touched_due.hand; mark = touched_due.mark; label = touched_due.label }
+      module _ (m : Link) (w : Held Blocked) (x : Option Blocked) (conn : conn_of m ≡ conn_of l) (r : Result Unit NoMemory) (ok : OnOk r (IsSettled was_idle p c m h.pass w x)) (err : OnErr r (IsPutBack h.pass w x)) where
+        pub touched_settling : Settling was_idle h p c l m w x r
+        touched_settling = settling was_idle h p c l m w x k (record { link = l; there = touched_there; hand = touched_due.hand; mark = touched_due.mark; label = touched_due.label }) at conn r ok err
 
-      module _ (m : Link) (w : Held Blocked) (x : Option Blocked) (conn : conn_of m ≡ conn_of l) (r : Result Unit NoMemory) (ok : OnOk r (IsSettled was_idle p c m v w x)) (err : OnErr r (IsPutBack v w x)) where
-        pub touched_settling : Settling was_idle p c v w bs x L L' l m r
-        touched_settling = subst (λ z. Settling was_idle p c v w bs x L z l m r) is (settling was_idle p c v w bs x L l m sound_in touched_out at conn r ok err)
-
-        pub place_settled : OnOk r (StandsOn l m) → OnOk r ((refused : Bool) → SettlesAt p (homed v bs L' refused) (homed w (set bs p x) (record L { links = set L.links p m }) refused))
+        pub place_settled : OnOk r (StandsOn l m) → OnOk r ((refused : Bool) → SettlesAt p (record h { refused = refused }) (home_turned (record h { refused = refused }) p x m w))
         place_settled on = on_ok_weaker r (λ steps refused. record { slot = Some c; there = touched_slot ∙ ap Some e; steps = steps refused }) (touched_settling.ok on)
 
-        pub place_back : OnErr r ((before after : Bool) → SameHand (homed v bs L' before) (homed w (set bs p x) (record L { links = set L.links p m }) after))
+        pub place_back : OnErr r ((before after : Bool) → SameHand (record h { refused = before }) (home_turned (record h { refused = after }) p x m w))
         place_back = go r err
           where
-            go : (r : Result Unit NoMemory) → OnErr r (IsPutBack v w x) → OnErr r ((before after : Bool) → SameHand (homed v bs L' before) (homed w (set bs p x) (record L { links = set L.links p m }) after))
+            go : (r : Result Unit NoMemory) → OnErr r (IsPutBack h.pass w x) → OnErr r ((before after : Bool) → SameHand (record h { refused = before }) (home_turned (record h { refused = after }) p x m w))
             go (Ok done) s = tt
-            go (Err e2) s = λ before after. record { pass = s.pass_is; blocks = same_hand bs p v w x c (touched_slot ∙ ap Some e) s }
+            go (Err e2) s = λ before after. record { pass = s.pass_is; blocks = same_hand h.blocks p h.pass w x c (touched_slot ∙ ap Some e) s }
 
 -- ---- blocks one after another
 

@@ -7,7 +7,8 @@ use Rattle.zy_rx.specs.Flow.{home_of}
 use Rattle.zy_home.specs.Link.{Link, conn_of}
 use Rattle.zy_home.specs.Own.{IsTable, own_conns, item_conn}
 use Rattle.zy_home.specs.Home.{conns_in}
-use Rattle.zy_home.specs.Links.{Linked, ComesIn}
+use Rattle.zy_home.specs.declared.links.Links.{Links}
+use Rattle.zy_home.specs.Links.{AreOwn, ComesIn}
 use Rattle.zy_home.proofs.OwnLemmas.{own-here, own-else, conn_at}
 use Rattle.zy_home.proofs.ReceiveLemmas.{for_is, is_for}
 
@@ -85,10 +86,10 @@ past_table conns table t conn past place e =
     absurd (cc)
 
 -- the place that was looked up, or none, for an item of a connection
-module _ (L : Linked) (own : conns_in L.links ≡ own_conns L.share.core L.share.cores L.share.count) (conn : ℕ) (item : Rx) (is : item_conn item ≡ Some conn) where
-  pub place_found : L.ended ≡ false → (result : Option ℕ) → IfSome result (λ place. slice_get (own_conns L.share.core L.share.cores L.share.count) place ≡ Some conn) → IfSome result (λ place. ComesIn L place item)
+module _ (L : Links) (own : AreOwn L) (conn : ℕ) (item : Rx) (is : item_conn item ≡ Some conn) where
+  pub place_found : L.ended ≡ false → (result : Option ℕ) → IfSome result (λ place. slice_get (own_conns L.places.core L.places.cores L.places.count) place ≡ Some conn) → IfSome result (λ place. ComesIn L place item)
   place_found live (Some place) at =
-      let found = link_of L.links place conn (ap (λ (l : List ℕ). slice_get l place) own ∙ at) in record {
+      let found = link_of L.items.items place conn (ap (λ (l : List ℕ). slice_get l place) own ∙ at) in record {
         live = live;
         link = found.0;
         there = found.1;
@@ -96,7 +97,7 @@ module _ (L : Linked) (own : conns_in L.links ≡ own_conns L.share.core L.share
       }
   place_found live None at = tt
 
-  pub place_missed : (result : Option ℕ) → IfNone result ((place : ℕ) → slice_get (own_conns L.share.core L.share.cores L.share.count) place ≢ Some conn) → IfNone result ((place : ℕ) → ComesIn L place item → ⊥)
+  pub place_missed : (result : Option ℕ) → IfNone result ((place : ℕ) → slice_get (own_conns L.places.core L.places.cores L.places.count) place ≢ Some conn) → IfNone result ((place : ℕ) → ComesIn L place item → ⊥)
   place_missed (Some place) none = tt
   place_missed None none = λ place comes.
-      none place (ap (λ (l : List ℕ). slice_get l place) (sym own) ∙ conn_at L.links place comes.link comes.there ∙ sym (for_is (conn_of comes.link) item comes.own) ∙ is)
+      none place (ap (λ (l : List ℕ). slice_get l place) (sym own) ∙ conn_at L.items.items place comes.link comes.there ∙ sym (for_is (conn_of comes.link) item comes.own) ∙ is)

@@ -49,7 +49,8 @@ CutsFor place item h h' touched = (before : List ℕ)
     → CutsIn h before item h' (before ++ place ∷ []) × (touched ≡ false → CutsIn h before item h' before)
 
 -- this number of items was taken from the outlet and cut, and these places were touched
-pub record CutsAll (h : Homed) (taken : List Rx) (h' : Homed) (taken' : List Rx) (touched : List ℕ) (count : ℕ) : Type 0 where
+pub record CutsAll (h : Homed) (taken : List Rx) (h' : Homed) (taken' : List Rx) (touched : List ℕ)
+    (count : ℕ) : Type 0 where
   pub items : List Rx
   pub size : length items ≡ count
   pub taken_is : taken' ≡ taken ++ items

@@ -4,38 +4,35 @@ use Rattle.zy_rx.specs.declared.rx.Rx.{Rx}
 use Rattle.zy_shuffle.specs.Pass.{Held}
 use Rattle.zy_conn.specs.Block.{Blocked}
 use Rattle.zy_home.specs.Link.{Link, IsFor, conn_of}
-use Rattle.zy_home.specs.Own.{Share}
+use Rattle.zy_home.specs.declared.links.Links.{Links}
+use Rattle.zy_home.specs.Own.{own_conns}
 use Rattle.zy_home.specs.Home.{Homed, conns_in}
 
--- the connections of a home: which they are; for each, by rising number, what the home keeps besides its block; whether
--- the end was received; and the places whose blocks got an event from the last items
-pub record Linked : Type 0 where
-  pub share : Share
-  pub links : List Link
-  pub ended : Bool
-  pub touched : List ℕ
-
 -- the home of these parts
-abbrev pub homed : Held Blocked → List (Option Blocked) → Linked → Bool → Homed
+abbrev pub homed : Held Blocked → List (Option Blocked) → Links → Bool → Homed
 homed pass blocks l refused = record {
-  core = l.share.core;
-  cores = l.share.cores;
-  count = l.share.count;
+  core = l.places.core;
+  cores = l.places.cores;
+  count = l.places.count;
   pass = pass;
   blocks = blocks;
-  links = l.links;
+  links = l.items.items;
   ended = l.ended;
   refused = refused;
 }
 
 -- the item is for the connection at this place, and no end came before it
-pub record ComesIn (l : Linked) (place : ℕ) (item : Rx) : Type 0 where
+pub record ComesIn (l : Links) (place : ℕ) (item : Rx) : Type 0 where
   pub live : l.ended ≡ false
   pub link : Link
-  pub there : slice_get l.links place ≡ Some link
+  pub there : slice_get l.items.items place ≡ Some link
   pub own : IsFor (conn_of link) item
 
+-- the connections are those of their core, by rising number
+abbrev pub AreOwn : Links → Type 0
+AreOwn l = conns_in l.items.items ≡ own_conns l.places.core l.places.cores l.places.count
+
 -- the connections are the same
-pub record SameConns (l l' : Linked) : Type 0 where
-  pub share : l'.share ≡ l.share
-  pub conns : conns_in l'.links ≡ conns_in l.links
+pub record SameConns (l l' : Links) : Type 0 where
+  pub share : l'.places ≡ l.places
+  pub conns : conns_in l'.items.items ≡ conns_in l.items.items

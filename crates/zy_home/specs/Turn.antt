@@ -63,7 +63,8 @@ home_turned h place slot link pass = record h {
 }
 
 -- the step is one that a home may make
-pub record Turns (h : Homed) (place : ℕ) (slot' : Option Blocked) (link link' : Link) (pass' : Held Blocked) : Type 0 where
+pub record Turns (h : Homed) (place : ℕ) (slot' : Option Blocked) (link link' : Link)
+    (pass' : Held Blocked) : Type 0 where
   pub there : slice_get h.links place ≡ Some link
   pub conn : conn_of link' ≡ conn_of link
   pub pass : PassTurns place h.pass pass'

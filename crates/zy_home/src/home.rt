@@ -44,7 +44,7 @@ impl Home {
         ensures value { result ≡ is_settled self.now }
         ensures keeps { IsSoundHome self.now }
     {
-        self.links.has_ended() && !self.refused && are_here(&self.blocks)
+        self.links.ended && !self.refused && are_here(&self.blocks)
     }
 
     /// Whether each block is in the home's hand, so that no other core has one and none is queued.
@@ -75,7 +75,15 @@ impl Home {
             links,
             refused: _,
         } = self;
-        (pass, Blocks::from_slots(blocks), links.into_ends())
+        let Links {
+            places,
+            items,
+            ended: _,
+            touched,
+        } = links;
+        drop(places);
+        drop(touched);
+        (pass, Blocks::from_slots(blocks), Ends::of(items))
     }
 }
 

@@ -51,7 +51,12 @@ impl Home {
         Ok(Home {
             pass,
             blocks: slots,
-            links: Links::new(alloc, places, links),
+            links: Links {
+                places,
+                items: links,
+                ended: false,
+                touched: Vec::new(alloc),
+            },
             refused: false,
         })
     }

@@ -6,6 +6,7 @@ ghost use Rattle.zy_home.specs.Place.{Forwards, SameHand};
 ghost use Rattle.zy_home.specs.Items.{ReceivesAll, RefusedAmid};
 
 use super::Home;
+use crate::place::ended_by;
 use zy_base::NoMemory;
 use zy_conn::Block;
 use zy_rx::{Outlet, Rx};
@@ -37,7 +38,7 @@ impl Home {
         ensures err { OnErr result (SameHand self.old self.new) }
     {
         let Some(at) = self.links.place_for(&item) else {
-            self.links.end_by(&item);
+            self.links.ended = ended_by(self.links.ended, &item);
             drop(item);
             return Ok(());
         };

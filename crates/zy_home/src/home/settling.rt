@@ -90,7 +90,11 @@ impl Home {
         // The call tells the prover that the places are the slots of the ring's table, at most 4096.
         let _places = ring.places();
         match ring.claim_home(&mut self.pass) {
-            Claim::Took { place, mut block } => match block.hold(store, gate, self.links.core()) {
+            Claim::Took { place, mut block } => match block.hold(
+                store,
+                gate,
+                self.links.places.core(),
+            ) {
                 Ok(held) => match self.settle(ring, place, block) {
                     Ok(()) => Ok(Own::Took { held }),
                     Err(e) => Err(e),

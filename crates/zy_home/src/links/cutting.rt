@@ -3,12 +3,12 @@ ghost use Rattle.std.specs.Prelude.{◌≡◌, ◌≤◌, ◌<◌, ◌++◌, ◌
 ghost use Rattle.zy_shuffle.specs.Pass.{Held};
 ghost use Rattle.zy_conn.specs.Block.{Blocked};
 ghost use Rattle.std.specs.Prelude.{Ok, OnOk, OnErr, IfOk, IfSome, IfNone};
-ghost use Rattle.zy_home.specs.Links.{ComesIn, SameConns, homed};
+ghost use Rattle.zy_home.specs.Links.{AreOwn, ComesIn, SameConns, homed};
 ghost use Rattle.zy_home.specs.Items.{RefusedAmid};
 ghost use Rattle.zy_home.specs.Between.{CutsAll, CutsFor, CutsIn};
 
 use super::Links;
-use crate::place::{conn_in, cut_at};
+use crate::place::{conn_in, cut_at, ended_by};
 use zy_base::NoMemory;
 use zy_conn::Block;
 use zy_rx::{Outlet, Rx};
@@ -19,6 +19,7 @@ const ITEMS_AT_ONCE: u32 = 64;
 impl Links {
     // The place of the connection that an item is for; `None` if the item is dropped or the end.
     pub(crate) fn place_for(&self, item: &Rx) -> Option<usize>
+        requires own { AreOwn self.now }
         ensures some { IfSome result (λ at. ComesIn self.now at item.now) }
         ensures none { IfNone result ((at : ℕ) → ComesIn self.now at item.now → ⊥) }
     {
@@ -38,17 +39,18 @@ impl Links {
         slots: &Vec<Option<Block>>,
         outlet: &mut Outlet,
     ) -> Result<u32, NoMemory>
-        requires long { length slots.now.items ≡ length self.old.links }
+        requires own { AreOwn self.old }
+        requires long { length slots.now.items ≡ length self.old.items.items }
         ensures value { IfOk result (λ count. (pass : Held Blocked) (refused : Bool)
-            → CutsAll (homed pass slots.now.items self.old refused) outlet.old.taken (homed pass slots.now.items self.new refused) outlet.new.taken
-            self.new.touched count) }
+            → CutsAll (homed pass slots.now.items self.old refused) outlet.old.taken
+            (homed pass slots.now.items self.new refused) outlet.new.taken self.new.touched.items count) }
         ensures few { IfOk result (λ count. (count ≤ 64) × (count < 64 → outlet.new.known ≡ [])) }
         ensures err { OnErr result ((pass : Held Blocked) (before after : Bool)
             → RefusedAmid (homed pass slots.now.items self.old before) (homed pass slots.now.items self.new after)) }
         ensures same { SameConns self.old self.new }
         ensures ring { outlet.new.ring ≡ outlet.old.ring }
         ensures still { self.old.ended ≡ true → (is_err result ≡ false)
-            × (self.new ≡ record self.old { touched = [] }) }
+            × (self.new ≡ record self.old { touched = self.new.touched }) × (self.new.touched.items ≡ []) }
     {
         self.touched.clear();
         for count in 0..ITEMS_AT_ONCE {
@@ -66,19 +68,23 @@ impl Links {
 
     // Cuts an item, or drops it, or notes the end.
     fn cut_in(&mut self, slots: &Vec<Option<Block>>, item: &Rx) -> Result<(), NoMemory>
-        requires long { length slots.now.items ≡ length self.old.links }
+        requires own { AreOwn self.old }
+        requires long { length slots.now.items ≡ length self.old.items.items }
         ensures value { OnOk result ((pass : Held Blocked) (refused : Bool)
-            → CutsIn (homed pass slots.now.items self.old refused) self.old.touched item.now
-            (homed pass slots.now.items self.new refused) self.new.touched) }
+            → CutsIn (homed pass slots.now.items self.old refused) self.old.touched.items item.now
+            (homed pass slots.now.items self.new refused) self.new.touched.items) }
         ensures still { self.old.ended ≡ true → (result ≡ Ok tt) × (self.new ≡ self.old) }
         ensures same { SameConns self.old self.new }
     {
         let Some(at) = self.place_for(item) else {
-            self.end_by(item);
+            self.ended = ended_by(self.ended, item);
             return Ok(());
         };
         match self.cut_for(at, slots, item) {
-            Ok(true) => self.touch(at),
+            Ok(true) => match self.touched.push(at) {
+                Ok(()) => Ok(()),
+                Err(_) => Err(NoMemory),
+            },
             Ok(false) => Ok(()),
             Err(e) => Err(e),
         }
@@ -92,24 +98,15 @@ impl Links {
         slots: &Vec<Option<Block>>,
         item: &Rx,
     ) -> Result<bool, NoMemory>
-        requires long { length slots.now.items ≡ length self.old.links }
+        requires own { AreOwn self.old }
+        requires long { length slots.now.items ≡ length self.old.items.items }
         requires comes { ComesIn self.old at item.now }
         ensures value { IfOk result (λ touched. (pass : Held Blocked) (refused : Bool)
-            → CutsFor at item.now (homed pass slots.now.items self.old refused) (homed pass slots.now.items self.new refused) touched) }
+            → CutsFor at item.now (homed pass slots.now.items self.old refused)
+            (homed pass slots.now.items self.new refused) touched) }
         ensures same { SameConns self.old self.new }
         ensures kept { (self.new.touched ≡ self.old.touched) × (self.new.ended ≡ self.old.ended) }
     {
         cut_at(&slots[at], &mut self.items[at], item)
-    }
-
-    // Notes that the block of a place got an event.
-    fn touch(&mut self, at: usize) -> Result<(), NoMemory>
-        ensures ok { OnOk result (self.new ≡ record self.old { touched = self.old.touched ++ at ∷ [] }) }
-        ensures err { OnErr result (self.new ≡ self.old) }
-    {
-        match self.touched.push(at) {
-            Ok(()) => Ok(()),
-            Err(_) => Err(NoMemory),
-        }
     }
 }

@@ -33,7 +33,8 @@ impl Links {
         ensures err { OnErr result ((before after : Bool) → PutsBack place
             (homed pass.old slots.old.items self.old before) (homed pass.new slots.new.items self.new after)) }
         ensures sound { IsOpen (homed pass.new slots.new.items self.new true) }
-        ensures same { SameHome (homed pass.old slots.old.items self.old true) (homed pass.new slots.new.items self.new true) }
+        ensures same { SameHome (homed pass.old slots.old.items self.old true)
+            (homed pass.new slots.new.items self.new true) }
         ensures ended { self.new.ended ≡ self.old.ended }
     {
         let at = place as usize;
@@ -57,16 +58,17 @@ impl Links {
         requires table { pass.old.table ≡ ring.now.id }
         requires few { pass.old.count < 2 ^ 62 }
         requires sound { IsOpen (homed pass.old slots.old.items self.old true) }
-        requires between { Between (homed pass.old slots.old.items self.old true) self.old.touched }
-        requires most { length self.old.touched ≤ 64 }
+        requires between { Between (homed pass.old slots.old.items self.old true) self.old.touched.items }
+        requires most { length self.old.touched.items ≤ 64 }
         ensures ok { OnOk result ((refused : Bool) → SettlesOn (homed pass.old slots.old.items self.old refused)
             (homed pass.new slots.new.items self.new refused) []) }
         ensures err { OnErr result ((before after : Bool) → RefusedAmid
             (homed pass.old slots.old.items self.old before) (homed pass.new slots.new.items self.new after)) }
         ensures sound { IsOpen (homed pass.new slots.new.items self.new true) }
-        ensures same { SameFor 64 (homed pass.old slots.old.items self.old true) (homed pass.new slots.new.items self.new true) }
-        ensures still { self.old.touched ≡ [] → (result ≡ Ok tt) × (self.new ≡ self.old) × (pass.new ≡ pass.old)
-            × (slots.new.items ≡ slots.old.items) }
+        ensures same { SameFor 64 (homed pass.old slots.old.items self.old true)
+            (homed pass.new slots.new.items self.new true) }
+        ensures still { self.old.touched.items ≡ [] → (result ≡ Ok tt)
+            × (self.new ≡ self.old) × (pass.new ≡ pass.old) × (slots.new.items ≡ slots.old.items) }
     {
         for i in 0..self.touched.len() {
             let place = self.touched[i];
@@ -94,7 +96,8 @@ impl Links {
         ensures err { OnErr result ((before after : Bool) → SameHand
             (homed pass.old slots.old.items self.old before) (homed pass.new slots.new.items self.new after)) }
         ensures sound { IsOpen (homed pass.new slots.new.items self.new true) }
-        ensures same { SameHome (homed pass.old slots.old.items self.old true) (homed pass.new slots.new.items self.new true) }
+        ensures same { SameHome (homed pass.old slots.old.items self.old true)
+            (homed pass.new slots.new.items self.new true) }
         ensures kept { (self.new.touched ≡ self.old.touched) × (self.new.ended ≡ self.old.ended) }
     {
         // The call tells the prover that the places are the slots of the ring's table, at most 4096.

@@ -1,6 +1,6 @@
-use Rattle.std.proofs.Common.{[], true, sym, ap, ◌∙◌, subst}
-use Rattle.zy_home.specs.Home.{Homed, StandsMore}
-use Rattle.zy_home.specs.Links.{Linked, homed}
+use Rattle.std.proofs.Common.{[], true, ap, ◌∙◌}
+use Rattle.zy_home.specs.Home.{Homed}
+use Rattle.zy_home.specs.Links.{homed}
 use Rattle.zy_home.proofs.CutLemmas.{comes_to}
 use Rattle.zy_home.proofs.HomeLemmas.{forwards_none, one_between, one_forwards, one_stands}
 use Rattle.zy_home.proofs.ReceiveLemmas.{comes_not_others, more_past}
@@ -9,8 +9,7 @@ use Rattle.zy_home.proofs.home.Home.receive.Goals as goal
 
 -- the item is dropped, or the end
 pub returns-in_default-clause-stands : goal.returns-in_default-clause-stands
-returns-in_default-clause-stands c = rw (← c.self.view_is) (subst (λ (l : Linked). StandsMore (homed c.self.inside.pass c.self.inside.blocks.items c.self.inside.links c.self.inside.refused) c.args.item (homed c.self.inside.pass c.self.inside.blocks.items l c.self.inside.refused)) (sym c.end_by.ensures.value)
-    (more_past (homed c.self.inside.pass c.self.inside.blocks.items c.self.inside.links c.self.inside.refused) c.args.item (λ p to. c.in_default.ensures.none p (record { live = to.live; link = to.link; there = to.there; own = to.own }))))
+returns-in_default-clause-stands c = rw (← c.self.view_is, c.ended_by-self-inside.ensures.value) (more_past _ c.args.item (λ p to. c.in_default.ensures.none p (record { live = to.live; link = to.link; there = to.there; own = to.own })))
 
 pub returns-in_default-clause-forwards : goal.returns-in_default-clause-forwards
 returns-in_default-clause-forwards c = rw (← c.self.view_is) (forwards_none _ _ c.args.item (λ p to. c.in_default.ensures.none p (record { live = to.live; link = to.link; there = to.there; own = to.own })))

@@ -33,7 +33,7 @@ returns-clause-value c = rw (← c.self.view_is) (
       none = λ e.
           let size = s.size in
           let room = s.room in
-          let still = c.in_default.ensures.still (none_left c.cut_all.new.self.touched (omega arith)) in
+          let still = c.in_default.ensures.still (none_left c.cut_all.new.self.touched.items (omega arith)) in
           (λ i. homed (still.2 i) (still.3 i) (still.1 i) c.self.inside.refused) ∙ none_cut _ _ s.items (omega arith) s.cuts;
       stands = λ earlier k. t.stands _ (s.stands earlier k);
       cut = homed c.self.inside.pass c.self.inside.blocks.items c.cut_all.new.self c.self.inside.refused;
