@@ -13,9 +13,9 @@ use Rattle.zy_home.specs.Link.{Link}
 use Rattle.zy_home.specs.Idle.{due_mark, mark_in}
 use Rattle.zy_home.specs.Home.{Homed, IsSoundHome, IsAt, all_here}
 use Rattle.zy_home.specs.Place.{IsOut, with_pass}
-use Rattle.zy_home.specs.Turn.{Turns}
-use Rattle.zy_home.proofs.TurnLemmas.{at_else, turned_keeps}
-use Rattle.zy_home.proofs.SettleLemmas.{same_turns}
+use Rattle.zy_home.specs.Between.{IsOpen}
+use Rattle.zy_home.proofs.TurnLemmas.{at_else, opens, turned_open}
+use Rattle.zy_home.proofs.SettleLemmas.{slot_turns}
 
 -- there is a member below the length
 pub some_there : {A : Type 0} (l : List A) (i : ℕ) → i < length l → (x : A) × (slice_get l i ≡ Some x)
@@ -105,14 +105,7 @@ not_joined h w n p b k j size here =
 -- ---- a block that came is put back
 
 -- memory was refused with a block out: it was put into its slot, with the mark and the label that it has
-pub put_back : (h : Homed) (k : IsSoundHome h) (p : ℕ) (b b' : Blocked) (x : Option Blocked) (o : IsOut h p b) → label_in b' ≡ label_in b → x ≡ Some b' → IsSoundHome (record h { blocks = set h.blocks p x; refused = true })
+pub put_back : (h : Homed) (k : IsSoundHome h) (p : ℕ) (b b' : Blocked) (x : Option Blocked) (o : IsOut h p b) → label_in b' ≡ label_in b → x ≡ Some b' → IsOpen (record h { blocks = set h.blocks p x })
 put_back h k p b b' x o label filled =
-    let t : Turns h p x o.link o.link h.pass true = record {
-      there = o.there;
-      conn = refl;
-      pass = same_turns p h.pass h.pass refl;
-      live = λ e. absurd (cc);
-      at = λ e. absurd (cc);
-      here = λ c e. let is : b' ≡ c = cc in (o.hand, ap label_in (sym is) ∙ label ∙ o.label);
-    } in
-    subst (λ ls. IsSoundHome (record h { blocks = set h.blocks p x; links = ls; refused = true })) (set_there h.links p o.link o.there) (turned_keeps h p x o.link o.link h.pass true t k)
+    let t = slot_turns h p o.link o.link h.pass x o.there refl o.hand b' refl filled (label ∙ o.label) in
+    subst (λ ls. IsOpen (record h { blocks = set h.blocks p x; links = ls })) (set_there h.links p o.link o.there) (turned_open h p x o.link o.link h.pass t (opens h k))

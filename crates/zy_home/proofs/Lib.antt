@@ -8,5 +8,6 @@ pub mod SettleLemmas
 pub mod JoinLemmas
 pub mod ReceiveLemmas
 pub mod TableLemmas
-pub mod ItemLemmas
+pub mod CutLemmas
+pub mod HomeLemmas
 pub mod MakeLemmas

@@ -1,19 +1,16 @@
 -- What a home may have received, and what it did, once it took an item in or dropped it.
-use Rattle.std.specs.Prelude.{◌==◌, if◌then◌else◌}
-use Rattle.std.proofs.Common.{◌≡◌, ◌≢◌, ℕ, List, [], ◌∷◌, ◌++◌, Bool, true, false, Option, Some, None, slice_get, refl, sym, ap, ◌∙◌, subst, ne_eqb}
+use Rattle.std.specs.Prelude.{◌==◌, ◌||◌, if◌then◌else◌}
+use Rattle.std.proofs.Common.{◌≡◌, ◌≢◌, ℕ, List, [], ◌∷◌, ◌++◌, set, Bool, true, false, Option, Some, None, slice_get, refl, sym, ap, ◌∙◌, subst, ne_eqb}
 use Rattle.zy_rx.specs.declared.rx.Rx.{Rx}
 use Rattle.zy_rx.specs.declared.rx.Rx.TheVariants.{Segment, Close, End}
 use Rattle.zy_rx.specs.Session.{Sessions, no_sessions, with_bytes, with_close, takes_in, received_by}
 use Rattle.zy_rx.proofs.SessionLemmas.{sessions-push}
-use Rattle.zy_shuffle.specs.Pass.{Held}
-use Rattle.zy_conn.specs.Block.{Blocked}
 use Rattle.zy_home.specs.Link.{Link, LinkStands, IsFor, TakesIn, conn_of}
-use Rattle.zy_home.specs.Own.{IsOwn, IsOfOthers, item_conn, is_end}
-use Rattle.zy_home.specs.Home.{Homed, IsSoundHome, StandsMore}
-use Rattle.zy_home.specs.Place.{ComesTo, Forwards}
-use Rattle.zy_home.specs.Turn.{Turns, home_turned}
+use Rattle.zy_home.specs.Own.{IsOwn, IsOfOthers, item_conn, is_end, own_conns}
+use Rattle.zy_home.specs.Home.{Homed, StandsMore, conns_in}
+use Rattle.zy_home.specs.Place.{ComesTo}
 use Rattle.zy_home.proofs.OwnLemmas.{own_is, own_rises, conn_at, rising_apart}
-use Rattle.zy_home.proofs.TurnLemmas.{turned_more}
+use Rattle.zy_home.proofs.TurnLemmas.{each_set}
 
 -- ---- what an item does to the sessions of a connection
 
@@ -71,7 +68,7 @@ is_for c (Close conn) e = cc
 is_for c End e = absurd (cc)
 
 -- an item that belongs to no connection is the end
-pub is_the_end : (item : Rx) → item_conn item ≡ None → item ≡ End
+is_the_end : (item : Rx) → item_conn item ≡ None → item ≡ End
 is_the_end (Segment conn bytes) e = absurd (cc)
 is_the_end (Close conn) e = absurd (cc)
 is_the_end End e = refl
@@ -82,33 +79,39 @@ no_end conn (Close c) e = refl
 no_end conn End e = absurd (cc)
 
 -- an item of one of the home's connections is not of others
-pub not_others : (core cores count conn : ℕ) (item : Rx) → IsOfOthers core cores count item → item_conn item ≡ Some conn → IsOwn core cores count conn → ⊥
+not_others : (core cores count conn : ℕ) (item : Rx) → IsOfOthers core cores count item → item_conn item ≡ Some conn → IsOwn core cores count conn → ⊥
 not_others core cores count conn (Segment c bytes) others e own = others (subst (IsOwn core cores count) (let is : conn ≡ c = cc in is) own)
 not_others core cores count conn (Close c) others e own = others (subst (IsOwn core cores count) (let is : conn ≡ c = cc in is) own)
 not_others core cores count conn End others e own = absurd (cc)
 
--- the connection of a place is one of the home's
-pub link_own : (h : Homed) → IsSoundHome h → (p : ℕ) (l : Link) → slice_get h.links p ≡ Some l → IsOwn h.core h.cores h.count (conn_of l)
-link_own h k p l e = own_is h.core h.cores h.count p (conn_of l) (ap (λ ns. slice_get ns p) (sym k.conns) ∙ conn_at h.links p l e)
+-- the connections of these homes are their core's
+module _ (h : Homed) (own : conns_in h.links ≡ own_conns h.core h.cores h.count) where
+  -- the connection of a place is one of them
+  link_own : (p : ℕ) (l : Link) → slice_get h.links p ≡ Some l → IsOwn h.core h.cores h.count (conn_of l)
+  link_own p l e = own_is h.core h.cores h.count p (conn_of l) (ap (λ ns. slice_get ns p) (sym own) ∙ conn_at h.links p l e)
 
-pub apart : (h : Homed) → IsSoundHome h → (p q : ℕ) (l m : Link) → slice_get h.links p ≡ Some l → slice_get h.links q ≡ Some m → conn_of l ≡ conn_of m → p ≡ q
-apart h k p q l m = rising_apart h.links (λ p q a b ea eb. own_rises h.core h.cores h.count p q a b (ap (λ ns. slice_get ns p) (sym k.conns) ∙ ea) (ap (λ ns. slice_get ns q) (sym k.conns) ∙ eb)) p q l m
+  apart : (p q : ℕ) (l m : Link) → slice_get h.links p ≡ Some l → slice_get h.links q ≡ Some m → conn_of l ≡ conn_of m → p ≡ q
+  apart p q l m = rising_apart h.links (λ p q a b ea eb. own_rises h.core h.cores h.count p q a b (ap (λ ns. slice_get ns p) (sym own) ∙ ea) (ap (λ ns. slice_get ns q) (sym own) ∙ eb)) p q l m
 
--- an item comes to one place
-pub comes_once : (h : Homed) → IsSoundHome h → (p q : ℕ) (item : Rx) → ComesTo h p item → ComesTo h q item → q ≡ p
-comes_once h k p q item c d = apart h k q p d.link c.link d.there c.there (let one = for_is (conn_of d.link) item d.own in let two = for_is (conn_of c.link) item c.own in cc)
+  -- an item comes to one place
+  pub comes_once : (p q : ℕ) (item : Rx) → ComesTo h p item → ComesTo h q item → q ≡ p
+  comes_once p q item c d = apart q p d.link c.link d.there c.there (let one = for_is (conn_of d.link) item d.own in let two = for_is (conn_of c.link) item c.own in cc)
+
+  -- an item that comes to a place is not of others
+  pub comes_not_others : (p : ℕ) (item : Rx) → ComesTo h p item → IsOfOthers h.core h.cores h.count item → ⊥
+  comes_not_others p item c others = not_others h.core h.cores h.count (conn_of c.link) item others (for_is (conn_of c.link) item c.own) (link_own p c.link c.there)
 
 -- ---- what the home may have received
 
 -- the item is of no connection of the home
-pub more_none : (h : Homed) (conn : ℕ) (item : Rx) → item_conn item ≡ Some conn → ((p : ℕ) (l : Link) → slice_get h.links p ≡ Some l → conn_of l ≢ conn) → StandsMore h item h
+more_none : (h : Homed) (conn : ℕ) (item : Rx) → item_conn item ≡ Some conn → ((p : ℕ) (l : Link) → slice_get h.links p ≡ Some l → conn_of l ≢ conn) → StandsMore h item h
 more_none h conn item is none items s = record {
   ended = λ c. ap (λ (z : Sessions). z.ended) (push c items item) ∙ takes_ended c conn (received_by c items) item is ∙ s.ended c;
   links = λ p l e. subst (LinkStands l) (sym (push (conn_of l) items item ∙ takes_other (conn_of l) conn (received_by (conn_of l) items) item is (none p l e))) (s.links p l e);
 }
 
 -- the item comes after the end
-pub more_behind : (h : Homed) (item : Rx) → h.ended ≡ true → StandsMore h item h
+more_behind : (h : Homed) (item : Rx) → h.ended ≡ true → StandsMore h item h
 more_behind h item e items s =
     let same : (c : ℕ) → received_by c (items ++ item ∷ []) ≡ received_by c items = λ c. push c items item ∙ takes_behind c (received_by c items) item (s.ended c ∙ e) in record {
       ended = λ c. ap (λ (z : Sessions). z.ended) (same c) ∙ s.ended c;
@@ -116,7 +119,7 @@ more_behind h item e items s =
     }
 
 -- the end comes
-pub more_end : (h : Homed) (item : Rx) → item ≡ End → StandsMore h item (record h { ended = true })
+more_end : (h : Homed) (item : Rx) → item ≡ End → StandsMore h item (record h { ended = true })
 more_end h item is items s =
     let same : (c : ℕ) → received_by c (items ++ item ∷ []) ≡ record (received_by c items) { ended = true } = λ c. push c items item ∙ ap (takes_in c (received_by c items)) is in record {
       ended = λ c. ap (λ (z : Sessions). z.ended) (same c);
@@ -124,16 +127,26 @@ more_end h item is items s =
     }
 
 -- the item comes to the connection of a place
-pub more_at : (h : Homed) (p : ℕ) (x : Option Blocked) (l m : Link) (w : Held Blocked) (r : Bool) → Turns h p x l m w r → IsSoundHome h → h.ended ≡ false → (item : Rx) → IsFor (conn_of l) item → TakesIn item l m → StandsMore h item (home_turned h p x m w r)
-more_at h p x l m w r t k live item own takes items s =
-    let is = for_is (conn_of l) item own in
-    turned_more h p x l m w r t (apart h k) items (items ++ item ∷ []) s
-    (λ c. ap (λ (z : Sessions). z.ended) (push c items item) ∙ takes_ended c (conn_of l) (received_by c items) item is)
-    (λ old. subst (LinkStands m) (sym (push (conn_of l) items item)) (takes (received_by (conn_of l) items) (s.ended (conn_of l) ∙ live) old))
-    (λ c ne. push c items item ∙ takes_other c (conn_of l) (received_by c items) item is ne)
+pub more_at : (h : Homed) → conns_in h.links ≡ own_conns h.core h.cores h.count → (p : ℕ) (l m : Link) → slice_get h.links p ≡ Some l → conn_of m ≡ conn_of l → h.ended ≡ false → (item : Rx) → IsFor (conn_of l) item → TakesIn item l m → StandsMore h item (record h { links = set h.links p m })
+more_at h own p l m there conn live item is_own takes items s =
+    let is = for_is (conn_of l) item is_own in record {
+      ended = λ c. ap (λ (z : Sessions). z.ended) (push c items item) ∙ takes_ended c (conn_of l) (received_by c items) item is ∙ s.ended c;
+      links = each_set (λ q n. LinkStands n (received_by (conn_of n) (items ++ item ∷ []))) h.links p m
+          (subst (λ c. LinkStands m (received_by c (items ++ item ∷ []))) (sym conn) (subst (LinkStands m) (sym (push (conn_of l) items item)) (takes (received_by (conn_of l) items) (s.ended (conn_of l) ∙ live) (s.links p l there))))
+          (λ q n ne old. subst (LinkStands n) (sym (push (conn_of n) items item ∙ takes_other (conn_of n) (conn_of l) (received_by (conn_of n) items) item is (λ same. ne (apart h own q p n l old there same)))) (s.links q n old));
+    }
 
--- ---- what was done
+-- the item comes to no place: it is dropped, or it is the end
+pub more_past : (h : Homed) (item : Rx) → ((p : ℕ) → ComesTo h p item → ⊥) → StandsMore h item (record h { ended = h.ended || is_end item })
+more_past h item none = by_ended h.ended refl
+  where
+    by_conn : (c : Option ℕ) → item_conn item ≡ c → h.ended ≡ false → StandsMore h item (record h { ended = is_end item })
+    by_conn None e live = let is = is_the_end item e in subst (λ b. StandsMore h item (record h { ended = b })) (sym (ap is_end is)) (more_end h item is)
+    by_conn (Some conn) e live =
+        let no : is_end item ≡ false = no_end conn item e in
+        subst (λ b. StandsMore h item (record h { ended = b })) (live ∙ sym no)
+        (more_none h conn item e (λ p l there same. none p (record { live = live; link = l; there = there; own = is_for (conn_of l) item (e ∙ ap Some (sym same)) })))
 
--- the item is for no place
-pub forwards_none : (h h' : Homed) (item : Rx) → ((p : ℕ) → ComesTo h p item → ⊥) → Forwards h h' item
-forwards_none h h' item none = record { here = λ p b comes at. absurd (none p comes); away = λ p comes at. absurd (none p comes) }
+    by_ended : (b : Bool) → h.ended ≡ b → StandsMore h item (record h { ended = h.ended || is_end item })
+    by_ended true e = subst (λ b. StandsMore h item (record h { ended = b })) (e ∙ sym (ap (λ b. b || is_end item) e)) (more_behind h item e)
+    by_ended false e = subst (λ b. StandsMore h item (record h { ended = b })) (sym (ap (λ b. b || is_end item) e)) (by_conn (item_conn item) refl e)

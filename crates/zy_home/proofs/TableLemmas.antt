@@ -6,8 +6,8 @@ use Rattle.zy_rx.specs.declared.rx.Rx.{Rx}
 use Rattle.zy_rx.specs.Flow.{home_of}
 use Rattle.zy_home.specs.Link.{Link, conn_of}
 use Rattle.zy_home.specs.Own.{IsTable, own_conns, item_conn}
-use Rattle.zy_home.specs.Home.{Homed, IsSoundHome, conns_in}
-use Rattle.zy_home.specs.Place.{ComesTo}
+use Rattle.zy_home.specs.Home.{conns_in}
+use Rattle.zy_home.specs.Links.{Linked, ComesIn}
 use Rattle.zy_home.proofs.OwnLemmas.{own-here, own-else, conn_at}
 use Rattle.zy_home.proofs.ReceiveLemmas.{for_is, is_for}
 
@@ -77,23 +77,6 @@ link_of [] place conn e = absurd (cc)
 link_of (l ∷ links) zero conn e = (l, refl, (cc))
 link_of (l ∷ links) (suc place) conn e = link_of links place conn e
 
--- an item of the connection at a place comes to it
-pub comes_there : (h : Homed) → IsSoundHome h → h.ended ≡ false → (conn place : ℕ) (item : Rx) → item_conn item ≡ Some conn
-    → slice_get (own_conns h.core h.cores h.count) place ≡ Some conn → ComesTo h place item
-comes_there h k live conn place item is own =
-    let found = link_of h.links place conn (ap (λ (l : List ℕ). slice_get l place) k.conns ∙ own) in record {
-      live = live;
-      link = found.0;
-      there = found.1;
-      own = is_for (conn_of found.0) item (is ∙ ap Some (sym found.2));
-    }
-
--- an item of a connection without a place comes to none
-pub comes_nowhere : (h : Homed) → IsSoundHome h → (conn : ℕ) (item : Rx) → item_conn item ≡ Some conn
-    → ((place : ℕ) → slice_get (own_conns h.core h.cores h.count) place ≢ Some conn) → (place : ℕ) → ComesTo h place item → ⊥
-comes_nowhere h k conn item is none place comes =
-    none place (ap (λ (l : List ℕ). slice_get l place) (sym k.conns) ∙ conn_at h.links place comes.link comes.there ∙ sym (for_is (conn_of comes.link) item comes.own) ∙ is)
-
 -- a connection past the end of the table is at no place
 pub past_table : (conns : List ℕ) (table : List (Option ℕ)) → IsTable conns table → (conn : ℕ) → length table ≤ conn → (place : ℕ) → slice_get conns place ≡ Some conn → ⊥
 past_table conns table t conn past place e =
@@ -102,12 +85,18 @@ past_table conns table t conn past place e =
     absurd (cc)
 
 -- the place that was looked up, or none, for an item of a connection
-pub place_found : (h : Homed) → IsSoundHome h → h.ended ≡ false → (conn : ℕ) (item : Rx) → item_conn item ≡ Some conn → (result : Option ℕ)
-    → IfSome result (λ place. slice_get (own_conns h.core h.cores h.count) place ≡ Some conn) → IfSome result (λ place. ComesTo h place item)
-place_found h k live conn item is (Some place) own = comes_there h k live conn place item is own
-place_found h k live conn item is None own = tt
+module _ (L : Linked) (own : conns_in L.links ≡ own_conns L.share.core L.share.cores L.share.count) (conn : ℕ) (item : Rx) (is : item_conn item ≡ Some conn) where
+  pub place_found : L.ended ≡ false → (result : Option ℕ) → IfSome result (λ place. slice_get (own_conns L.share.core L.share.cores L.share.count) place ≡ Some conn) → IfSome result (λ place. ComesIn L place item)
+  place_found live (Some place) at =
+      let found = link_of L.links place conn (ap (λ (l : List ℕ). slice_get l place) own ∙ at) in record {
+        live = live;
+        link = found.0;
+        there = found.1;
+        own = is_for (conn_of found.0) item (is ∙ ap Some (sym found.2));
+      }
+  place_found live None at = tt
 
-pub place_missed : (h : Homed) → IsSoundHome h → (conn : ℕ) (item : Rx) → item_conn item ≡ Some conn → (result : Option ℕ)
-    → IfNone result ((place : ℕ) → slice_get (own_conns h.core h.cores h.count) place ≢ Some conn) → IfNone result ((place : ℕ) → ComesTo h place item → ⊥)
-place_missed h k conn item is (Some place) none = tt
-place_missed h k conn item is None none = comes_nowhere h k conn item is none
+  pub place_missed : (result : Option ℕ) → IfNone result ((place : ℕ) → slice_get (own_conns L.share.core L.share.cores L.share.count) place ≢ Some conn) → IfNone result ((place : ℕ) → ComesIn L place item → ⊥)
+  place_missed (Some place) none = tt
+  place_missed None none = λ place comes.
+      none place (ap (λ (l : List ℕ). slice_get l place) (sym own) ∙ conn_at L.links place comes.link comes.there ∙ sym (for_is (conn_of comes.link) item comes.own) ∙ is)

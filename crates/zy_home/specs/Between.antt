@@ -1,18 +1,21 @@
--- A home while it receives items in one call. No public clause cites this module.
+-- A home between the first item that is cut and the last block that is settled. No public clause cites this module.
 use Rattle.std.specs.Prelude.{◌≡◌, ℕ, ◌+◌, ◌<◌, ◌≤◌, List, [], ◌∷◌, ◌++◌, length, Bool, true, false, Option, Some, None, slice_get}
 use Rattle.zy_table.specs.Member.{is_in}
 use Rattle.zy_rx.specs.declared.rx.Rx.{Rx}
-use Rattle.zy_rx.specs.Ring.{Taking}
-use Rattle.zy_shuffle.specs.Run.{was_idle}
+use Rattle.zy_shuffle.specs.Run.{Before, was_idle}
 use Rattle.zy_shuffle.specs.Pass.{Held}
 use Rattle.zy_conn.specs.Block.{Blocked}
 use Rattle.zy_home.specs.Link.{Link}
 use Rattle.zy_home.specs.Idle.{IsIdleWith, due_mark, mark_in}
-use Rattle.zy_home.specs.Home.{Homed, IsAt, StandsHome, StandsMore, SameFor}
+use Rattle.zy_home.specs.Home.{Homed, IsSoundHome, IsAt, StandsHome, StandsMore}
 use Rattle.zy_home.specs.Place.{Settles}
-use Rattle.zy_home.specs.Items.{CutsOne, CutsEach, SameParts, SettlesEach, StandsAll}
+use Rattle.zy_home.specs.Items.{CutsOne, CutsEach, SettlesEach, StandsAll}
 
--- ---- places
+-- ---- the rule
+
+-- the rule of a home, of which blocks in the hand need not be idle
+abbrev pub IsOpen : Homed → Type 0
+IsOpen h = IsSoundHome (record h { refused = true })
 
 -- the rule of a place: as between two calls, but a block in the hand need not be idle if its place was touched
 abbrev pub IsBetween : List ℕ → Held Blocked → ℕ → Link → Option Blocked → Type 0
@@ -21,70 +24,61 @@ IsBetween touched pass place link (Some block) =
 IsBetween touched pass place link None = IsAt pass place link None
 
 -- the rule of each place, where these were touched
-pub record Between (h : Homed) (touched : List ℕ) : Type 0 where
-  pub each : (p : ℕ) (x : Option Blocked) (l : Link) → slice_get h.blocks p ≡ Some x
-      → slice_get h.links p ≡ Some l → IsBetween touched h.pass p l x
-  pub near : (p : ℕ) → is_in p touched ≡ true → p < length h.blocks
+abbrev pub Between : Homed → List ℕ → Type 0
+Between h touched = ((p : ℕ) (x : Option Blocked) (l : Link) → slice_get h.blocks p ≡ Some x
+    → slice_get h.links p ≡ Some l → IsBetween touched h.pass p l x)
+    × ((p : ℕ) → is_in p touched ≡ true → p < length h.blocks)
+
+-- ---- cutting
 
 -- an idle block that is in the slot is idle still
 abbrev pub StaysIdle : Option Blocked → Link → Link → Type 0
 StaysIdle slot l l' = (block : Blocked) → slot ≡ Some block → IsIdleWith block.work l → IsIdleWith block.work l'
 
--- ---- steps
-
 -- an item was cut, and its place was touched if its block got a frame
 pub record CutsIn (h : Homed) (touched : List ℕ) (item : Rx) (h' : Homed) (touched' : List ℕ) : Type 0 where
   pub cuts : CutsOne h item h'
   pub stands : StandsMore h item h'
-  pub between : Between h' touched'
+  pub between : Between h touched → Between h' touched'
   pub room : length touched' ≤ length touched + 1
-  pub still : h.ended ≡ true → (h' ≡ h) × (touched' ≡ touched)
 
 -- an item was cut for the connection at a place, whichever places were touched before. If the answer is `false`, the
 -- place need not be touched
 abbrev pub CutsFor : ℕ → Rx → Homed → Homed → Bool → Type 0
-CutsFor place item h h' touched = (before : List ℕ) → Between h before
+CutsFor place item h h' touched = (before : List ℕ)
     → CutsIn h before item h' (before ++ place ∷ []) × (touched ≡ false → CutsIn h before item h' before)
 
--- this item, and those that were taken after it, were cut
-pub record CutsAll (first : Rx) (h : Homed) (taken : List Rx) (h' : Homed) (taken' : List Rx) (touched' : List ℕ)
-    (count : ℕ) : Type 0 where
-  pub more : List Rx
-  pub size : length more + 1 ≡ count
-  pub taken_is : taken' ≡ taken ++ more
-  pub cuts : CutsEach h (first ∷ more) h'
-  pub stands : StandsAll h (first ∷ more) h'
-  pub same : SameFor 0 h h'
-  pub between : Between h' touched'
-  pub room : length touched' ≤ count
-  pub still : h.ended ≡ true → SameParts h h' × (touched' ≡ [])
+-- this number of items was taken from the outlet and cut, and these places were touched
+pub record CutsAll (h : Homed) (taken : List Rx) (h' : Homed) (taken' : List Rx) (touched : List ℕ) (count : ℕ) : Type 0 where
+  pub items : List Rx
+  pub size : length items ≡ count
+  pub taken_is : taken' ≡ taken ++ items
+  pub cuts : CutsEach h items h'
+  pub stands : StandsAll h items h'
+  pub between : Between h [] → Between h' touched
+  pub room : length touched ≤ count
 
--- the same, up to 64, until no further item was known
-pub record CutsFrom (first : Rx) (h : Homed) (o : Taking) (h' : Homed) (o' : Taking) (touched' : List ℕ)
-    (count : ℕ) : Type 0 where
-  pub whole : CutsAll first h o.taken h' o'.taken touched' count
-  pub few : count ≤ 64
-  pub known : count < 64 → o'.known ≡ []
+-- ---- settling
 
--- the block of one touched place was settled
-pub record SettlesIn (h h' : Homed) (rest : List ℕ) : Type 0 where
-  pub between : Between h' rest
+-- the block that was given was settled at a place
+pub record Stepped (before : Before) (place : ℕ) (given : Blocked) (h h' : Homed) : Type 0 where
+  pub settles : Settles before place given h h'
   pub stands : StandsHome h h'
-  pub ended : h'.ended ≡ h.ended
-  pub chain : (places : List ℕ) (last : Homed) → SettlesEach h' places last
-      → (all : List ℕ) × SettlesEach h all last
+  pub between : (rest : List ℕ) → Between h (place ∷ rest) → Between h' rest
 
--- the block of a place may be settled, whatever other places were touched
-abbrev pub IsTouched : ℕ → Homed → Type 0
-IsTouched place h = (rest : List ℕ) × Between h (place ∷ rest)
+-- the block of a place was settled, if it was in its slot
+abbrev pub StepsIn : ℕ → Option Blocked → Homed → Homed → Type 0
+StepsIn place None h h' = h' ≡ h
+StepsIn place (Some given) h h' = Stepped was_idle place given h h'
 
--- the block of a place was settled, if it was in the hand, whichever places are left
 pub record SettlesAt (place : ℕ) (h h' : Homed) : Type 0 where
-  pub here : (block : Blocked) → slice_get h.blocks place ≡ Some (Some block) → Settles was_idle place block h h'
-  pub away : slice_get h.blocks place ≡ Some None → h' ≡ h
-  pub on : (rest : List ℕ) → Between h (place ∷ rest) → SettlesIn h h' rest
+  pub slot : Option Blocked
+  pub there : slice_get h.blocks place ≡ Some slot
+  pub steps : StepsIn place slot h h'
 
--- blocks were settled, and what is done later follows that
-pub record SettlesOn (h h' : Homed) (rest : List ℕ) (most : ℕ) : Type 0 where
-  pub on : SettlesIn h h' rest
-  pub same : SameFor most h h'
+-- blocks were settled, and these places are left
+pub record SettlesOn (h h' : Homed) (rest : List ℕ) : Type 0 where
+  pub places : List ℕ
+  pub settles : SettlesEach h places h'
+  pub stands : StandsHome h h'
+  pub between : Between h' rest

@@ -1,6 +1,6 @@
 -- What a home does with the items that it receives in one call: it cuts all of them first, and then settles the blocks
 -- that got an event.
-use Rattle.std.specs.Prelude.{◌≡◌, ℕ, ◌+◌, ◌<◌, ◌≤◌, List, [], ◌∷◌, ◌++◌, length, ◌||◌, Some, None, slice_get}
+use Rattle.std.specs.Prelude.{◌≡◌, ℕ, ◌<◌, ◌≤◌, List, [], ◌∷◌, ◌++◌, length, ◌||◌, Some, None, slice_get}
 use Rattle.zy_rx.specs.declared.rx.Rx.{Rx}
 use Rattle.zy_rx.specs.Ring.{Taking}
 use Rattle.zy_conn.specs.Block.{Blocked}
@@ -12,10 +12,6 @@ use Rattle.zy_shuffle.specs.Run.{was_idle}
 use Rattle.zy_home.specs.Place.{ComesTo, SameHand, Settles}
 
 -- ---- one after another
-
--- the pass, the blocks and the connections are the same, and so is whether the end was received
-abbrev pub SameParts : Homed → Homed → Type 0
-SameParts h h' = (h'.pass ≡ h.pass) × (h'.blocks ≡ h.blocks) × (h'.links ≡ h.links) × (h'.ended ≡ h.ended)
 
 -- an item was cut. Nothing was published, and the blocks in the hand are as they were. A frame of a connection whose
 -- block is away waits only if no slot of the ring is known to be free. An item that is for no place changes no
@@ -30,7 +26,7 @@ pub record CutsOne (h : Homed) (item : Rx) (h' : Homed) : Type 0 where
 
 -- these items were cut, one after another
 abbrev pub CutsEach : Homed → List Rx → Homed → Type 0
-CutsEach h [] h' = SameParts h h'
+CutsEach h [] h' = h' ≡ h
 CutsEach h (item ∷ items) h' = (next : Homed) × CutsOne h item next × CutsEach next items h'
 
 -- the block of a place was in the hand, as one of a connection that was idle, and was settled
@@ -41,7 +37,7 @@ pub record SettlesHere (place : ℕ) (h h' : Homed) : Type 0 where
 
 -- the blocks of these places were settled, one after another
 abbrev pub SettlesEach : Homed → List ℕ → Homed → Type 0
-SettlesEach h [] h' = SameParts h h'
+SettlesEach h [] h' = h' ≡ h
 SettlesEach h (place ∷ places) h' = (next : Homed) × SettlesHere place h next × SettlesEach next places h'
 
 -- ---- the call

@@ -6,6 +6,7 @@ pub mod Own
 pub mod End
 pub mod Parts
 pub mod Home
+pub mod Links
 pub mod Place
 pub mod Items
 pub mod Turn

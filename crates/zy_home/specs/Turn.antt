@@ -1,5 +1,5 @@
 -- What a step at one place is, of the parts of a home. No public clause cites this module.
-use Rattle.std.specs.Prelude.{◌≡◌, ◌≢◌, ℕ, ◌+◌, ◌≤◌, true, false, Bool, Option, Some, None, slice_get, slice_set}
+use Rattle.std.specs.Prelude.{◌≡◌, ◌≢◌, ℕ, ◌+◌, ◌≤◌, true, false, Option, Some, None, slice_get, slice_set}
 use Rattle.zy_table.specs.Member.{is_in}
 use Rattle.zy_shuffle.specs.Hand.{marked}
 use Rattle.zy_shuffle.specs.Run.{Before}
@@ -9,7 +9,7 @@ use Rattle.zy_conn.specs.Block.{Blocked, label_in}
 use Rattle.zy_home.specs.Link.{Link, conn_of}
 use Rattle.zy_home.specs.Offer.{WaitsBehind}
 use Rattle.zy_home.specs.Idle.{IsIdleWith, due_mark, mark_in}
-use Rattle.zy_home.specs.Home.{Homed, IsAt, IsHere}
+use Rattle.zy_home.specs.Home.{Homed, IsHere}
 use Rattle.zy_home.specs.Place.{MeetsInlet, KnowsAll}
 
 -- ---- one place
@@ -55,20 +55,16 @@ pub record PassTurns (place : ℕ) (pass pass' : Held Blocked) : Type 0 where
   pub kept : (q : ℕ) → q ≢ place → marked mark_in q pass'.kept ≡ marked mark_in q pass.kept
 
 -- the home after a step at one place
-abbrev pub home_turned : Homed → ℕ → Option Blocked → Link → Held Blocked → Bool → Homed
-home_turned h place slot link pass refused = record h {
+abbrev pub home_turned : Homed → ℕ → Option Blocked → Link → Held Blocked → Homed
+home_turned h place slot link pass = record h {
   pass = pass;
   blocks = slice_set h.blocks place slot;
   links = slice_set h.links place link;
-  refused = refused;
 }
 
 -- the step is one that a home may make
-pub record Turns (h : Homed) (place : ℕ) (slot' : Option Blocked) (link link' : Link) (pass' : Held Blocked)
-    (refused' : Bool) : Type 0 where
+pub record Turns (h : Homed) (place : ℕ) (slot' : Option Blocked) (link link' : Link) (pass' : Held Blocked) : Type 0 where
   pub there : slice_get h.links place ≡ Some link
   pub conn : conn_of link' ≡ conn_of link
   pub pass : PassTurns place h.pass pass'
-  pub live : refused' ≡ false → h.refused ≡ false
-  pub at : refused' ≡ false → IsAt pass' place link' slot'
   pub here : (block : Blocked) → slot' ≡ Some block → IsHere pass' place block

@@ -4,16 +4,13 @@ ghost use Rattle.std.specs.List.{AllByRecursion};
 ghost use Rattle.zy_home.specs.End.{HasLabel, blocks_in, ended_of};
 ghost use Rattle.zy_home.specs.Home.{IsSoundHome, is_settled, all_here};
 
-mod items;
 mod making;
 mod receiving;
 mod settling;
 
 use crate::blocks::Blocks;
 use crate::ends::Ends;
-use crate::link::Link;
-use crate::places::Places;
-use crate::touched::Touched;
+use crate::links::Links;
 use std::marker::Model;
 use zy_conn::Block;
 use zy_shuffle::HomePass;
@@ -22,44 +19,22 @@ use zy_shuffle::HomePass;
 /// output, and its block if that is in the home's hand. Contracts see it as `Homed`.
 #[derive(Drop)]
 pub struct Home {
-    places: Places,
     pass: HomePass<Block>,
     // By place: the block of the connection, if it is in the hand.
     blocks: Vec<Option<Block>>,
-    // By place, and so by rising number: the connection.
-    links: Vec<Link>,
-    ended: bool,
+    links: Links,
     refused: bool,
-    // For `receive_all`, which uses its room again.
-    touched: Touched,
 }
 
 impl Model for Home {
     ghost use Rattle.zy_home.specs.Home.{Homed, IsSoundHome};
+    ghost use Rattle.zy_home.specs.Links.{homed};
 
     ghost Value = { Homed };
 
-    ghost view = { λ h. record {
-      core = h.places.core;
-      cores = h.places.cores;
-      count = h.places.count;
-      pass = h.pass;
-      blocks = h.blocks.items;
-      links = h.links.items;
-      ended = h.ended;
-      refused = h.refused;
-    } };
+    ghost view = { λ h. homed h.pass h.blocks.items h.links h.refused };
 
-    ghost invariant = { λ h. IsSoundHome (record {
-      core = h.places.core;
-      cores = h.places.cores;
-      count = h.places.count;
-      pass = h.pass;
-      blocks = h.blocks.items;
-      links = h.links.items;
-      ended = h.ended;
-      refused = h.refused;
-    }) };
+    ghost invariant = { λ h. IsSoundHome (homed h.pass h.blocks.items h.links h.refused) };
 }
 
 impl Home {
@@ -69,7 +44,7 @@ impl Home {
         ensures value { result ≡ is_settled self.now }
         ensures keeps { IsSoundHome self.now }
     {
-        self.ended && !self.refused && are_here(&self.blocks)
+        self.links.has_ended() && !self.refused && are_here(&self.blocks)
     }
 
     /// Whether each block is in the home's hand, so that no other core has one and none is queued.
@@ -95,17 +70,12 @@ impl Home {
         ensures keeps { IsSoundHome self }
     {
         let Home {
-            places,
             pass,
             blocks,
             links,
-            ended: _,
             refused: _,
-            touched,
         } = self;
-        drop(places);
-        drop(touched);
-        (pass, Blocks::from_slots(blocks), Ends::of(links))
+        (pass, Blocks::from_slots(blocks), links.into_ends())
     }
 }
 

@@ -5,11 +5,11 @@ mod blocks;
 mod ends;
 mod home;
 mod link;
+mod links;
 mod own;
 mod parts;
 mod place;
 mod places;
-mod touched;
 
 pub use blocks::Blocks;
 pub use ends::Ends;

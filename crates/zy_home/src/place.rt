@@ -26,13 +26,6 @@ pub(crate) fn conn_in(item: &Rx) -> Option<u32>
     }
 }
 
-// Whether the end was received, once this item is.
-pub(crate) fn ended_by(ended: bool, item: &Rx) -> bool
-    ensures value { result ≡ (ended || is_end item.now) }
-{
-    ended || matches!(item, Rx::End)
-}
-
 // Puts a block, or none, into a slot.
 pub(crate) fn put(slot: &mut Option<Block>, block: Option<Block>)
     ensures value { slot.new ≡ block }

@@ -6,9 +6,9 @@ ghost use Rattle.zy_home.specs.Home.{HomeStands, IsMade};
 use super::Home;
 use crate::blocks::Blocks;
 use crate::link::Link;
+use crate::links::Links;
 use crate::parts::{HomeParts, Inlets};
 use crate::places::Places;
-use crate::touched::Touched;
 use std::alloc::Global;
 use zy_base::NoMemory;
 use zy_conn::Block;
@@ -49,13 +49,10 @@ impl Home {
         } = parts;
         fill(alloc, &mut blocks, &mut inlets, &mut slots, &mut links);
         Ok(Home {
-            places,
             pass,
             blocks: slots,
-            links,
-            ended: false,
+            links: Links::new(alloc, places, links),
             refused: false,
-            touched: Touched::new(alloc),
         })
     }
 }

@@ -1,14 +1,14 @@
 //! Receiving items.
-ghost use Rattle.std.specs.Prelude.{◌≡◌, ◌<◌, ◌^◌, ◌||◌, ℕ, IfSome, IfNone, true, false, Ok, OnOk, OnErr, is_err};
+ghost use Rattle.std.specs.Prelude.{◌≡◌, ◌<◌, ◌^◌, ◌||◌, true, false, Ok, OnOk, OnErr, IfOk, is_err};
 ghost use Rattle.zy_home.specs.Own.{IsOfOthers, is_end};
-ghost use Rattle.zy_home.specs.Home.{IsSoundHome, SameHome, StandsMore};
-ghost use Rattle.zy_home.specs.Place.{Forwards, SameHand, ComesTo};
+ghost use Rattle.zy_home.specs.Home.{SameFor, SameHome, StandsMore};
+ghost use Rattle.zy_home.specs.Place.{Forwards, SameHand};
+ghost use Rattle.zy_home.specs.Items.{ReceivesAll, RefusedAmid};
 
 use super::Home;
-use crate::place::{conn_in, ended_by};
 use zy_base::NoMemory;
 use zy_conn::Block;
-use zy_rx::Rx;
+use zy_rx::{Outlet, Rx};
 use zy_shuffle::Ring;
 
 impl Home {
@@ -36,37 +36,55 @@ impl Home {
         ensures refused { self.new.refused ≡ is_err result }
         ensures err { OnErr result (SameHand self.old self.new) }
     {
-        let Some(at) = self.place_for(&item) else {
-            self.ended = ended_by(self.ended, &item);
+        let Some(at) = self.links.place_for(&item) else {
+            self.links.end_by(&item);
             drop(item);
             return Ok(());
         };
-        // Until the block is settled, the home is as one that was refused memory.
-        self.refused = true;
-        let cut = self.cut_for(at, &item);
+        let cut = self.links.cut_for(at, &self.blocks, &item);
         drop(item);
         if let Err(e) = cut {
+            self.refused = true;
             return Err(e);
         }
-        if let Err(e) = self.settle_place(ring, at) {
+        if let Err(e) = self
+            .links
+            .settle_place(ring, &mut self.pass, &mut self.blocks, at)
+        {
+            self.refused = true;
             return Err(e);
         }
-        self.refused = false;
         Ok(())
     }
 
-    // The place of the connection that an item is for; `None` where the item is dropped or the end.
-    pub(super) fn place_for(&self, item: &Rx) -> Option<usize>
-        ensures some { IfSome result (λ at. ComesTo self.now at item.now) }
-        ensures none { IfNone result ((at : ℕ) → ComesTo self.now at item.now → ⊥) }
-        ensures keeps { IsSoundHome self.now }
+    /// Takes items from the outlet and receives them, until none is known or there were 64, and
+    /// returns their number. All of them are cut first. Then each block in the home's hand that got
+    /// an event is published, so a block may have the events of several items when it is claimed.
+    pub fn receive_all(&mut self, ring: &Ring<Block>, outlet: &mut Outlet) -> Result<u32, NoMemory>
+        requires table { self.old.pass.table ≡ ring.now.id }
+        requires few { self.old.pass.count < 2 ^ 62 }
+        requires live { self.old.refused ≡ false }
+        ensures value { IfOk result (ReceivesAll self.old outlet.old self.new outlet.new) }
+        ensures still { self.old.ended ≡ true → self.new ≡ self.old }
+        ensures same { SameFor 64 self.old self.new }
+        ensures ring { outlet.new.ring ≡ outlet.old.ring }
+        ensures refused { self.new.refused ≡ is_err result }
+        ensures err { OnErr result (RefusedAmid self.old self.new) }
     {
-        if self.ended {
-            return None;
+        let count = match self.links.cut_all(&self.blocks, outlet) {
+            Ok(count) => count,
+            Err(e) => {
+                self.refused = true;
+                return Err(e);
+            }
+        };
+        if let Err(e) = self
+            .links
+            .settle_all(ring, &mut self.pass, &mut self.blocks)
+        {
+            self.refused = true;
+            return Err(e);
         }
-        match conn_in(item) {
-            Some(conn) => self.places.place_of(conn),
-            None => None,
-        }
+        Ok(count)
     }
 }

@@ -7,7 +7,7 @@ ghost use Rattle.zy_home.specs.Place.{IsOut, Settles, PutsBack, StaysIn, OnlyLoo
 
 use super::Home;
 use crate::own::Own;
-use crate::place::{put, settle_at};
+use crate::place::put;
 use mc_store::StoreTable;
 use zy_base::{Gate, NoMemory};
 use zy_conn::Block;
@@ -28,9 +28,11 @@ impl Home {
         ensures refused { self.new.refused ≡ is_err result }
         ensures err { OnErr result (PutsBack place self.old self.new) }
     {
-        let at = place as usize;
-        let (pass, slot, link) = (&mut self.pass, &mut self.blocks[at], &mut self.links[at]);
-        match settle_at::<WasHeld>(ring, pass, slot, link, place, block) {
+        let (pass, slots) = (&mut self.pass, &mut self.blocks);
+        match self
+            .links
+            .settle::<WasHeld>(ring, pass, slots, place, block)
+        {
             Ok(()) => Ok(()),
             Err(e) => {
                 self.refused = true;
@@ -88,7 +90,7 @@ impl Home {
         // The call tells the prover that the places are the slots of the ring's table, at most 4096.
         let _places = ring.places();
         match ring.claim_home(&mut self.pass) {
-            Claim::Took { place, mut block } => match block.hold(store, gate, self.places.core()) {
+            Claim::Took { place, mut block } => match block.hold(store, gate, self.links.core()) {
                 Ok(held) => match self.settle(ring, place, block) {
                     Ok(()) => Ok(Own::Took { held }),
                     Err(e) => Err(e),

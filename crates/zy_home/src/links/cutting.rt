@@ -1,0 +1,115 @@
+//! Cutting items for the connections of a home, which leaves its pass and its blocks as they are.
+ghost use Rattle.std.specs.Prelude.{◌≡◌, ◌≤◌, ◌<◌, ◌++◌, ◌∷◌, [], true, false, Bool, length, is_err, ℕ};
+ghost use Rattle.zy_shuffle.specs.Pass.{Held};
+ghost use Rattle.zy_conn.specs.Block.{Blocked};
+ghost use Rattle.std.specs.Prelude.{Ok, OnOk, OnErr, IfOk, IfSome, IfNone};
+ghost use Rattle.zy_home.specs.Links.{ComesIn, SameConns, homed};
+ghost use Rattle.zy_home.specs.Items.{RefusedAmid};
+ghost use Rattle.zy_home.specs.Between.{CutsAll, CutsFor, CutsIn};
+
+use super::Links;
+use crate::place::{conn_in, cut_at};
+use zy_base::NoMemory;
+use zy_conn::Block;
+use zy_rx::{Outlet, Rx};
+
+// The most items that a call cuts.
+const ITEMS_AT_ONCE: u32 = 64;
+
+impl Links {
+    // The place of the connection that an item is for; `None` if the item is dropped or the end.
+    pub(crate) fn place_for(&self, item: &Rx) -> Option<usize>
+        ensures some { IfSome result (λ at. ComesIn self.now at item.now) }
+        ensures none { IfNone result ((at : ℕ) → ComesIn self.now at item.now → ⊥) }
+    {
+        if self.ended {
+            return None;
+        }
+        match conn_in(item) {
+            Some(conn) => self.places.place_of(conn),
+            None => None,
+        }
+    }
+
+    // Takes items from the outlet and cuts them, until none is known or there were 64, and returns
+    // their number. The slots have the blocks that are in the home's hand.
+    pub(crate) fn cut_all(
+        &mut self,
+        slots: &Vec<Option<Block>>,
+        outlet: &mut Outlet,
+    ) -> Result<u32, NoMemory>
+        requires long { length slots.now.items ≡ length self.old.links }
+        ensures value { IfOk result (λ count. (pass : Held Blocked) (refused : Bool)
+            → CutsAll (homed pass slots.now.items self.old refused) outlet.old.taken (homed pass slots.now.items self.new refused) outlet.new.taken
+            self.new.touched count) }
+        ensures few { IfOk result (λ count. (count ≤ 64) × (count < 64 → outlet.new.known ≡ [])) }
+        ensures err { OnErr result ((pass : Held Blocked) (before after : Bool)
+            → RefusedAmid (homed pass slots.now.items self.old before) (homed pass slots.now.items self.new after)) }
+        ensures same { SameConns self.old self.new }
+        ensures ring { outlet.new.ring ≡ outlet.old.ring }
+        ensures still { self.old.ended ≡ true → (is_err result ≡ false)
+            × (self.new ≡ record self.old { touched = [] }) }
+    {
+        self.touched.clear();
+        for count in 0..ITEMS_AT_ONCE {
+            let Some(item) = outlet.take() else {
+                return Ok(count);
+            };
+            let cut = self.cut_in(slots, &item);
+            drop(item);
+            if let Err(e) = cut {
+                return Err(e);
+            }
+        }
+        Ok(ITEMS_AT_ONCE)
+    }
+
+    // Cuts an item, or drops it, or notes the end.
+    fn cut_in(&mut self, slots: &Vec<Option<Block>>, item: &Rx) -> Result<(), NoMemory>
+        requires long { length slots.now.items ≡ length self.old.links }
+        ensures value { OnOk result ((pass : Held Blocked) (refused : Bool)
+            → CutsIn (homed pass slots.now.items self.old refused) self.old.touched item.now
+            (homed pass slots.now.items self.new refused) self.new.touched) }
+        ensures still { self.old.ended ≡ true → (result ≡ Ok tt) × (self.new ≡ self.old) }
+        ensures same { SameConns self.old self.new }
+    {
+        let Some(at) = self.place_for(item) else {
+            self.end_by(item);
+            return Ok(());
+        };
+        match self.cut_for(at, slots, item) {
+            Ok(true) => self.touch(at),
+            Ok(false) => Ok(()),
+            Err(e) => Err(e),
+        }
+    }
+
+    // Cuts an item for the connection at a place. Says whether its block is in the slot and was idle
+    // until now, and a frame waits for it.
+    pub(crate) fn cut_for(
+        &mut self,
+        at: usize,
+        slots: &Vec<Option<Block>>,
+        item: &Rx,
+    ) -> Result<bool, NoMemory>
+        requires long { length slots.now.items ≡ length self.old.links }
+        requires comes { ComesIn self.old at item.now }
+        ensures value { IfOk result (λ touched. (pass : Held Blocked) (refused : Bool)
+            → CutsFor at item.now (homed pass slots.now.items self.old refused) (homed pass slots.now.items self.new refused) touched) }
+        ensures same { SameConns self.old self.new }
+        ensures kept { (self.new.touched ≡ self.old.touched) × (self.new.ended ≡ self.old.ended) }
+    {
+        cut_at(&slots[at], &mut self.items[at], item)
+    }
+
+    // Notes that the block of a place got an event.
+    fn touch(&mut self, at: usize) -> Result<(), NoMemory>
+        ensures ok { OnOk result (self.new ≡ record self.old { touched = self.old.touched ++ at ∷ [] }) }
+        ensures err { OnErr result (self.new ≡ self.old) }
+    {
+        match self.touched.push(at) {
+            Ok(()) => Ok(()),
+            Err(_) => Err(NoMemory),
+        }
+    }
+}
