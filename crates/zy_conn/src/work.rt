@@ -73,7 +73,7 @@ impl Work {
                     alloc,
                     pass,
                     frames,
-                    begun: Begun::new(),
+                    begun: Begun::new(alloc),
                     replies: Vec::new(alloc),
                     shown: 0,
                     batch: Batch::new(alloc, 0),
