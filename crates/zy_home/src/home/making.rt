@@ -11,6 +11,7 @@ use crate::parts::{HomeParts, Inlets};
 use crate::places::Places;
 use std::alloc::Global;
 use zy_base::NoMemory;
+use zy_calls::Room;
 use zy_conn::Block;
 
 impl Home {
@@ -53,6 +54,7 @@ impl Home {
             blocks: slots,
             links: Links::new(alloc, places, links),
             refused: false,
+            room: Room::new(alloc),
         })
     }
 }

@@ -11,6 +11,7 @@ use super::Links;
 use crate::place::settle_at;
 use std::mem;
 use zy_base::NoMemory;
+use zy_calls::Room;
 use zy_conn::Block;
 use zy_shuffle::{HomePass, Publishing, Ring, WasIdle};
 
@@ -21,6 +22,7 @@ impl Links {
         ring: &Ring<Block>,
         pass: &mut HomePass<Block>,
         slots: &mut Vec<Option<Block>>,
+        room: &mut Room,
         place: u32,
         block: Block,
     ) -> Result<(), NoMemory>
@@ -42,6 +44,7 @@ impl Links {
             pass,
             &mut slots[at],
             &mut self.items[at],
+            room,
             place,
             block,
         )
@@ -53,6 +56,7 @@ impl Links {
         ring: &Ring<Block>,
         pass: &mut HomePass<Block>,
         slots: &mut Vec<Option<Block>>,
+        room: &mut Room,
     ) -> Result<(), NoMemory>
         requires table { pass.old.table ≡ ring.now.id }
         requires few { pass.old.count < 2 ^ 62 }
@@ -70,7 +74,7 @@ impl Links {
     {
         for i in 0..self.touched.len() {
             let place = self.touched[i];
-            if let Err(e) = self.settle_place(ring, pass, slots, place) {
+            if let Err(e) = self.settle_place(ring, pass, slots, room, place) {
                 return Err(e);
             }
         }
@@ -83,6 +87,7 @@ impl Links {
         ring: &Ring<Block>,
         pass: &mut HomePass<Block>,
         slots: &mut Vec<Option<Block>>,
+        room: &mut Room,
         place: usize,
     ) -> Result<(), NoMemory>
         requires table { pass.old.table ≡ ring.now.id }
@@ -103,6 +108,6 @@ impl Links {
         let Some(block) = mem::replace(slot, None) else {
             return Ok(());
         };
-        settle_at::<WasIdle>(ring, pass, slot, link, place as u32, block)
+        settle_at::<WasIdle>(ring, pass, slot, link, room, place as u32, block)
     }
 }
