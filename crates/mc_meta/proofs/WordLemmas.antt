@@ -75,16 +75,24 @@ word_goes_on text at within other so_far = record {
       so_far.is ∙ ap (put_all (take at text)) pieces ∙ put_all-more (take at text) byte (pieces_of rest) ∙ ap (λ (bytes : List ℕ). put_all bytes (pieces_of rest)) (sym longer);
 }
 
--- so do four bytes that are no spaces
+-- so do two, three and four bytes that are no spaces
+pub two_go_on : (text : List ℕ) (at : ℕ) → at + 4 ≤ length text → get_or text at 0 ≢ 32 → get_or text (at + 1) 0 ≢ 32 → IsWordTo text at
+    → IsWordTo text (at + 2)
+two_go_on text at within first second so_far =
+    let one : IsWordTo text (at + 1) = word_goes_on text at (omega (arith, within)) first so_far in
+    subst (IsWordTo text) (omega arith) (word_goes_on text (at + 1) (omega (arith, within)) second one)
+
+pub three_go_on : (text : List ℕ) (at : ℕ) → at + 4 ≤ length text → get_or text at 0 ≢ 32 → get_or text (at + 1) 0 ≢ 32
+    → get_or text (at + 2) 0 ≢ 32 → IsWordTo text at → IsWordTo text (at + 3)
+three_go_on text at within first second third so_far =
+    let two : IsWordTo text (at + 2) = two_go_on text at within first second so_far in
+    subst (IsWordTo text) (omega arith) (word_goes_on text (at + 2) (omega (arith, within)) third two)
+
 pub four_go_on : (text : List ℕ) (at : ℕ) → at + 4 ≤ length text → get_or text at 0 ≢ 32 → get_or text (at + 1) 0 ≢ 32
     → get_or text (at + 2) 0 ≢ 32 → get_or text (at + 3) 0 ≢ 32 → IsWordTo text at → IsWordTo text (at + 4)
 four_go_on text at within first second third fourth so_far =
-    let one : IsWordTo text (at + 1) = word_goes_on text at (omega (arith, within)) first so_far in
-    let two : IsWordTo text (at + 1 + 1) = word_goes_on text (at + 1) (omega (arith, within)) second one in
-    let after_two : IsWordTo text (at + 2) = subst (IsWordTo text) (omega arith) two in
-    let three : IsWordTo text (at + 2 + 1) = word_goes_on text (at + 2) (omega (arith, within)) third after_two in
-    let after_three : IsWordTo text (at + 3) = subst (IsWordTo text) (omega arith) three in
-    subst (IsWordTo text) (omega arith) (word_goes_on text (at + 3) (omega (arith, within)) fourth after_three)
+    let three : IsWordTo text (at + 3) = three_go_on text at within first second third so_far in
+    subst (IsWordTo text) (omega arith) (word_goes_on text (at + 3) (omega (arith, within)) fourth three)
 
 -- ---- a word's end
 

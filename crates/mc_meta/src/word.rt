@@ -1,5 +1,5 @@
 //! The words of a line.
-ghost use Rattle.std.specs.Prelude.{◌≡◌, ◌≢◌, ◌<◌, ◌≤◌, ◌+◌, ℕ, false, [], ◌∷◌, length, IfSome, IfNone, drop, take, get_or};
+ghost use Rattle.std.specs.Prelude.{◌≡◌, ◌≢◌, ◌<◌, ◌≤◌, ◌+◌, ℕ, [], ◌∷◌, length, IfSome, IfNone, drop, take, get_or};
 ghost use Rattle.mc_meta.specs.Words.{words, words_at, line_limit};
 ghost use Rattle.mc_meta.specs.Meta.{is_key, span_of};
 
@@ -89,7 +89,19 @@ pub fn word_length(text: &[u8]) -> usize
         ∷ words_at (at + result) (drop result text.now) }
 {
     let mut start = 0;
-    while text.len() - start >= 4 && !has_space(text, start) {
+    while text.len() - start >= 4 {
+        if text[start] == b' ' {
+            return start;
+        }
+        if text[start + 1] == b' ' {
+            return start + 1;
+        }
+        if text[start + 2] == b' ' {
+            return start + 2;
+        }
+        if text[start + 3] == b' ' {
+            return start + 3;
+        }
         start += 4;
     }
     for at in start..text.len() {
@@ -98,18 +110,6 @@ pub fn word_length(text: &[u8]) -> usize
         }
     }
     text.len()
-}
-
-// Whether one of the four bytes from a place on is a space.
-#[inline(always)]
-fn has_space(text: &[u8], at: usize) -> bool
-    requires within { at + 4 ≤ length text.now }
-    ensures first { result ≡ false → get_or text.now at 0 ≢ 32 }
-    ensures second { result ≡ false → get_or text.now (at + 1) 0 ≢ 32 }
-    ensures third { result ≡ false → get_or text.now (at + 2) 0 ≢ 32 }
-    ensures fourth { result ≡ false → get_or text.now (at + 3) 0 ≢ 32 }
-{
-    text[at] == b' ' || text[at + 1] == b' ' || text[at + 2] == b' ' || text[at + 3] == b' '
 }
 
 /// Whether a word has at most 250 bytes, and so is not too long for a key.

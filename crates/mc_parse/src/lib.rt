@@ -33,7 +33,9 @@ pub use meta::Meta;
 pub use name::Name;
 pub use need::{Need, need_of, read_need};
 pub use one_call::call_at;
-pub use parse::{parse_block, parse_large, parse_line, parse_read, parse_read_block, parse_read_in};
+pub use parse::{
+    parse_block, parse_large, parse_line, parse_read, parse_read_block, parse_read_in,
+};
 pub use parsed::Parsed;
 pub use retrieval::got_keys;
 pub use shard_call::{Calls, ShardCall};

@@ -107,7 +107,6 @@ impl Texts {
             drop(mem::replace(self, mem::replace(other, none)));
             return Ok(());
         }
-        self.grow_for(other.ends.len())?;
         self.append_copy(other)?;
         other.clear();
         Ok(())
@@ -138,22 +137,6 @@ impl Texts {
         self.bytes.append(other.bytes.bytes())?;
         append_further(&mut self.ends, start, other.ends.as_slice());
         Ok(())
-    }
-
-    // Takes room for four times as many texts and bytes, where there is none for this many further texts. Few bytes
-    // are copied when their room grows, so that it should grow seldom; the pages of many are moved.
-    fn grow_for(&mut self, count: usize) -> Result<(), NoMemory>
-        ensures value { self.new ≡ self.old }
-    {
-        let texts = self.ends.len();
-        if self.ends.capacity().saturating_sub(texts) >= count || self.is_large() {
-            return Ok(());
-        }
-        if self.ends.reserve(texts.saturating_mul(3).max(count)).is_err() {
-            return Err(NoMemory);
-        }
-        let bytes = self.bytes.bytes().len();
-        self.bytes.make_room(bytes.saturating_mul(3))
     }
 
     // Whether the texts have more bytes than whose room is kept.

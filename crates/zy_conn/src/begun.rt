@@ -5,12 +5,15 @@ ghost use Rattle.zy_frame.specs.Frame.{command_of};
 ghost use Rattle.mc_parse.specs.declared.command.Command.{Command};
 ghost use Rattle.zy_conn.specs.Work.{no_frame, frame_alone, command_read, is_going, is_alone};
 
-use mc_parse::Command;
+use mc_parse::{Command, Keys};
 use std::alloc::Global;
 use std::marker::Model;
 use std::mem;
-use zy_base::NoMemory;
-use zy_frame::{Frame, meaning};
+use zy_base::{Blob, NoMemory};
+use zy_frame::{Frame, meaning_in};
+
+// The most keys for which room is kept.
+const KEY_ROOM: usize = 128;
 
 /// What is begun: nothing, a frame that was taken from the event ring, or the command of that frame, of whose
 /// calls the first were made. Contracts see which of these.
@@ -23,6 +26,8 @@ pub(crate) struct Begun {
     command: Command,
     // A frame for whose command there was no memory, if no command is in progress.
     frame: Option<Frame>,
+    // Room for the keys of the next retrieval, which the last one had.
+    room: Vec<Blob>,
 }
 
 impl Model for Begun {
@@ -35,13 +40,14 @@ impl Model for Begun {
 
 impl Begun {
     /// Nothing is begun.
-    pub(crate) fn new() -> Begun
+    pub(crate) fn new(alloc: Global) -> Begun
         ensures value { result ≡ no_frame }
     {
         Begun {
             going: false,
             command: Command::Version,
             frame: None,
+            room: Vec::new(alloc),
         }
     }
 
@@ -85,9 +91,10 @@ impl Begun {
         ensures ok { OnOk result (self.new ≡ command_read (command_of frame)) }
         ensures err { OnErr result (self.new ≡ frame_alone frame) }
     {
-        match meaning(alloc, frame) {
+        self.room.clear();
+        match meaning_in(alloc, frame, &mut self.room) {
             Ok(command) => {
-                drop(mem::replace(&mut self.command, command));
+                self.command = command;
                 self.going = true;
                 Ok(())
             }
@@ -104,6 +111,21 @@ impl Begun {
         ensures value { self.new ≡ no_frame }
     {
         self.going = false;
-        drop(mem::replace(&mut self.frame, None))
+        drop(mem::replace(&mut self.frame, None));
+        if let Command::Get { keys, unique: _ } = &mut self.command {
+            keep_room(keys, &mut self.room);
+        }
+    }
+}
+
+// Empties a list of keys, and keeps its room, unless that is for many keys.
+fn keep_room(keys: &mut Keys, room: &mut Vec<Blob>) {
+    let none = Keys::new(*room.allocator());
+    let mut list = mem::replace(keys, none).into_vec();
+    list.clear();
+    if list.capacity() <= KEY_ROOM {
+        drop(mem::replace(room, list));
+    } else {
+        drop(list);
     }
 }

@@ -17,7 +17,7 @@ use mc_store::{Pass, StoreTable};
 use std::alloc::Global;
 use std::marker::Model;
 use zy_base::{Gate, NoMemory};
-use zy_calls::{Batch, Output};
+use zy_calls::{Batch, Output, Room};
 use zy_shuffle::Marked;
 
 /// What travels with a connection: its pass on the store, its events, the command in progress, the
@@ -167,6 +167,22 @@ impl Block {
         ensures err { OnErr result ((self.new ≡ self.old) × (output.new ≡ output.old)) }
     {
         self.work.send_to(output)
+    }
+
+    /// Takes this room for its texts, if it has none: a core lends its own to the block that it is to hold.
+    pub fn take_room(&mut self, room: &mut Room)
+        ensures same { self.new ≡ self.old }
+        ensures room { room.new ≡ room.old }
+    {
+        self.work.take_room(room)
+    }
+
+    /// Gives its room back, if no text waits and there is none yet: once its texts were moved to the output.
+    pub fn give_room(&mut self, room: &mut Room)
+        ensures same { self.new ≡ self.old }
+        ensures room { room.new ≡ room.old }
+    {
+        self.work.give_room(room)
     }
 
     /// Carries out commands in order, at most 64, as one of the cores that may hold the block. A hold

@@ -16,7 +16,7 @@ use std::alloc::Global;
 use std::marker::Model;
 use std::mem;
 use zy_base::NoMemory;
-use zy_calls::{Batch, Output};
+use zy_calls::{Batch, Output, Room};
 use zy_frame::Frame;
 use zy_rx::{RingInlet, RingOutlet, both_ends, ring};
 
@@ -73,7 +73,7 @@ impl Work {
                     alloc,
                     pass,
                     frames,
-                    begun: Begun::new(),
+                    begun: Begun::new(alloc),
                     replies: Vec::new(alloc),
                     shown: 0,
                     batch: Batch::new(alloc, 0),
@@ -146,6 +146,22 @@ impl Work {
         output.take_texts(&mut self.batch)?;
         self.shown = self.batch.finished();
         Ok(())
+    }
+
+    /// Takes this room for its texts, if it has none.
+    pub(crate) fn take_room(&mut self, room: &mut Room)
+        ensures same { self.new ≡ self.old }
+        ensures room { room.new ≡ room.old }
+    {
+        self.batch.take_room(room);
+    }
+
+    /// Gives its room back, if no text waits and there is none yet.
+    pub(crate) fn give_room(&mut self, room: &mut Room)
+        ensures same { self.new ≡ self.old }
+        ensures room { room.new ≡ room.old }
+    {
+        self.batch.give_room(room);
     }
 
     /// The pass, with what the work has kept.

@@ -12,6 +12,7 @@ use crate::blocks::Blocks;
 use crate::ends::Ends;
 use crate::links::Links;
 use std::marker::Model;
+use zy_calls::Room;
 use zy_conn::Block;
 use zy_shuffle::HomePass;
 
@@ -24,6 +25,8 @@ pub struct Home {
     blocks: Vec<Option<Block>>,
     links: Links,
     refused: bool,
+    // For the texts of the blocks that the home holds.
+    room: Room,
 }
 
 impl Model for Home {
@@ -74,6 +77,7 @@ impl Home {
             blocks,
             links,
             refused: _,
+            room,
         } = self;
         let Links {
             places,
@@ -83,6 +87,7 @@ impl Home {
         } = links;
         drop(places);
         drop(touched);
+        drop(room);
         (pass, Blocks::from_slots(blocks), Ends::of(items))
     }
 }

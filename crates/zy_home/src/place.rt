@@ -1,5 +1,7 @@
 //! The steps at one place of a home: what is done with a block, its link and the pass.
-ghost use Rattle.std.specs.Prelude.{◌≡◌, ◌≢◌, ◌<◌, ◌^◌, ◌||◌, ℕ, false, OnOk, OnErr, IfOk, IfSome, IfNone, Some, None, slice_get};
+ghost use Rattle.std.specs.Prelude.{◌≡◌, ◌≢◌, ◌<◌, ◌≤◌, ◌+◌, ◌^◌, ◌||◌, ℕ, false, OnOk, OnErr, IfOk, IfSome, IfNone, Some, None, slice_get};
+ghost use Rattle.zy_conn.specs.Hold.{HeldTo, IsRecorded};
+ghost use Rattle.zy_conn.specs.Work.{mark_of};
 ghost use Rattle.zy_home.specs.Link.{Link, SameLink, StandsOn, TakesIn, IsFor, conn_of};
 ghost use Rattle.zy_home.specs.Offer.{WaitsFull};
 ghost use Rattle.zy_home.specs.Idle.{due_mark};
@@ -9,9 +11,11 @@ ghost use Rattle.zy_home.specs.Turn.{IsDue, IsSettled, IsPutBack};
 ghost use Rattle.zy_home.specs.Between.{StaysIdle};
 
 use crate::link::Link;
+use mc_store::StoreTable;
 use std::mem;
-use zy_base::NoMemory;
-use zy_conn::Block;
+use zy_base::{Gate, NoMemory};
+use zy_calls::Room;
+use zy_conn::{Block, HoldEnd};
 use zy_rx::Rx;
 use zy_shuffle::{HomePass, Publishing, Ring};
 
@@ -40,6 +44,28 @@ pub(crate) fn put(slot: &mut Option<Block>, block: Option<Block>)
     drop(mem::replace(slot, block));
 }
 
+// Holds a block, which takes this room for its texts if it has none.
+pub(crate) fn hold<G: Gate>(
+    block: &mut Block,
+    store: &StoreTable,
+    gate: &G,
+    core: u32,
+    room: &mut Room,
+) -> Result<HoldEnd, NoMemory>
+    requires table { block.old.work.table ≡ store.now.id }
+    requires core { core < block.old.cores }
+    ensures end { IfOk result (HeldTo block.old.work block.new.work) }
+    ensures holds { IsRecorded core block.old block.new }
+    ensures table { block.new.work.table ≡ block.old.work.table }
+    ensures cores { block.new.cores ≡ block.old.cores }
+    ensures mark { mark_of block.new.work ≡ mark_of block.old.work }
+    ensures more { block.old.work.finished ≤ block.new.work.finished }
+    ensures limit { block.new.work.finished ≤ block.old.work.finished + 64 }
+{
+    block.take_room(room);
+    block.hold(store, gate, core)
+}
+
 // Settles a block: it is published if it then has an event, and otherwise is put into its slot. `B`
 // is what its connection was before.
 pub(crate) fn settle_at<B: Publishing>(
@@ -47,6 +73,7 @@ pub(crate) fn settle_at<B: Publishing>(
     pass: &mut HomePass<Block>,
     slot: &mut Option<Block>,
     link: &mut Link,
+    room: &mut Room,
     place: u32,
     block: Block,
 ) -> Result<(), NoMemory>
@@ -59,7 +86,9 @@ pub(crate) fn settle_at<B: Publishing>(
     ensures same { SameLink link.old link.new }
 {
     let mut block = block;
-    match link.settle(&mut block) {
+    let settled = link.settle(&mut block);
+    block.give_room(room);
+    match settled {
         Ok(true) => {
             ring.publish_as::<B>(pass, place, block);
             put(slot, None);

@@ -11,6 +11,7 @@ use crate::parts::{HomeParts, Inlets};
 use crate::places::Places;
 use std::alloc::Global;
 use zy_base::NoMemory;
+use zy_calls::Room;
 use zy_conn::Block;
 
 impl Home {
@@ -58,6 +59,7 @@ impl Home {
                 touched: Vec::new(alloc),
             },
             refused: false,
+            room: Room::new(alloc),
         })
     }
 }

@@ -50,7 +50,7 @@ impl Home {
         }
         if let Err(e) = self
             .links
-            .settle_place(ring, &mut self.pass, &mut self.blocks, at)
+            .settle_place(ring, &mut self.pass, &mut self.blocks, &mut self.room, at)
         {
             self.refused = true;
             return Err(e);
@@ -81,7 +81,7 @@ impl Home {
         };
         if let Err(e) = self
             .links
-            .settle_all(ring, &mut self.pass, &mut self.blocks)
+            .settle_all(ring, &mut self.pass, &mut self.blocks, &mut self.room)
         {
             self.refused = true;
             return Err(e);

@@ -7,7 +7,7 @@ ghost use Rattle.zy_home.specs.Place.{IsOut, Settles, PutsBack, StaysIn, OnlyLoo
 
 use super::Home;
 use crate::own::Own;
-use crate::place::put;
+use crate::place::{hold, put};
 use mc_store::StoreTable;
 use zy_base::{Gate, NoMemory};
 use zy_conn::Block;
@@ -28,10 +28,10 @@ impl Home {
         ensures refused { self.new.refused ≡ is_err result }
         ensures err { OnErr result (PutsBack place self.old self.new) }
     {
-        let (pass, slots) = (&mut self.pass, &mut self.blocks);
+        let (pass, slots, room) = (&mut self.pass, &mut self.blocks, &mut self.room);
         match self
             .links
-            .settle::<WasHeld>(ring, pass, slots, place, block)
+            .settle::<WasHeld>(ring, pass, slots, room, place, block)
         {
             Ok(()) => Ok(()),
             Err(e) => {
@@ -90,21 +90,25 @@ impl Home {
         // The call tells the prover that the places are the slots of the ring's table, at most 4096.
         let _places = ring.places();
         match ring.claim_home(&mut self.pass) {
-            Claim::Took { place, mut block } => match block.hold(
-                store,
-                gate,
-                self.links.places.core(),
-            ) {
-                Ok(held) => match self.settle(ring, place, block) {
-                    Ok(()) => Ok(Own::Took { held }),
-                    Err(e) => Err(e),
-                },
-                Err(e) => {
-                    put(&mut self.blocks[place as usize], Some(block));
-                    self.refused = true;
-                    Err(e)
+            Claim::Took { place, mut block } => {
+                match hold(
+                    &mut block,
+                    store,
+                    gate,
+                    self.links.places.core(),
+                    &mut self.room,
+                ) {
+                    Ok(held) => match self.settle(ring, place, block) {
+                        Ok(()) => Ok(Own::Took { held }),
+                        Err(e) => Err(e),
+                    },
+                    Err(e) => {
+                        put(&mut self.blocks[place as usize], Some(block));
+                        self.refused = true;
+                        Err(e)
+                    }
                 }
-            },
+            }
             Claim::Empty { at } => Ok(Own::Empty { at }),
             Claim::Raced { saw, found } => Ok(Own::Raced { saw, found }),
         }

@@ -11,6 +11,7 @@ use super::Links;
 use crate::place::settle_at;
 use std::mem;
 use zy_base::NoMemory;
+use zy_calls::Room;
 use zy_conn::Block;
 use zy_shuffle::{HomePass, Publishing, Ring, WasIdle};
 
@@ -21,6 +22,7 @@ impl Links {
         ring: &Ring<Block>,
         pass: &mut HomePass<Block>,
         slots: &mut Vec<Option<Block>>,
+        room: &mut Room,
         place: u32,
         block: Block,
     ) -> Result<(), NoMemory>
@@ -43,6 +45,7 @@ impl Links {
             pass,
             &mut slots[at],
             &mut self.items[at],
+            room,
             place,
             block,
         )
@@ -54,6 +57,7 @@ impl Links {
         ring: &Ring<Block>,
         pass: &mut HomePass<Block>,
         slots: &mut Vec<Option<Block>>,
+        room: &mut Room,
     ) -> Result<(), NoMemory>
         requires table { pass.old.table ≡ ring.now.id }
         requires few { pass.old.count < 2 ^ 62 }
@@ -72,7 +76,7 @@ impl Links {
     {
         for i in 0..self.touched.len() {
             let place = self.touched[i];
-            if let Err(e) = self.settle_place(ring, pass, slots, place) {
+            if let Err(e) = self.settle_place(ring, pass, slots, room, place) {
                 return Err(e);
             }
         }
@@ -85,6 +89,7 @@ impl Links {
         ring: &Ring<Block>,
         pass: &mut HomePass<Block>,
         slots: &mut Vec<Option<Block>>,
+        room: &mut Room,
         place: usize,
     ) -> Result<(), NoMemory>
         requires table { pass.old.table ≡ ring.now.id }
@@ -106,6 +111,6 @@ impl Links {
         let Some(block) = mem::replace(slot, None) else {
             return Ok(());
         };
-        settle_at::<WasIdle>(ring, pass, slot, link, place as u32, block)
+        settle_at::<WasIdle>(ring, pass, slot, link, room, place as u32, block)
     }
 }

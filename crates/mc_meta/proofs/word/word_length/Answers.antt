@@ -1,5 +1,5 @@
-use Rattle.std.proofs.Common.{rules, ◌+◌, ◌≤◌, length, arith}
-use Rattle.mc_meta.proofs.WordLemmas.{word_begins, four_go_on, word_goes_on, word_ends_at, ended_whole}
+use Rattle.std.proofs.Common.{rules, ◌+◌, ◌<◌, ◌≤◌, length, arith}
+use Rattle.mc_meta.proofs.WordLemmas.{word_begins, two_go_on, three_go_on, four_go_on, word_goes_on, word_ends_at, ended_whole}
 use Rattle.mc_meta.proofs.PlaceLemmas.{first_word}
 use Rattle.mc_meta.proofs.word.word_length.Goals as goal
 
@@ -10,10 +10,50 @@ pub loop-start-preserved : goal.loop-start-preserved
 loop-start-preserved c =
     let within : c.loop-start.start + 4 ≤ length c.args.text.now = omega (arith, c.loop-start-test.true, c.loop-start.invariant.0) in (
       within,
-      four_go_on c.args.text.now c.loop-start.start within
-          (c.has_space.ensures.first c.if-not-has_space.true) (c.has_space.ensures.second c.if-not-has_space.true)
-          (c.has_space.ensures.third c.if-not-has_space.true) (c.has_space.ensures.fourth c.if-not-has_space.true) c.loop-start.invariant.1,
+      four_go_on c.args.text.now c.loop-start.start within c.if-text-start-eq32.false c.if-text-start-eq32-2.false
+          c.if-text-start-eq32-3.false c.if-text-start-eq32-4.false c.loop-start.invariant.1,
     )
+
+pub returns-then-text-start-eq32-clause-value : goal.returns-then-text-start-eq32-clause-value
+returns-then-text-start-eq32-clause-value c =
+    let within : c.loop-start.start < length c.args.text.now = omega (arith, c.loop-start-test.true, c.loop-start.invariant.0) in
+    first_word c.args.text.now c.loop-start.start (word_ends_at c.args.text.now c.loop-start.start within (search rules) c.if-text-start-eq32.true c.loop-start.invariant.1)
+
+pub returns-then-text-start-eq32-2-clause-places : goal.returns-then-text-start-eq32-2-clause-places
+returns-then-text-start-eq32-2-clause-places c =
+    let within : c.loop-start.start + 4 ≤ length c.args.text.now = omega (arith, c.loop-start-test.true, c.loop-start.invariant.0) in
+    word_ends_at c.args.text.now (c.loop-start.start + 1) (omega (arith, within)) (omega arith) c.if-text-start-eq32-2.true
+    (word_goes_on c.args.text.now c.loop-start.start (omega (arith, within)) c.if-text-start-eq32.false c.loop-start.invariant.1)
+
+pub returns-then-text-start-eq32-2-clause-value : goal.returns-then-text-start-eq32-2-clause-value
+returns-then-text-start-eq32-2-clause-value c =
+    let within : c.loop-start.start + 4 ≤ length c.args.text.now = omega (arith, c.loop-start-test.true, c.loop-start.invariant.0) in
+    first_word c.args.text.now (c.loop-start.start + 1) (word_ends_at c.args.text.now (c.loop-start.start + 1) (omega (arith, within)) (omega arith)
+    c.if-text-start-eq32-2.true (word_goes_on c.args.text.now c.loop-start.start (omega (arith, within)) c.if-text-start-eq32.false c.loop-start.invariant.1))
+
+pub returns-then-text-start-eq32-3-clause-places : goal.returns-then-text-start-eq32-3-clause-places
+returns-then-text-start-eq32-3-clause-places c =
+    let within : c.loop-start.start + 4 ≤ length c.args.text.now = omega (arith, c.loop-start-test.true, c.loop-start.invariant.0) in
+    word_ends_at c.args.text.now (c.loop-start.start + 2) (omega (arith, within)) (omega arith) c.if-text-start-eq32-3.true
+    (two_go_on c.args.text.now c.loop-start.start within c.if-text-start-eq32.false c.if-text-start-eq32-2.false c.loop-start.invariant.1)
+
+pub returns-then-text-start-eq32-3-clause-value : goal.returns-then-text-start-eq32-3-clause-value
+returns-then-text-start-eq32-3-clause-value c =
+    let within : c.loop-start.start + 4 ≤ length c.args.text.now = omega (arith, c.loop-start-test.true, c.loop-start.invariant.0) in
+    first_word c.args.text.now (c.loop-start.start + 2) (word_ends_at c.args.text.now (c.loop-start.start + 2) (omega (arith, within)) (omega arith)
+    c.if-text-start-eq32-3.true (two_go_on c.args.text.now c.loop-start.start within c.if-text-start-eq32.false c.if-text-start-eq32-2.false c.loop-start.invariant.1))
+
+pub returns-then-text-start-eq32-4-clause-places : goal.returns-then-text-start-eq32-4-clause-places
+returns-then-text-start-eq32-4-clause-places c =
+    let within : c.loop-start.start + 4 ≤ length c.args.text.now = omega (arith, c.loop-start-test.true, c.loop-start.invariant.0) in
+    word_ends_at c.args.text.now (c.loop-start.start + 3) (omega (arith, within)) (omega arith) c.if-text-start-eq32-4.true
+    (three_go_on c.args.text.now c.loop-start.start within c.if-text-start-eq32.false c.if-text-start-eq32-2.false c.if-text-start-eq32-3.false c.loop-start.invariant.1)
+
+pub returns-then-text-start-eq32-4-clause-value : goal.returns-then-text-start-eq32-4-clause-value
+returns-then-text-start-eq32-4-clause-value c =
+    let within : c.loop-start.start + 4 ≤ length c.args.text.now = omega (arith, c.loop-start-test.true, c.loop-start.invariant.0) in
+    first_word c.args.text.now (c.loop-start.start + 3) (word_ends_at c.args.text.now (c.loop-start.start + 3) (omega (arith, within)) (omega arith)
+    c.if-text-start-eq32-4.true (three_go_on c.args.text.now c.loop-start.start within c.if-text-start-eq32.false c.if-text-start-eq32-2.false c.if-text-start-eq32-3.false c.loop-start.invariant.1))
 
 pub loop-at-init : goal.loop-at-init
 loop-at-init c = c.loop-start.invariant.1

@@ -55,12 +55,12 @@ pub returns-in-Ok-settle-clause-value : goal.returns-in-Ok-settle-clause-value
 returns-in-Ok-settle-clause-value g c = rw (← c.self.view_is) (
   c.in-Took.place,
   c.in-Took.block,
-  c.hold.new.self,
+  c.hold.new.block,
   c.claim_home.new.home,
   c.in-Took.ensures.value,
   record {
     ends = c.in-Ok.ensures.end;
-    recorded = subst (λ (n : ℕ). IsRecorded n c.in-Took.block c.hold.new.self) c.core.ensures.value c.hold.ensures.holds;
+    recorded = subst (λ (n : ℕ). IsRecorded n c.in-Took.block c.hold.new.block) c.core.ensures.value c.hold.ensures.holds;
     more = c.hold.ensures.more;
     limit = c.hold.ensures.limit;
     mark = c.hold.ensures.mark;
@@ -71,6 +71,6 @@ returns-in-Ok-settle-clause-value g c = rw (← c.self.view_is) (
 
 pub invariant_of-self-in-Err : goal.invariant_of-self-in-Err
 invariant_of-self-in-Err g c =
-    put_back _ (keeps_joins _ c.claim_home.new.home c.args.ring.now.places c.in-Took.place c.in-Took.block c.self.invariant c.in-Took.ensures.value.0) c.in-Took.place c.in-Took.block c.hold.new.self c.put.new.slot
+    put_back _ (keeps_joins _ c.claim_home.new.home c.args.ring.now.places c.in-Took.place c.in-Took.block c.self.invariant c.in-Took.ensures.value.0) c.in-Took.place c.in-Took.block c.hold.new.block c.put.new.slot
     (out_joins _ c.claim_home.new.home c.args.ring.now.places c.in-Took.place c.in-Took.block c.self.invariant c.in-Took.ensures.value.0 (sym c.places-places.ensures.value ∙ c.places-places.ensures.count ∙ ap (λ z. z.slots) (sym c.requires.table) ∙ ap (λ (h : Homed). h.pass.table.slots) (sym c.self.view_is) ∙ c.self.invariant.places) (ap (λ (h : Homed). h.refused) c.self.view_is ∙ c.requires.live) c.in-Took.ensures.kept)
     (λ i. label_of (c.hold.ensures.table i) (c.hold.ensures.cores i)) c.put.ensures.value
