@@ -26,6 +26,8 @@ signal.signal(signal.SIGINT, signal.SIG_DFL)
 Cost = collections.namedtuple("Cost", "wall used resident")
 # A rate of 200 connections is what all whole runs have.
 CONNECTIONS = 200
+# From how many busy processors on a machine is not at rest.
+MOST_LOAD = 0.5
 
 
 # Traffic of `zygos gen`, and of `bench/traffic --like cache`.
@@ -165,7 +167,9 @@ def machine_name():
 
 def machine():
     """The machine, the day, and how many of its processors were busy in the last minute."""
-    return f"{machine_name()}, {time.strftime('%Y-%m-%d %H:%M')}, load before: {os.getloadavg()[0]:.1f}"
+    load = os.getloadavg()[0]
+    told = f"{load:.1f}" if load < MOST_LOAD else f"{load:.1f} (not at rest: times and ratios mean little)"
+    return f"{machine_name()}, {time.strftime('%Y-%m-%d %H:%M')}, load before: {told}"
 
 
 def command_line():

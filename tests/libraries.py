@@ -31,9 +31,9 @@ class Library:
         return list(dict.fromkeys(self.key() for _ in range(self.draw.randint(2, 8))))
 
     def value(self):
+        """A value of one of a few sizes: memcached gives each size at least a megabyte before it evicts any."""
         self.count += 1
-        size = self.draw.choice((0, 100, 1000, 4000))
-        return b"%x.%d" % (self.name, self.count) + b"v" * self.draw.randint(0, size)
+        return (b"%x.%d" % (self.name, self.count)).ljust(self.draw.choice((0, 100, 600, 2500)), b"v")
 
     def exptime(self):
         return self.draw.choice(EXPTIMES)

@@ -1,5 +1,5 @@
-"""Tests the scripts of bench: the bytes of bench/traffic --like, the words for the traffic, what is said of interleaved
-runs, and short runs beside the plain server."""
+"""Tests the scripts of bench: the bytes of bench/traffic --like, the words for the traffic, help, marks on charts, what is
+said of interleaved runs, and short runs beside the plain server."""
 import os
 import re
 import shutil

@@ -299,7 +299,7 @@ class Reason:
         if len(sure) > MOST_PRINTED:
             lines.append(f"  and {len(sure) - MOST_PRINTED} more")
         if len(self.events) > len(sure):
-            lines.append(f"  {len(self.events) - len(sure)} others that may have been made then, or not, do not help")
+            lines.append(f"  {others(len(self.events) - len(sure))}")
         return lines
 
 
@@ -349,3 +349,9 @@ def loosened(event: Event, want: str | None) -> Event:
     event = copy.copy(event)
     event.optional, event.want = True, want
     return event
+
+
+def others(count: int) -> str:
+    """What is said of calls that do not matter."""
+    one = count == 1
+    return f"{count} other{'' if one else 's'} that may have been made then, or not, do{'es' if one else ''} not help"
