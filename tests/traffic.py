@@ -147,11 +147,12 @@ def memcached(*words):
 
 
 def is_listening(process, port):
-    """Waits until a memcached listens, or has ended. Gives whether it listens."""
+    """Waits until a memcached listens, or has ended. Gives whether it listens: another one may have the port, so it is
+    asked for its process."""
     while process.poll() is None:
-        with contextlib.suppress(OSError), socket.create_connection(("127.0.0.1", port)) as one:
-            one.sendall(b"version\r\n")
-            if take(one, 7) == b"VERSION" and process.poll() is None:
+        with contextlib.suppress(OSError), socket.create_connection(("127.0.0.1", port), 10) as one:
+            one.sendall(b"stats\r\n")
+            if take(one, 20).startswith(b"STAT pid %d\r\n" % process.pid):
                 return True
         time.sleep(0.02)
     return False

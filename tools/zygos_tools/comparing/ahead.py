@@ -20,9 +20,8 @@ LOOK, MOST = 64, 8
 AHEAD = LOOK + MOST + 1
 # what each eight answers ahead that differ count, in hundredths
 WEIGHTS, EIGHT = (100, 70, 50, 35, 25, 18, 12, 9), 8
-# how many are taken from a source at one time, and of how many it is found what is known of them; how many are kept
-# behind, and for how many shifts sums are kept
-PIECE, FEW, BEHIND, SHIFTS = 64, 16, 1024, 256
+# how many are taken from a source at one time, how many are kept behind, and for how many shifts sums are kept
+PIECE, BEHIND, SHIFTS = 64, 1024, 256
 
 # how many lines and answers are kept with what is known of them
 MOST_KEPT = 1 << 13
@@ -150,12 +149,6 @@ class AnswersAhead(Ahead[bytes]):
         self.tokens += map(token_of, new)
         return min(count, len(self.kept) - self.place)
 
-    def token(self) -> bytes:
-        """The token of the next answer."""
-        if self.place >= len(self.tokens):
-            self.learn(FEW)
-        return self.tokens[self.place]
-
     def take_group(self, group: Group) -> tuple[int, bytes | None]:
         """The answers of the commands of a group, as one after the number of the first."""
         first = self.taken
@@ -195,12 +188,6 @@ class GroupsAhead(Ahead[Group]):
         """Whether all commands that a look ahead reaches have one answer each."""
         self.learn(AHEAD)
         return self.odd <= self.taken
-
-    def token_fits(self, token: bytes) -> bool:
-        """Whether an answer with this token can be that of the next command."""
-        if self.place >= len(self.fitting):
-            self.learn(FEW)
-        return token in self.fitting[self.place]
 
 
 # ---- how badly answers agree

@@ -166,7 +166,7 @@ class Comparison:
         self.files, self.sent, self.prints_all, self.left_out = list(map(inputs.name_of, files)), sent, prints_all, left_out
         self.pair, self.recorded, self.search = pair, recorded, search  # without a search there are no causes
         self.connections: tuple[set[int], set[int]] = set(), set()
-        self.sessions, self.answers, self.differences = [0, 0], 0, 0
+        self.sessions, self.differences = [0, 0], 0
         self.found: dict[Causes, Found] = {}
         self.excepted = Counter[str]()
         self.missing, self.alone = ([Counter[str](), Counter[str]()] for _ in range(2))  # what one of the files has alone
@@ -180,8 +180,6 @@ class Comparison:
             if text is not None:
                 self.connections[at].add(key[0])
                 self.sessions[at] += 1
-        if one is not None:
-            self.answers += sum(1 for _ in answers(one))
         if one is None or other is None:
             self.differ((OUTPUTS,), "", 1, lambda: (
                 f"connection {key[0]}, session {key[1]}",
@@ -301,7 +299,8 @@ class Comparison:
             print(line)
             return False
         if not self.found:
-            counts = (f"connections {len(self.connections[0])}, sessions {self.sessions[0]}, answers {self.answers}")
+            count = sum(1 for output in self.pair[0] for _ in answers(output.text))
+            counts = f"connections {len(self.connections[0])}, sessions {self.sessions[0]}, answers {count}"
             print(f"same: {counts}" + (f"; left out: {counted(+self.excepted)}" if +self.excepted else ""))
             return True
         self.total()

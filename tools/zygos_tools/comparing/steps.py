@@ -11,7 +11,7 @@ from collections.abc import Iterator, Sequence
 from typing import NamedTuple
 
 from zygos_tools.comparing.ahead import (EIGHT, LOOK, MOST_KEPT, MOVES, MOVES_OF_ANSWERS, PAIRED, WEIGHTS, Agreement,
-                                         AnswersAhead, GroupsAhead, Move, fits)
+                                         AnswersAhead, GroupsAhead, Move, fits, fitting, token_of)
 from zygos_tools.protocol.answers import FAULT, Group, answers, groups, name_of, without_uniques
 from zygos_tools.protocol.meaning import Command
 from zygos_tools.protocol.table import TELLING
@@ -177,7 +177,7 @@ class Steps:
                 side.take()
                 yield self.finish(found)
                 return
-        move = self.move()
+        move = self.move(group, one, other)
         if move is None:
             found = self.exchange(LEFT, group, (self.one.taken, one), (self.other.taken, other))
             yield self.finish(found)
@@ -210,10 +210,11 @@ class Steps:
 
     # ---- the step
 
-    def move(self) -> Move | None:
-        """What is passed over so that both are in step; a move of nothing where they are; None if they never are."""
+    def move(self, group: Group | None, one: bytes, other: bytes) -> Move | None:
+        """What is passed over so that both are in step; a move of nothing where they are; None if they never are. The next
+        command and answers are given."""
         stay = Move(0, 0, 0, 0)
-        if self.sure and self.are_fitting():
+        if self.sure and (not group or all(token_of(text) in fitting(group[0][1]) for text in (one, other))):
             return stay
         is_plain = self.groups is None or self.groups.are_plain()
         differ, odd, seen = self.agreement.look() if is_plain else self.ahead()
@@ -238,13 +239,6 @@ class Steps:
 
     def be_sure(self) -> None:
         self.sure, self.next_sure = self.next_sure, min(2 * self.next_sure, MOST_SURE)
-
-    def are_fitting(self) -> bool:
-        """Whether both next answers can be those of the next command."""
-        group = self.groups.get() if self.groups else None
-        if not self.groups or not group or len(group) > 1:
-            return True
-        return self.groups.token_fits(self.one.token()) and self.groups.token_fits(self.other.token())
 
     def pairs(self, one_at: int, other_at: int,
               group_at: int) -> Iterator[tuple[bytes | None, bytes | None, bytes | None]]:
