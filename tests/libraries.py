@@ -22,7 +22,9 @@ class Library:
         self.name = draw.randrange(1 << 30)
 
     def key(self):
-        return f"key:{min(int(self.draw.paretovariate(0.5)) - 1, self.draw.randrange(self.keys))}"
+        """A key: one time in three any, otherwise one of the first much more often."""
+        some = self.draw.randrange(self.keys)
+        return f"key:{min(int(self.draw.paretovariate(0.5)) - 1, some) if self.draw.random() < 0.67 else some}"
 
     def counter(self):
         return f"count:{self.draw.randrange(1 + self.keys // 50)}"
@@ -33,7 +35,7 @@ class Library:
     def value(self):
         """A value of one of a few sizes: memcached gives each size at least a megabyte before it evicts any."""
         self.count += 1
-        return (b"%x.%d" % (self.name, self.count)).ljust(self.draw.choice((0, 100, 600, 2500)), b"v")
+        return (b"%x.%d" % (self.name, self.count)).ljust(self.draw.choice((0, 600, 2500, 2500)), b"v")
 
     def exptime(self):
         return self.draw.choice(EXPTIMES)

@@ -11,7 +11,8 @@
 | `needs` | what the calls that are left need of a key |
 | `search` | an order of the calls on one key, or on a few together |
 | `keys` | the orders of all keys |
-| `graph` | one order of all calls, made of those of the keys; circles where there is none |
+| `orders`, `nearby` | parts of these orders, with states; the calls on a key near to a time |
+| `graph`, `sorting` | one order of all calls, made of those of the keys; circles where there is none |
 | `fitting`, `mending` | fits the orders of the keys in a circle to each other |
 | `numbering` | an order in which stores get the numbers that the server gave them |
 | `reasons` | the few calls that no order explains |
