@@ -10,7 +10,8 @@ import drawn
 import plain
 from zygos_tools.comparing.apart import Callers
 from zygos_tools.comparing.causes import Causes
-from zygos_tools.comparing.steps import BOTH, ENDED, LEFT, by_answers, by_commands
+from zygos_tools.comparing.ahead import MOVES, MOVES_OF_ANSWERS, PAIRED
+from zygos_tools.comparing.steps import BOTH, ENDED, LEFT, Steps, by_answers, by_commands
 from zygos_tools.files.formats import capture, close, journal, pieces, read_capture, replies, segment, sessions
 from zygos_tools.files.part import Part
 from zygos_tools.protocol.answers import answers
@@ -462,6 +463,29 @@ def edited_outputs():
                             same(f"a cause: {name}", True, bool(causes.differed(exchange)))
 
 
+def sums():
+    """What is kept as sums along each shift is what a count of the answers ahead gives, wherever both sides are."""
+    pieces_of = [(b"get a\r\n", ITEM), (b"get b a\r\n", b"END\r\n"), (b"set a 0 0 1\r\nx\r\n", b"STORED\r\n"),
+                 (b"gets a\r\n", b"VALUE a 0 1 7\r\nx\r\nEND\r\n"), (b"gets a\r\n", b"VALUE a 0 1 8\r\nx\r\nEND\r\n"),
+                 (b"incr n 1\r\n", b"12\r\n"), (b"lru x\r\n", b"OK\r\n"), (b"odd\r\n", b"ERROR\r\n"), (b"mn\r\n", b"MN\r\n")]
+    for number in range(12):
+        draw = random.Random(number)
+        asked = draw.choices(pieces_of, k=draw.choice((3, 70, 200)))
+        texts = [[draw.choice(pieces_of)[1] if draw.random() < 0.2 else text for _, text in asked[draw.randrange(3) :]]
+                 for _ in range(2)]
+        steps = Steps(*map(b"".join, texts), b"".join(sent for sent, _ in asked) if draw.random() < 0.8 else None)
+        sides = [side for side in (steps.one, steps.other, steps.groups) if side]
+        while all(side.get() for side in sides[:2]):
+            if not steps.groups or steps.groups.are_plain():
+                same(f"ahead, {number}", steps.ahead(), steps.agreement.look())
+                for is_paired, moves in enumerate((draw.sample(MOVES_OF_ANSWERS if not steps.groups else MOVES, 9), PAIRED)):
+                    same(f"costs, {number}", [steps.cost(move, 1 << 30, bool(is_paired)) for move in moves],
+                         [steps.agreement.cost(move, 1 << 30, bool(is_paired)) for move in moves])
+            for side in draw.choice((sides, sides, sides, sides[1:], sides[:2], sides[:1])):
+                for _ in range(draw.choice((1, 1, 2, 9))):
+                    side.take()
+
+
 def texts_of(made, connection, session):
     """The text of each command of a session, by the plain model."""
     before = sum(len(commands_of(stream)) for stream in made.streams[connection][:session])
@@ -492,7 +516,7 @@ def large():
 
 Tests = cases(first_differences, one_answer_each, all_differences, silent_commands, not_recorded, items_from_before,
               shared_keys, shared_causes, orders_of_arrival, long_answers, steps, many_steps, uniques, odd_keys,
-              other_causes, drawn_captures, edited_outputs, large)
+              other_causes, drawn_captures, edited_outputs, sums, large)
 
 if __name__ == "__main__":
     unittest.main()

@@ -118,7 +118,44 @@ def types():
     same("what mypy finds", [], found)
 
 
-Tests = cases(pages, listed_crates, upkeep, english, instructions, flakes, types)
+# scripts of a gate, with what they count and what is said of them
+SCRIPTS = (
+    ("echo left out: one; echo 3 passed, 0 failed, 1 skipped", (3, 0, 1), ""),
+    ("echo 2 passed, 1 failed, 0 skipped; exit 1", (2, 1, 0), ""),
+    ("echo half", (0, 1, 0), "ended early, without its counts, with status 0"),
+    ("kill -9 $$", (0, 1, 0), "ended early, without its counts, with status -9"),
+    ("echo 9 passed, 0 failed, 0 skipped; exit 3", (9, 1, 0), "ended with status 3, after its counts"),
+    ("sleep 100000 & echo 1 passed, 0 failed, 0 skipped", (1, 0, 0), ""),
+)
+
+
+def gates():
+    """The gate's last line counts all, whatever its scripts do; none of what these start is left."""
+    gate = os.path.join(TOP, "tests/gate")
+    with tempfile.TemporaryDirectory() as folder:
+        paths = [written(folder, **{f"script{at}": b"#!/bin/sh\n%s\n" % text.encode()})[f"script{at}"]
+                 for at, (text, _, _) in enumerate([*SCRIPTS, ("sleep 100000", (), "")])]
+        for path in paths:
+            os.chmod(path, 0o755)
+        for path, (_, counts, why) in zip(paths, SCRIPTS):
+            ran = subprocess.run([gate, path], capture_output=True, check=False, timeout=600)
+            lines = ran.stdout.decode().splitlines()
+            wanted = [*([f"tests/gate: {path}: {why}"] if why else []), "{} passed, {} failed, {} skipped".format(*counts)]
+            same("the last line", (int(counts[1] > 0), wanted), (ran.returncode, lines[-len(wanted) :]))
+        ok, hung, none = paths[0], paths[-1], os.path.join(folder, "none")
+        same("a script that does not end, and one that is not there", "0 passed, 2 failed, 0 skipped",
+             subprocess.run([gate, "--seconds", "1", hung, none], capture_output=True, check=False,
+                            timeout=600).stdout.decode().splitlines()[-1])
+        with subprocess.Popen([gate, ok, hung, ok], stdout=subprocess.PIPE, text=True) as process:
+            for line in process.stdout:
+                if line == f"== {hung}\n":
+                    break
+            process.terminate()
+            same("the last line of a gate that a signal ends", "3 passed, 2 failed, 1 skipped",
+                 process.stdout.read().splitlines()[-1])
+
+
+Tests = cases(pages, listed_crates, upkeep, english, instructions, flakes, types, gates)
 
 if __name__ == "__main__":
     unittest.main()

@@ -237,7 +237,8 @@ class Agreement:
             fitting = self.groups.fitting[self.groups.place :]
             fits, its_fit = (list(map(contains, fitting, side.tokens[side.place : side.place + LOOK]))
                              for side in (self.one, self.other))
-            self.unfit = unfit(fits), unfit(its_fit)
+            left = len(self.groups.kept) - self.groups.place  # answers after those of the last command are passed over freely
+            self.unfit = unfit(fits[:left]), unfit(its_fit[:left])
             odd = sum(map(not_, fits[:end])) + sum(map(not_, compress(its_fit, differing)))
         return sum(differing), odd, end
 
