@@ -126,8 +126,8 @@ class Mending:
         return MANY_CALLS if self.effort >= SOME else FEW_CALLS
 
     def mend(self, calls: list[Event], is_long: bool) -> bool:
-        """Fits the orders of the keys in a circle to each other. Gives whether that was done. Where items may be lost, one
-        key after the other is searched again, as the order that was found may have fewer losses than there were."""
+        """Fits the orders of the keys in a circle to each other. Gives whether that was done. Where items may be lost,
+        one key after the other is searched again, as its order may have fewer losses than there were."""
         own = {event.key for event in calls}
         for names, window in self.windows(calls, is_long):
             tries = [[key for key in names if self.is_soft(key, kinds)] for kinds in SOFT]
