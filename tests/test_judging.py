@@ -4,6 +4,7 @@ import json
 import os
 import random
 import tempfile
+from unittest import mock
 
 from checks import cases, fail, run, same, written
 from lies import Liar, outputs_of, verdict
@@ -12,6 +13,7 @@ import plain
 from thought import USUAL, WIDE, Draw, Memcached, in_sessions
 from zygos_tools.files.formats import (Call, Part, Segment, capture, close, cut_all, journal, pieces, read_capture,
                                        read_journal, replies, replies_file, segment)
+from zygos_tools.judging import mending
 from zygos_tools.judging.judge import Clock, Judge
 from zygos_tools.protocol.pace import Pace
 from zygos_tools.repository import TOP
@@ -212,6 +214,20 @@ def losses_by_exptime_are_counted():
     same("a value that was joined keeps the exptime", 1, counts["losses of items that an exptime may explain"])
 
 
+def a_loss_that_another_key_shows():
+    """An order of a key without losses may fit no order of another key; then the key has a loss."""
+    sent = ((0, b"delete b noreply\r\nset a 0 0 1 noreply\r\n1\r\nget a\r\n"),
+            (1, b"set a 0 0 1 noreply\r\n2\r\nset b 0 0 1 noreply\r\n3\r\nmn\r\n"), (0, b""), (1, b""),
+            (2, b"get a b\r\n"), (2, b""))
+    texts = capture(3, [segment(*one) for one in sent]), replies([
+        b"VALUE a 0 1\r\n1\r\nEND\r\n", b"MN\r\n", b"VALUE a 0 1\r\n2\r\nEND\r\n"])
+    same("without losses", "no: keys a, b", verdict(texts[0], outputs_of(texts[1]))[1][0][:13])
+    judge = Judge(texts[0], outputs_of(texts[1]), loses=True)
+    with mock.patch.object(mending, "MOST_TOGETHER", 0):  # as if the keys had many calls
+        judge.run()
+    same("with losses", 1, judge.certificate().counts["losses of items"])
+
+
 # ---- what memcached reads otherwise
 
 SET, COUNTER, LOOK = b"set a 0 0 1\r\nx\r\n", b"set n 0 0 2\r\n10\r\n", b"get a\r\nget n\r\nmn\r\n"
@@ -304,6 +320,6 @@ def keys_in_processes():
 
 
 Tests = cases(recordings_keep_their_times, added_connections_keep_times, lies_about_time_are_refused,
-              five_faults_are_all_named, swapped_values_are_told, losses_by_exptime_are_counted,
+              five_faults_are_all_named, swapped_values_are_told, losses_by_exptime_are_counted, a_loss_that_another_key_shows,
               what_memcached_reads_otherwise_is_no_fault, no_row_of_memcached_is_refused, counters_from_before,
               a_nul_is_warned_of, flushes_are_kept_once, keys_in_processes)

@@ -25,7 +25,7 @@ MOST_NAMED = 5
 # how many more calls of a key that does not fit are fitted, on both sides, in one try after the other
 MORE_CALLS = (8, 32, 128, 0)
 # the kinds of calls whose makers may be chosen anew, by searching their keys again, in further tries
-SOFT: tuple[tuple[int, ...], ...] = ((), (INCR, DECR), (INCR, DECR, APPEND, PREPEND))
+SOFT = ((INCR, DECR), (INCR, DECR, APPEND, PREPEND))
 
 # some keys, and calls by their numbers
 Window = tuple[list[bytes], dict[int, Event]]
@@ -126,12 +126,16 @@ class Mending:
         return MANY_CALLS if self.effort >= SOME else FEW_CALLS
 
     def mend(self, calls: list[Event], is_long: bool) -> bool:
-        """Fits the orders of the keys in a circle to each other. Gives whether that was done."""
+        """Fits the orders of the keys in a circle to each other. Gives whether that was done. Where items may be lost,
+        one key after the other is searched again, as its order may have fewer losses than there were."""
+        own = {event.key for event in calls}
         for names, window in self.windows(calls, is_long):
-            for kinds in SOFT:
-                soft = [key for key in names if kinds and self.is_soft(key, kinds)]
-                if (soft or names and not kinds) and self.fit_wider(names, window, soft):
-                    return True
+            tries = [[key for key in names if self.is_soft(key, kinds)] for kinds in SOFT]
+            tries += [[key] for key in names if key in own and self.orders.loses]
+            if names and self.fit_wider(names, window, []):
+                return True
+            if any(soft and self.fit_wider(names, window, soft) for soft in tries):
+                return True
         return False
 
     def fit_wider(self, names: list[bytes], window: dict[int, Event], soft: list[bytes]) -> bool:
