@@ -3,7 +3,7 @@
 
 usage: tests/faulty.py PLACE [FAULT]     (HOST:PORT; it says so when it listens, and serves until it is ended)
 
-stale      one in ten reads is answered from a copy that is some milliseconds old, as a replica does
+stale      one in ten reads is answered from a copy that is some changes old, as a replica does
 uncounted  incr and decr read, wait a moment and write, so that two at a time may count once
 dropped    one in ten sets is answered STORED and forgotten
 mixed      the answers to commands that came together are sometimes sent in another order
@@ -11,15 +11,14 @@ mixed      the answers to commands that came together are sometimes sent in anot
 import asyncio
 import random
 import sys
-import time
 
 from zygos_tools.files.formats import Reply
 from zygos_tools.protocol.meaning import Framer
 from zygos_tools.protocol.model import Shard, call_of, text_of
 
 FAULTS = ("stale", "uncounted", "dropped", "mixed")
-# how old the copy of a replica is, in seconds
-OLD = 0.005
+# how old the copy of a replica is, in changes
+OLD = 20
 
 
 class Server:
@@ -29,10 +28,9 @@ class Server:
         self.fault, self.shard, self.draw, self.copies = fault, Shard(0, 1), random.Random(7), []
 
     def copy(self):
-        """The items of some milliseconds ago."""
-        while len(self.copies) > 1 and self.copies[1][0] < time.monotonic() - OLD:
-            self.copies.pop(0)
-        return self.copies[0][1] if self.copies else {}
+        """The items before the last changes."""
+        del self.copies[: -OLD - 1]
+        return self.copies[0] if len(self.copies) > OLD else {}
 
     async def reply(self, call):
         draw, items = self.draw, self.shard.items
@@ -41,7 +39,7 @@ class Server:
                 item = self.copy().get(call.key)
                 return Reply("hit", item.flags, item.unique, item.value) if item else Reply("miss")
             if call.name != "get":
-                self.copies.append((time.monotonic(), dict(items)))
+                self.copies.append(dict(items))
         if self.fault == "dropped" and call.name == "set" and draw.random() < 0.1:
             return Reply("stored")
         if self.fault == "uncounted" and call.name in ("incr", "decr") and call.key in items:
@@ -73,7 +71,7 @@ class Server:
 async def main(place, fault=None):
     host, port = place.rsplit(":", 1)
     async with await asyncio.start_server(Server(fault).serve, host, int(port)) as one:
-        print("listening", flush=True)
+        print("{}:{}".format(*one.sockets[0].getsockname()[:2]), flush=True)
         await one.serve_forever()
 
 

@@ -363,11 +363,26 @@ def recorded():
                         client.sendall(line)
                         while line:
                             line = line[len(far.recv(len(line))):]
-            time.sleep(1)
+            for _ in range(12000):  # until both ends are in the file
+                if ends_in(path) == 2:
+                    break
+                time.sleep(0.05)
             dump.send_signal(signal.SIGINT)
             dump.stderr.read()
         with open(path, "rb") as file:
             return file.read(), port, sent
+
+
+def ends_in(path):
+    """How many packets of a recording of the loopback device end a direction, as far as it is written."""
+    with open(path, "rb") as file:
+        text = file.read()
+    count, at = 0, 24
+    while at + 16 <= len(text):
+        size = int.from_bytes(text[at + 8 : at + 12], sys.byteorder)
+        packet, at = text[at + 16 : at + 16 + size], at + 16 + size
+        count += len(packet) > 47 and packet[47] & 1
+    return count
 
 
 # ---- the comparison

@@ -25,7 +25,7 @@ def path():
 
 def run(words, given, output=subprocess.PIPE, **how):
     given = {} if given is None else {"input": given}
-    return subprocess.run([path(), *words], stdout=output, stderr=subprocess.PIPE, timeout=120, check=False, **given, **how)
+    return subprocess.run([path(), *words], stdout=output, stderr=subprocess.PIPE, timeout=600, check=False, **given, **how)
 
 
 def answer(words, given):

@@ -203,7 +203,7 @@ def interrupted():
             with subprocess.Popen([path_of(words[0]), *words[1:]], stdout=subprocess.PIPE, stderr=subprocess.PIPE) as tool:
                 with open(pipe, "wb"):  # the tool has opened it
                     tool.send_signal(signal.SIGINT)
-                    said = tool.communicate(timeout=120)
+                    said = tool.communicate(timeout=600)
             same(f"{words[0]} at Ctrl-C", (-signal.SIGINT, (b"", b"")), (tool.returncode, said))
             same(f"what {words[0]} leaves", ["pipe"], os.listdir(folder))
 
@@ -326,7 +326,7 @@ def unforeseen():
             with open(path, "w", encoding="utf-8") as file:
                 file.write(program.format(what))
             ran = subprocess.run([sys.executable, path, path_of("")], capture_output=True, check=False,
-                                 env=dict(os.environ, TMPDIR=folder), timeout=120)
+                                 env=dict(os.environ, TMPDIR=folder), timeout=600)
             same(f"what is said of {what}", (status, True),
                  (ran.returncode, re.fullmatch(wanted, ran.stderr.decode()) is not None))
         same("the traces", 2, sum(name.endswith(".trace") for name in os.listdir(folder)))

@@ -24,7 +24,7 @@ CLIENTS = [bytes([10, 0, 0, at, 10, 0, 0, 9]) + struct.pack(">HH", 40000 + at, 1
 
 
 def run(*words, given=b"", tool="packets"):
-    return subprocess.run([os.path.join(TOP, "tools", tool), *words], input=given, capture_output=True, timeout=300,
+    return subprocess.run([os.path.join(TOP, "tools", tool), *words], input=given, capture_output=True, timeout=600,
                           check=False)
 
 
@@ -351,7 +351,7 @@ def nothing_written():
 
 def served(text, *words):
     """What the program writes for these words and this input."""
-    return subprocess.run([program_path(), *words], input=text, stdout=subprocess.PIPE, timeout=300, check=False).stdout
+    return subprocess.run([program_path(), *words], input=text, stdout=subprocess.PIPE, timeout=600, check=False).stdout
 
 
 def is_recorded(path):

@@ -203,7 +203,7 @@ def interrupted():
         with subprocess.Popen(words, stdout=subprocess.PIPE, stderr=subprocess.PIPE) as process:
             until("both connections ask", lambda: server.hushed == 2)
             process.send_signal(signal.SIGINT)
-            text, said = process.communicate(timeout=300)
+            text, said = process.communicate(timeout=600)
     lines = [line for line in said.decode().splitlines() if " in " not in line and "within" not in line]
     same("what is interrupted", (1, {(0, 0): b"MN\r\n", (1, 0): b""}, ["tools/play: 2 commands were not answered",
          "tools/play: interrupted: what came back so far is written"]), (process.returncode, {
@@ -239,7 +239,7 @@ def faulty_servers():
             until("the other one waits too", lambda: server.hushed == 2)
             with open("late", "wb"):
                 pass
-            text, said = process.communicate(timeout=300)
+            text, said = process.communicate(timeout=600)
     lines = [line for line in said.decode().splitlines() if "within:" not in line]
     same("missing answers", (1, replies([b"MN\r\nMN\r\n", b"OK\r\nMN\r\n"]), [
         "tools/play: 2 commands were not answered",
@@ -293,7 +293,7 @@ def closed_pipe():
         file.write(capture(1, [segment(0, b"big 1000000\r\n")]))
         file.flush()
         ran = subprocess.run(["bash", "-c", '"$0" "$@" | head -c 1 > /dev/null', os.path.join(TOP, "tools/play"),
-                              "my.cap", "--server", server.place], capture_output=True, timeout=300, check=False)
+                              "my.cap", "--server", server.place], capture_output=True, timeout=600, check=False)
         same("a closed pipe", 2, ran.stderr.count(b"\n"))
 
 

@@ -5,6 +5,7 @@ import re
 import subprocess
 import tempfile
 import unittest
+from itertools import zip_longest
 
 from checks import built_program, cases, fail, prints, program_path, run, same, says, written
 import drawn
@@ -303,7 +304,7 @@ def differing(name, draw, clients, most, lines):
     found = near(name, turns, texts), in_order(read_capture(Part("capture", capture(
         clients, [segment(*turn) for turn in turns]))))
     for at, of_all in enumerate((found[0], [found[1][client, 0] for client in range(clients)])):
-        differ[at] = sum(one != other for pair in zip(of_all, texts) for one, other in zip(*map(answers, pair)))
+        differ[at] = sum(one != other for pair in zip(of_all, texts) for one, other in zip_longest(*map(answers, pair)))
     return len(turns), *differ
 
 
@@ -367,9 +368,14 @@ def differences(given, recorded):
     """What is said of a recording and what the program answers near the order of arrival."""
     output = subprocess.run([program_path(), "run"], input=run("inline", given, recorded).stdout, stdout=subprocess.PIPE,
                             timeout=600, check=True).stdout
+    cut = run("inline", "--cut", "-", given, recorded, given=output)
+    same("the replies are cut", (0, b""), (cut.returncode, cut.stderr))
     with open("its.replies", "wb") as file:
-        file.write(run("inline", "--cut", "-", given, recorded, given=output).stdout)
-    return run("compare", "--all", "--capture", given, recorded, "its.replies").stdout.decode()
+        file.write(cut.stdout)
+    ran = run("compare", "--all", "--seconds", "600", "--capture", given, recorded, "its.replies")
+    last = ran.stdout.decode().splitlines()[-1:]
+    same("the comparison", (True, True, b""), (ran.returncode in (0, 1), bool(last), ran.stderr))
+    return ran.stdout.decode()
 
 
 Tests = cases(values, connections, orders, drawn_captures, near_orders, uniques, orders_of_their_own, drawn_orders,

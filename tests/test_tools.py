@@ -89,13 +89,13 @@ def closed_pipes():
                                ("picture", (), journal([], records))):
         ran = subprocess.run(["bash", "-c", '"$0" "$@" | head -c 1 > /dev/null', path_of(tool),
                               *words],
-                             input=given, capture_output=True, timeout=60, check=False)
+                             input=given, capture_output=True, timeout=600, check=False)
         same(f"a closed pipe of {tool}", b"", ran.stderr)
     for tool in ("show", "capture", "picture"):
         with open("/dev/full", "wb") as full:
             ran = subprocess.run([path_of(tool)], input=journal([], []), stdout=full,
                                  stderr=subprocess.PIPE,
-                                 timeout=60, check=False)
+                                 timeout=600, check=False)
         same(f"no space for {tool}", (1, f"tools/{tool}: standard output: No space left on device\n".encode()),
              (ran.returncode, ran.stderr))
 

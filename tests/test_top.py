@@ -81,7 +81,7 @@ HELD = [Hold(0, 2, 1), Hold(1, 1, 3), Hold(1, 2, 2)]
 
 
 def run(*words, given=b""):
-    ran = subprocess.run([os.path.join(TOP, "tools/top"), *words], input=given, capture_output=True, timeout=300,
+    ran = subprocess.run([os.path.join(TOP, "tools/top"), *words], input=given, capture_output=True, timeout=600,
                          check=False)
     return ran.returncode, ran.stdout.decode(), ran.stderr.decode()
 
@@ -117,7 +117,7 @@ def faults():
     page = run("--help")[1].split("\n")
     same("help", True, max(map(len, page)) <= 120 and len(page) < 40)
     ran = subprocess.run(["bash", "-c", '"$0" | head -c 1 > /dev/null', os.path.join(TOP, "tools/top")],
-                         input=journal(MADE, HELD), capture_output=True, timeout=60, check=False)
+                         input=journal(MADE, HELD), capture_output=True, timeout=600, check=False)
     same("a closed pipe", b"", ran.stderr)
 
 

@@ -54,7 +54,7 @@ fi
 printf '== low\\nlogic=proved functions=1\\nrt: low proved\\n'
 """
 PROGRAM, TOOLS = ("zygos", "HANDLES"), ("build",)
-LONG = 60
+LONG = 600
 
 
 def is_running(process):

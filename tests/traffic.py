@@ -161,7 +161,7 @@ def is_listening(process, port):
 # ---- clients
 
 # how often it is looked whether something is so, each 0.05 seconds
-PATIENCE = 2400
+PATIENCE = 12000
 
 
 def connected(place):
@@ -174,7 +174,7 @@ def connected(place):
             else:
                 host, port = place.rsplit(":", 1)
                 one = socket.create_connection((host.strip("[]"), int(port)))
-            one.settimeout(120)
+            one.settimeout(600)
             return one
         time.sleep(0.05)
     raise OSError(f"nothing listens at {place}")
@@ -249,12 +249,12 @@ class Recorder:
         """Ends it by a signal, or waits for its end; gives its status and what it said besides its first line."""
         if number:
             self.process.send_signal(number)
-        self.said = self.process.communicate(timeout=300)[1].decode()
+        self.said = self.process.communicate(timeout=600)[1].decode()
         return self.process.returncode, self.said
 
     def line(self):
         """The next line that it says."""
-        ready, _, _ = select.select([self.process.stderr], [], [], 120)
+        ready, _, _ = select.select([self.process.stderr], [], [], 600)
         return self.process.stderr.readline().decode() if ready else ""
 
     def most_memory(self):

@@ -237,7 +237,7 @@ class Agreement:
             fitting = self.groups.fitting[self.groups.place :]
             fits, its_fit = (list(map(contains, fitting, side.tokens[side.place : side.place + LOOK]))
                              for side in (self.one, self.other))
-            left = len(self.groups.kept) - self.groups.place  # answers after those of the last command are passed over freely
+            left = len(self.groups.kept) - self.groups.place  # an answer after those of the last command fits, if passed over
             self.unfit = unfit(fits[:left]), unfit(its_fit[:left])
             odd = sum(map(not_, fits[:end])) + sum(map(not_, compress(its_fit, differing)))
         return sum(differing), odd, end
