@@ -47,7 +47,7 @@ class Mending:
         self.effort, self.least, self.high, self.turns = 0, FOREVER, -1, 0
 
     def turn(self, circles: list[list[int]], high: int, numbers: Sequence[int] = ()) -> None:
-        """Mends these circles, those of long times only where no other was mended; all are before the call `high`. If
+        """Mends these circles, those of long times only if no other was mended; all are before the call `high`. If
         the circles don't become fewer, more is tried in the next turn, and at last their keys are searched together.
         """
         self.begin_turn(sum(map(len, circles)), high)
