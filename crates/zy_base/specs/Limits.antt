@@ -11,7 +11,7 @@ key_limit = 250
 abbrev pub value_limit : ℕ
 value_limit = 1048576
 
--- the most bytes of a line that is looked at
+-- the most bytes of a line: a longer one is not read
 abbrev pub line_limit : ℕ
 line_limit = 65536
 

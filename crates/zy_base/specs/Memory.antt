@@ -29,7 +29,7 @@ pub record Writing : Type 0 where
   pub calls : ℕ
   -- how many of them failed
   pub faults : ℕ
-  -- how often it was finished, or was to be and failed
+  -- how often a finish was called, also if it failed
   pub finishes : ℕ
   -- whether the last call was a finish, and succeeded
   pub is_finished : Bool
@@ -45,7 +45,7 @@ pub record Keeping : Type 0 where
   -- whether the last call was a finish
   pub is_finished : Bool
 
--- the call with this number is one of those that fail
+-- the call with this number fails
 abbrev pub is_failing : List ℕ → ℕ → Bool
 is_failing failing call = list_any (λ n. n == call) failing
 

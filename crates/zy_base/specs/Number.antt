@@ -7,6 +7,6 @@ use Rattle.std.specs.Str.Parse.{digits_value}
 abbrev pub is_numeral : List ℕ → Bool
 is_numeral text = nat_le 1 (length text) && nat_le (length text) 20 && all_ascii_digits text
 
--- the number below 2^64 that 1 to 20 digits spell; leading zeros are allowed
+-- the number of 1 to 20 digits, if it is below 2^64; leading zeros are allowed
 abbrev pub number_of : List ℕ → Option ℕ
 number_of text = if is_numeral text && nat_lt (digits_value 10 text) (2 ^ 64) then Some (digits_value 10 text) else None

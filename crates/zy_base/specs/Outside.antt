@@ -16,7 +16,7 @@ Grew before None bytes = ⊤
 Grew None (Some after) bytes = ⊥
 Grew (Some before) (Some after) bytes = after ≡ before ++ bytes
 
--- the same, with a prefix of these bytes
+-- as `Grew`, with a prefix of these bytes
 abbrev pub GrewByPrefix : Option (List ℕ) → Option (List ℕ) → List ℕ → Type 0
 GrewByPrefix before after bytes = (n : ℕ) × (n ≤ length bytes) × Grew before after (take n bytes)
 

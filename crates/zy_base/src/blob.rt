@@ -37,7 +37,7 @@ impl Model for Blob {
 }
 
 impl Blob {
-    /// The empty byte string. Takes no memory.
+    /// Makes the empty byte string. Takes no memory.
     pub fn new(alloc: Global) -> Blob
         ensures value { result ≡ [] }
     {
@@ -47,7 +47,7 @@ impl Blob {
         }
     }
 
-    /// The same bytes.
+    /// Copies the bytes.
     #[inline(always)]
     pub fn copy_of(alloc: Global, bytes: &[u8]) -> Result<Blob, NoMemory>
         ensures value { IfOk result (λ copy. copy ≡ bytes.now) }
@@ -71,7 +71,7 @@ impl Blob {
         }
     }
 
-    /// The bytes of a vector, which is moved and not copied. Takes no memory.
+    /// Makes a byte string of a vector, which is moved. Takes no memory.
     pub fn from_vec(bytes: Vec<u8>) -> Blob
         ensures value { result ≡ bytes.items }
     {
@@ -81,14 +81,14 @@ impl Blob {
         }
     }
 
-    // The bytes that are in place. Takes no memory.
+    // Makes a byte string of bytes that are kept in place. Takes no memory.
     pub(crate) fn from_short(alloc: Global, short: Short) -> Blob
         ensures value { result ≡ short }
     {
         Blob::from_storage(alloc, Storage::Short(short))
     }
 
-    // The bytes that are kept so. Takes no memory.
+    // Makes a byte string of bytes that are kept in this way. Takes no memory.
     pub(crate) fn from_storage(alloc: Global, storage: Storage) -> Blob
         requires within { IsWithin storage }
         ensures value { result ≡ bytes_of storage }
@@ -96,7 +96,7 @@ impl Blob {
         Blob { alloc, storage }
     }
 
-    /// The same bytes. Takes no memory where they are in place or shared.
+    /// Copies the bytes. Takes no memory if they are in place or shared.
     pub fn copy(&self) -> Result<Blob, NoMemory>
         ensures value { IfOk result (λ copy. copy ≡ self.now) }
     {
@@ -118,7 +118,7 @@ impl Blob {
         }
     }
 
-    // The same for bytes in a vector of their own, which are moved.
+    // Lets copies share the bytes of a vector of its own, which is moved.
     fn share_own(&mut self) -> Result<(), NoMemory>
         ensures value { self.new ≡ self.old }
     {
@@ -169,8 +169,9 @@ impl Blob {
         Ok(())
     }
 
-    /// The bytes from `from` up to `end`. Up to 16 are copied into place and never refused. More are
-    /// shared if these bytes are shared, which takes no memory, and else copied.
+    /// Returns the bytes from `from` up to `end`. Up to 16 are copied into place, which cannot
+    /// fail. More are shared if these bytes are shared, which takes no memory; otherwise they are
+    /// copied.
     pub fn part(&self, from: usize, end: usize) -> Result<Blob, NoMemory>
         requires order { from ≤ end }
         requires within { end ≤ length self.now }
@@ -207,7 +208,7 @@ impl Blob {
         self.storage.truncate(len);
     }
 
-    /// Takes the bytes out, with room for at least `more` further bytes, and leaves none.
+    /// Moves the bytes out, with room for at least `more` further ones. None are left here.
     pub fn reserve(&mut self, more: usize) -> Result<Reserved, NoMemory>
         ensures value { IfOk result (λ reserved. reserved.bytes ≡ self.old) }
         ensures room { IfOk result (λ reserved. more ≤ reserved.room) }
@@ -235,8 +236,8 @@ impl Blob {
         }
     }
 
-    /// Takes room for at least `more` further bytes, where they do not fit in place. The bytes stay the
-    /// same.
+    /// Takes room for at least `more` further bytes, if they do not fit in place. The bytes stay as
+    /// they are.
     pub fn make_room(&mut self, more: usize) -> Result<(), NoMemory>
         ensures value { self.new ≡ self.old }
     {
@@ -246,7 +247,7 @@ impl Blob {
         }
     }
 
-    // The same in a vector.
+    // Takes room in a vector for at least `more` further bytes.
     fn make_room_in_vector(&mut self, more: usize) -> Result<(), NoMemory>
         ensures value { self.new ≡ self.old }
     {
@@ -255,7 +256,7 @@ impl Blob {
         Ok(())
     }
 
-    // Replaces the bytes, and lets the former ones go.
+    // Replaces the bytes, and drops the former ones.
     fn put(&mut self, storage: Storage)
         requires within { IsWithin storage }
         ensures value { self.new ≡ bytes_of storage }
@@ -263,7 +264,7 @@ impl Blob {
         drop(mem::replace(&mut self.storage, storage));
     }
 
-    /// The bytes.
+    /// Returns the bytes.
     pub fn bytes(&self) -> &[u8]
         ensures value { result.now ≡ self.now }
     {

@@ -25,7 +25,7 @@ impl Model for CallNumbers {
 }
 
 impl CallNumbers {
-    /// No number. Takes no memory.
+    /// Makes the list without a number. Takes no memory.
     pub fn new(alloc: Global) -> CallNumbers
         ensures value { result ≡ [] }
     {
@@ -34,7 +34,7 @@ impl CallNumbers {
         }
     }
 
-    /// Appends a number above the last one; after a refusal it is handed back.
+    /// Appends a number above the last one; if allocation fails it is handed back.
     #[tactic(auto, using(crate::proofs::RisingLemmas::increasing_push))]
     pub fn push(&mut self, number: u64) -> Result<(), (u64, NoMemory)>
         requires above { IfSome (last_or None self.old) (λ last. last < number) }
@@ -48,7 +48,7 @@ impl CallNumbers {
         }
     }
 
-    /// The numbers.
+    /// Returns the numbers.
     pub fn items(&self) -> &[u64]
         ensures value { result.now ≡ self.now }
         ensures rising { IsStrictlyIncreasing result.now }

@@ -34,7 +34,7 @@ impl Model for Filling {
 }
 
 impl Filling {
-    /// No bytes, with room for 16. Takes no memory.
+    /// Begins without bytes, with room for 16. Takes no memory.
     pub fn new(alloc: Global) -> Filling
         ensures value { result.bytes ≡ [] }
         ensures room { result.room ≡ 16 }
@@ -45,7 +45,8 @@ impl Filling {
         }
     }
 
-    /// No bytes, with room for `size`. Up to 16 take no memory, and are never refused.
+    /// Begins without bytes, with room for `size`. Room for up to 16 takes no memory, and cannot
+    /// fail.
     pub fn with_room(alloc: Global, size: usize) -> Result<Filling, NoMemory>
         ensures value { IfOk result (λ filling. filling.bytes ≡ []) }
         ensures room { IfOk result (λ filling. size ≤ filling.room) }
@@ -63,7 +64,7 @@ impl Filling {
         }
     }
 
-    /// The number of bytes.
+    /// Returns the number of bytes.
     pub fn len(&self) -> usize
         ensures value { result ≡ length self.now.bytes }
     {
@@ -86,7 +87,7 @@ impl Filling {
                 short.append(bytes);
             }
             Form::Long(long) => {
-                // There is room.
+                // There is room, so this cannot fail.
                 let _ = long.extend_from_slice(bytes);
             }
         }
@@ -104,7 +105,7 @@ impl Filling {
         }
     }
 
-    /// The bytes. Takes no memory.
+    /// Returns the bytes. Takes no memory.
     pub fn into_blob(self) -> Blob
         ensures value { result ≡ self.bytes }
     {

@@ -6,7 +6,7 @@ use crate::outside::NoMemory;
 use std::alloc::Global;
 use std::marker::Model;
 
-/// A list. Contracts see it as the list.
+/// A list. Contracts see the list of its items.
 #[derive(Drop)]
 pub struct Items<T> {
     items: Vec<T>,
@@ -21,7 +21,7 @@ impl<T> Model for Items<T> {
 }
 
 impl<T> Items<T> {
-    /// The empty list. Takes no memory.
+    /// Makes the empty list. Takes no memory.
     pub fn new(alloc: Global) -> Items<T>
         ensures value { result ≡ [] }
     {
@@ -30,7 +30,7 @@ impl<T> Items<T> {
         }
     }
 
-    /// The empty list, with room for this many items.
+    /// Makes the empty list, with room for this many items.
     pub fn with_capacity(alloc: Global, capacity: usize) -> Result<Items<T>, NoMemory>
         ensures value { IfOk result (λ list. list ≡ []) }
     {
@@ -40,14 +40,14 @@ impl<T> Items<T> {
         }
     }
 
-    /// The list of a vector, which is moved and not copied. Takes no memory.
+    /// Makes the list of a vector, which is moved. Takes no memory.
     pub fn from_vec(items: Vec<T>) -> Items<T>
         ensures value { result ≡ items.items }
     {
         Items { items }
     }
 
-    /// Appends; after a refusal the item is handed back.
+    /// Appends the item; if allocation fails it is handed back.
     pub fn push(&mut self, item: T) -> Result<(), (T, NoMemory)>
         ensures ok { OnOk result (self.new ≡ self.old ++ item ∷ []) }
         ensures err { OnErr result (self.new ≡ self.old) }
@@ -59,14 +59,14 @@ impl<T> Items<T> {
         }
     }
 
-    /// The list.
+    /// Returns the list.
     pub fn items(&self) -> &[T]
         ensures value { result.now ≡ self.now }
     {
         self.items.as_slice()
     }
 
-    /// The vector of the list. Takes no memory.
+    /// Returns the vector of the list. Takes no memory.
     pub fn into_vec(self) -> Vec<T>
         ensures value { result.items ≡ self }
     {

@@ -6,7 +6,7 @@ pub const KEY_LIMIT: u8 = 250;
 /// The most bytes of a value.
 pub const VALUE_LIMIT: u32 = 1_048_576;
 
-/// The most bytes of a line that is looked at.
+/// The most bytes of a line: a longer one is not read.
 pub const LINE_LIMIT: usize = 65_536;
 
 /// The most connections.

@@ -10,7 +10,7 @@ use crate::sure_sink::SureSink;
 use std::alloc::Global;
 use std::marker::Model;
 
-/// A sink in memory, which takes a bounded number of bytes a call and fails at the calls that are named.
+/// A sink in memory, which takes a bounded number of bytes a call and fails at given calls.
 #[derive(Drop)]
 pub struct MemSink {
     kept: SureSink,
@@ -73,14 +73,14 @@ impl MemSink {
         })
     }
 
-    /// The bytes taken, unless one of them was not kept.
+    /// Returns the bytes taken, unless one of them was not kept.
     pub fn bytes(&self) -> Option<&[u8]>
         ensures value { option_map (λ bytes. bytes.now) result ≡ self.now.holds }
     {
         self.kept.bytes()
     }
 
-    // Whether the call that is made now fails; it is counted.
+    // Checks whether the call that is made now fails; it is counted.
     fn fails(&mut self) -> bool
         ensures value { result ≡ is_failing self.old.failing self.old.calls }
         ensures counted { self.new ≡ record self.old { calls = one_more self.old.calls } }

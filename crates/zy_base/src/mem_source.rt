@@ -9,7 +9,7 @@ use crate::call_numbers::CallNumbers;
 use crate::outside::{Failed, Source};
 use std::marker::Model;
 
-/// A source in memory, which gives a bounded number of bytes a call and fails at the calls that are named.
+/// A source in memory, which gives a bounded number of bytes a call and fails at given calls.
 #[derive(Drop)]
 pub struct MemSource {
     bytes: Blob,
@@ -54,7 +54,7 @@ impl MemSource {
         }
     }
 
-    // Whether the call that is made now fails; it is counted.
+    // Checks whether the call that is made now fails; it is counted.
     fn fails(&mut self) -> bool
         ensures value { result ≡ is_failing self.old.failing self.old.calls }
         ensures counted { self.new ≡ record self.old { calls = one_more self.old.calls } }

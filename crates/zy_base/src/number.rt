@@ -6,7 +6,7 @@ use crate::blob::Blob;
 use crate::outside::NoMemory;
 use itoa::Buffer;
 
-/// The number that 1 to 20 digits spell, where it is below 2^64; leading zeros are allowed.
+/// Reads a number of 1 to 20 digits, if it is below 2^64; leading zeros are allowed.
 pub fn read_number(text: &[u8]) -> Option<u64>
     ensures value { result ≡ number_of text.now }
 {
@@ -26,7 +26,7 @@ pub fn read_number(text: &[u8]) -> Option<u64>
     Some(number)
 }
 
-// The number whose digits are those of a number and then this one, where it is below 2^64.
+// Returns the number with this digit after its own, if it is below 2^64.
 fn with_digit(number: u64, digit: u8) -> Option<u64>
     requires { digit < 10 }
     ensures fits { IfSome result (λ longer. longer ≡ number * 10 + digit) }
@@ -47,7 +47,7 @@ pub fn number_text(out: &mut Blob, number: u64) -> Result<(), NoMemory>
     out.append(buffer.format(number).as_bytes())
 }
 
-/// How many decimal digits a number has.
+/// Returns how many decimal digits a number has.
 pub fn digits_of(number: u64) -> usize
     ensures value { result ≡ length (decimal number) }
     ensures limit { result ≤ 20 }

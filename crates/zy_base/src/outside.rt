@@ -5,7 +5,7 @@ ghost use Rattle.zy_base.specs.Outside.{Rose, Grew, WriteGrew, TakesSome, one_mo
 
 use std::alloc::{AllocError, AllocFailed};
 
-/// An allocation was refused.
+/// An allocation failed.
 #[derive(Clone, Copy, PartialEq, Eq)]
 pub struct NoMemory;
 
@@ -40,7 +40,7 @@ pub trait Source {
     /// Reads the next bytes into the buffer, and returns their number; the rest of the buffer may
     /// have any bytes. A read of 0 bytes into a buffer that is not empty is the end of the input.
     ///
-    /// Answers `Failed` only if the count of faults rose, or is at its largest value.
+    /// Answers `Failed` only if the count of faults rose, or was already at its largest value.
     fn read(&mut self, into: &mut [u8]) -> Result<usize, Failed>
         ensures bound { IfOk result (λ n. n ≤ length into.new) }
         ensures bytes { ReadConsumes (rest self.old) (rest self.new) result into.new }
@@ -75,8 +75,8 @@ pub trait Sink {
         ensures unfinished { finishes self.new ≡ finishes self.old }
         ensures open { is_finished self.new ≡ false };
 
-    /// Makes sure that all that was taken has reached its destination. It takes no byte, even if it
-    /// fails. The call is counted, also if it fails.
+    /// Makes sure that all that was taken has reached its destination. It takes no bytes. The call
+    /// is counted even if it fails.
     fn finish(&mut self) -> Result<(), Failed>
         ensures bytes { Grew (holds self.old) (holds self.new) [] }
         ensures count { faults self.old ≤ faults self.new }

@@ -25,7 +25,7 @@ impl Model for Piece {
 }
 
 impl Piece {
-    /// A copy of bytes.
+    /// Copies bytes.
     pub fn copy_of(alloc: Global, bytes: &[u8]) -> Result<Piece, NoMemory>
         ensures value { IfOk result (λ piece. piece ≡ bytes.now) }
     {
@@ -41,9 +41,9 @@ impl Piece {
         }
     }
 
-    /// The bytes from `from` up to `end`. Takes no memory: up to 16 bytes are copied into place and
-    /// never refused, and more are shared, which is refused only to a piece that 2^63 byte strings
-    /// share.
+    /// Returns the bytes from `from` up to `end`. Takes no memory: up to 16 bytes are copied into
+    /// place, which cannot fail. More are shared, which fails only if 2^63 byte strings share the
+    /// piece already.
     #[inline(always)]
     pub fn part(&self, from: usize, end: usize) -> Result<Blob, NoMemory>
         requires order { from ≤ end }

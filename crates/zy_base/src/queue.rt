@@ -6,7 +6,7 @@ use std::alloc::Global;
 use std::collections::VecDeque;
 use std::marker::Model;
 
-/// A queue. Contracts see it as the list of its items, the first one to come first.
+/// A queue. Contracts see it as the list of its items, first come, first.
 #[derive(Drop)]
 pub struct Queue<T> {
     items: VecDeque<T>,
@@ -21,7 +21,7 @@ impl<T> Model for Queue<T> {
 }
 
 impl<T> Queue<T> {
-    /// The empty queue. Takes no memory.
+    /// Makes the empty queue. Takes no memory.
     pub fn new(alloc: Global) -> Queue<T>
         ensures value { result ≡ [] }
     {
@@ -30,14 +30,14 @@ impl<T> Queue<T> {
         }
     }
 
-    /// The number of items.
+    /// Returns the number of items.
     pub fn len(&self) -> usize
         ensures value { result ≡ length self.now }
     {
         self.items.len()
     }
 
-    /// Appends; after a refusal the item is handed back.
+    /// Appends the item; if allocation fails it is handed back.
     pub fn push(&mut self, item: T) -> Result<(), (T, NoMemory)>
         ensures ok { OnOk result (self.new ≡ self.old ++ item ∷ []) }
         ensures err { OnErr result (self.new ≡ self.old) }
@@ -49,7 +49,7 @@ impl<T> Queue<T> {
         }
     }
 
-    /// Takes the first item; `None` exactly where there is none. Takes no memory.
+    /// Takes the first item; `None` if and only if there is none. Takes no memory.
     pub fn next(&mut self) -> Option<T>
         ensures value { self.old ≡ option_to_list result ++ self.new }
         ensures none { IfNone result (self.old ≡ []) }

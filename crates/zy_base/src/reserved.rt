@@ -5,7 +5,7 @@ use crate::blob::Blob;
 use itoa::Buffer;
 use std::marker::Model;
 
-/// A byte string with room for further bytes, which are then appended without a refusal. Contracts
+/// A byte string with room for further bytes, which are then appended without a failure. Contracts
 /// see it as its bytes, and the number of further bytes for which there is room.
 #[derive(Drop)]
 pub struct Reserved {
@@ -54,7 +54,7 @@ impl Reserved {
         self.append(buffer.format(number).as_bytes());
     }
 
-    /// The bytes. Takes no memory.
+    /// Returns the bytes. Takes no memory.
     pub fn into_blob(self) -> Blob
         ensures value { result ≡ self.bytes }
     {

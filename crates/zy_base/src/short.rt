@@ -3,13 +3,13 @@ ghost use Rattle.std.specs.Prelude.{◌≡◌, ◌+◌, ◌<◌, ◌≤◌, [], 
 
 use std::marker::Model;
 
-// The most bytes that are kept in place: with their number they fill three words.
+// The most bytes that are kept in place: with their number they fill three machine words.
 pub(crate) const ROOM: usize = 16;
 
 // A byte string of at most 16 bytes. Contracts see it as the list of its bytes.
 #[derive(Drop)]
 pub(crate) struct Short {
-    // A word, so that all forms of a byte string begin at a word and are moved by words.
+    // A machine word, so that all forms of a byte string begin at one and are moved word by word.
     len: usize,
     bytes: [u8; 16],
 }
@@ -34,7 +34,7 @@ impl Short {
         }
     }
 
-    // The same bytes.
+    // Copies the bytes.
     pub(crate) fn copy(&self) -> Short
         ensures value { result ≡ self.now }
     {

@@ -24,7 +24,7 @@ pub(crate) enum Storage {
 }
 
 impl Storage {
-    // The bytes.
+    // Returns the bytes.
     pub(crate) fn bytes(&self) -> &[u8]
         requires within { IsWithin self.now }
         ensures value { result.now ≡ bytes_of self.now }
@@ -49,7 +49,8 @@ impl Storage {
         }
     }
 
-    // The bytes from `from` up to `end`: in place where they fit, else shared if these are, and else copied.
+    // Returns the bytes from `from` up to `end`: in place if they fit, otherwise shared if these
+    // are shared, and otherwise copied.
     pub(crate) fn part(&self, alloc: Global, from: usize, end: usize) -> Result<Storage, NoMemory>
         requires kept { IsWithin self.now }
         requires order { from ≤ end }
@@ -86,7 +87,7 @@ impl Storage {
     }
 }
 
-// A copy of bytes, in place where they fit.
+// Copies bytes, in place if they fit.
 pub(crate) fn copied(alloc: Global, bytes: &[u8]) -> Result<Storage, NoMemory>
     ensures value { IfOk result (λ copy. bytes_of copy ≡ bytes.now) }
     ensures within { IfOk result (λ copy. IsWithin copy) }
@@ -101,7 +102,7 @@ pub(crate) fn copied(alloc: Global, bytes: &[u8]) -> Result<Storage, NoMemory>
     }
 }
 
-// Two byte strings joined, in a new vector.
+// Joins two byte strings, in a new vector.
 pub(crate) fn joined(alloc: Global, front: &[u8], back: &[u8]) -> Result<Storage, NoMemory>
     ensures value { IfOk result (λ copy. bytes_of copy ≡ front.now ++ back.now) }
     ensures within { IfOk result (λ copy. IsWithin copy) }
@@ -115,7 +116,7 @@ pub(crate) fn joined(alloc: Global, front: &[u8], back: &[u8]) -> Result<Storage
     Ok(Storage::Own(bytes))
 }
 
-// A copy of bytes in a vector, with room for `more` further bytes.
+// Copies bytes in a vector, with room for `more` further bytes.
 pub(crate) fn with_room(alloc: Global, bytes: &[u8], more: usize) -> Result<Vec<u8>, NoMemory>
     ensures value { IfOk result (λ copy. copy.items ≡ bytes.now) }
     ensures room { IfOk result (λ copy. vec_len copy + more ≤ vec_capacity copy) }
@@ -129,7 +130,7 @@ pub(crate) fn with_room(alloc: Global, bytes: &[u8], more: usize) -> Result<Vec<
     }
 }
 
-// The bytes of a vector, so that it may have several owners. After a refusal it has one owner still.
+// Lets the bytes of a vector have several owners. If allocation fails it still has one.
 pub(crate) fn shared(alloc: Global, bytes: Vec<u8>) -> Result<Storage, Storage>
     ensures ok { IfOk result (λ kept. IsWithin kept × (bytes_of kept ≡ bytes.items)) }
     ensures err { IfErr result (λ kept. IsWithin kept × (bytes_of kept ≡ bytes.items)) }
@@ -148,7 +149,7 @@ pub(crate) fn shared(alloc: Global, bytes: Vec<u8>) -> Result<Storage, Storage>
     }
 }
 
-// The bytes of a vector from `from` up to `end`: in place where they fit, and else shared.
+// Returns the bytes of a vector from `from` up to `end`: in place where they fit, and else shared.
 pub(crate) fn part(block: &Arc<Vec<u8>>, from: usize, end: usize) -> Result<Storage, NoMemory>
     requires order { from ≤ end }
     requires within { end ≤ length block.now.value.items }
@@ -163,7 +164,7 @@ pub(crate) fn part(block: &Arc<Vec<u8>>, from: usize, end: usize) -> Result<Stor
     shared_part(block, from, len)
 }
 
-// The `len` bytes of a vector from `from` on, shared.
+// Returns the `len` bytes of a vector from `from` on, shared.
 fn shared_part(block: &Arc<Vec<u8>>, from: usize, len: usize) -> Result<Storage, NoMemory>
     requires within { from + len ≤ length block.now.value.items }
     ensures value { IfOk result (λ part. bytes_of part ≡ take len (drop from block.now.value.items)) }
@@ -175,7 +176,7 @@ fn shared_part(block: &Arc<Vec<u8>>, from: usize, len: usize) -> Result<Storage,
     }
 }
 
-// Bytes that are few, in place.
+// Keeps a few bytes in place.
 fn in_place(bytes: &[u8]) -> Storage
     requires few { length bytes.now ≤ 16 }
     ensures value { bytes_of result ≡ bytes.now }

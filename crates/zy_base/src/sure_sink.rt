@@ -7,8 +7,8 @@ use crate::outside::{Failed, NoMemory, Sink};
 use std::alloc::Global;
 use std::marker::Model;
 
-/// A sink in memory, which never fails. A piece that does not fit into the room that is left is
-/// taken and not kept, and from then on the bytes of the sink are not known.
+/// A sink in memory, which never fails. A piece that does not fit into the room left is taken but
+/// not kept; from then on the sink's bytes are not known.
 #[derive(Drop)]
 pub struct SureSink {
     bytes: Vec<u8>,
@@ -59,7 +59,7 @@ impl SureSink {
         }
     }
 
-    /// The bytes taken, unless one of them was not kept.
+    /// Returns the bytes taken, unless one of them was not kept.
     pub fn bytes(&self) -> Option<&[u8]>
         ensures value { option_map (λ bytes. bytes.now) result ≡ self.now.holds }
     {
@@ -70,7 +70,7 @@ impl SureSink {
         }
     }
 
-    // Takes the piece, and keeps it where it fits.
+    // Takes the piece, and keeps it if it fits.
     pub(crate) fn take(&mut self, piece: &[u8])
         ensures value { self.new ≡ record self.old {
           holds = held_after self.old.holds self.old.room piece.now;
