@@ -1,4 +1,4 @@
--- Lists as clauses read them, by `slice_get`, where one member is changed.
+-- Lists as clauses read them, by `slice_get`, of which one member is changed.
 use Rattle.std.proofs.Common.{◌≡◌, ◌≢◌, ℕ, zero, suc, ◌<◌, List, [], ◌∷◌, length, set, get_or, Some, slice_get, refl, sym, ap, arith}
 
 -- the member at an index below the length

@@ -27,6 +27,6 @@ id_of n = record {
   slot_names = n.slot_names;
 }
 
--- the name for what has no table yet
+-- the name for a view or label that has no table yet
 abbrev pub no_name : Name
 no_name = record { words = 0; slots = 0; views_name = 0; atom = 0; block = 0; offset = 0; slot_names = [] }
