@@ -1,4 +1,4 @@
--- Calls and replies by their codes and fields, for all kinds: whoever knows a code and its fields knows the call.
+-- Calls and replies by their codes and fields, for all kinds: a code and its fields determine the call.
 use Rattle.std.specs.Prelude.{◌==◌, if◌then◌else◌, Option, None, Some, IfSome}
 use Rattle.std.proofs.Common.{◌≡◌, ℕ, ◌≤◌, Bool, true, false, List, refl, subst, arith}
 use Rattle.std.proofs.lemmas.Bool.Decides.{nat_tests}

@@ -1,4 +1,4 @@
--- What is seen at one key of a shard depends on the calls with this key alone.
+-- What is seen at one key of a shard depends only on the calls with this key.
 use Rattle.std.proofs.Common.{◌≡◌, ℕ, ◌+◌, Bool, true, false, cond, List, refl, sym, ap, ◌∙◌, subst, Option, None, Some}
 use Rattle.std.specs.Prelude.{[], unwrap_or}
 use Rattle.std.specs.Ordering.{nat_cmp, eq_by_cmp, is_eq}

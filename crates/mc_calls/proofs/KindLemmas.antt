@@ -1,5 +1,5 @@
--- What each act answers and does: so each call gets a reply of a kind that the table of calls gives for it, and its
--- outcome has each property that the outcomes of all acts have.
+-- What each act answers and does, so that each call gets a reply of a kind that the table of calls gives for it,
+-- and its outcome has each property that the outcomes of all acts have.
 use Rattle.std.specs.Prelude.{Option, None, Some, nat_lt, ◌==◌, ◌&&◌, if◌then◌else◌}
 use Rattle.std.proofs.Common.{◌≡◌, ℕ, ◌+◌, ◌-◌, ◌%◌, ◌^◌, ◌<◌, Bool, true, false, cond, List, ◌++◌, length, refl, arith}
 use Rattle.std.specs.Str.Parse.{digits_value}

@@ -1,4 +1,4 @@
--- A list of entries is legal exactly where each shard's part is a replay on that shard.
+-- A list of entries is legal if and only if each shard's part is a replay on that shard.
 use Rattle.std.proofs.Common.{◌≡◌, ◌≢◌, ℕ, List, [], ◌∷◌, cond, refl, sym, ap, ◌∙◌, subst, eq-eqb, ne_eqb}
 use mathlib.Core.Logic.{dite}
 use native.Mathlib.Decide.{ℕ_discrete}

@@ -1,4 +1,4 @@
--- The values in the replies of a legal list are within their bound, where those in its calls are.
+-- The values in the replies of a legal list are within their bound if those in its calls are.
 use Rattle.std.specs.Prelude.{◌==◌, if◌then◌else◌, decimal, Option, None, Some}
 use Rattle.std.specs.List.{AllByRecursion}
 use Rattle.std.specs.Ordering.{nat_cmp, eq_by_cmp}

@@ -1,4 +1,5 @@
--- What all rows of the table of calls have in common: so lemmas go by what a call does, and not by its kind.
+-- What all rows of the table of calls have in common, so that lemmas depend on what a call does and not on
+-- its kind.
 use Rattle.std.specs.Prelude.{◌==◌, ◌&&◌, ◌||◌, Option, None, Some, IfSome, is_some, unwrap_or}
 use Rattle.std.proofs.Common.{ℕ, Bool, true, false, List, [], refl, sym, subst, arith, eq-eqb}
 use Rattle.mc_calls.specs.declared.call.Call.{Call}

@@ -22,7 +22,7 @@ IsKey key = (0 < length key) × (length key ≤ key_limit)
 abbrev pub IsValue : List ℕ → Type 0
 IsValue value = length value ≤ value_limit
 
--- a key and a value, where they are there, are within their bounds
+-- a key and a value, if they are there, are within their bounds
 abbrev pub ArePartsWithin : Option (List ℕ) → Option (List ℕ) → Type 0
 ArePartsWithin None None = Unit {0}
 ArePartsWithin None (Some value) = IsValue value
@@ -58,7 +58,8 @@ FitCounts counts =
     (counts.gets < 2 ^ 64) × (counts.sets < 2 ^ 64) × (counts.hits < 2 ^ 64) × (counts.misses < 2 ^ 64)
     × (counts.items < 2 ^ 64)
 
--- so do those of a reply, and its five numbers, where it is a tally, have eight bytes each
+-- the flags of a reply have four bytes, its unique or its number has eight, and so has each number
+-- of a tally
 abbrev pub FitsReply : CallReply → Type 0
 FitsReply reply = FitFields (reply_flags reply) (reply_number reply) × IfSome (reply_counts reply) FitCounts
 
@@ -70,7 +71,7 @@ pub record FitsEntry (e : Entry) : Type 0 where
 
 -- ---- what a shard has
 
--- the value of an item, where one is found, is within its bound
+-- the value of an item, if one is found, is within its bound
 abbrev pub IsFound : Option Item → Type 0
 IsFound None = Unit {0}
 IsFound (Some item) = IsValue item.value

@@ -1,5 +1,5 @@
--- The codes of calls and replies in a journal, and the fields that follow them: docs/FORMATS.md, "Journal". What a call
--- has is told by the table of calls (`Table`).
+-- The codes of calls and replies in a journal, and the fields that follow them: docs/FORMATS.md, "Journal". The table
+-- of calls (`Table`) says which fields a call has.
 use Rattle.std.specs.Prelude.{ℕ, ◌==◌, if◌then◌else◌, List, Option, None, Some}
 use Rattle.mc_calls.specs.declared.call.Call.{Call}
 use Rattle.mc_calls.specs.declared.call_kind.CallKind.{CallKind}
@@ -32,7 +32,7 @@ call_kind call = (parts_of call).kind
 abbrev pub call_code : Call → ℕ
 call_code call = code_of (call_kind call)
 
--- the flags of a call, where it has some
+-- the flags of a call, if it has some
 abbrev pub call_flags : Call → Option ℕ
 call_flags call = (parts_of call).flags
 
@@ -40,7 +40,7 @@ call_flags call = (parts_of call).flags
 abbrev pub call_number : Call → Option ℕ
 call_number call = (parts_of call).number
 
--- the value of a call, where it has one
+-- the value of a call, if it has one
 abbrev pub call_value : Call → Option (List ℕ)
 call_value call = (parts_of call).value
 

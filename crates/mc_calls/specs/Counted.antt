@@ -35,7 +35,7 @@ is_as_set other = false
 abbrev pub is_get : Call → Bool
 is_get call = is_as_get (counted_as call)
 
--- the call stores a value, where its shard lets it
+-- the call asks its shard to store a value, whatever the reply
 abbrev pub is_set : Call → Bool
 is_set call = is_as_set (counted_as call)
 
@@ -67,20 +67,20 @@ KeySet = FinMap (slice_cmp nat_cmp) ⊤
 abbrev pub no_keys : KeySet
 no_keys = empty
 
--- the keys after this reply to a call on a key, or to a call without one: what was stored or counted
--- has its key among them, and what was deleted has not
+-- the keys after this reply to a call on a key, or to a call without one: a key that was stored or
+-- counted is among them, and a deleted one is not
 abbrev pub keys_by : Option (List ℕ) → CallReply → KeySet → KeySet
 keys_by (Some key) Stored keys = insert keys key tt
 keys_by (Some key) (Number number) keys = insert keys key tt
 keys_by (Some key) Deleted keys = remove keys key
 keys_by key reply keys = keys
 
--- the keys after what a call did, by its key and its reply: to remove all items leaves none
+-- the keys after what a call did, by its key and its reply; none are left if it removed all items
 abbrev pub keys_past : Acts → Option (List ℕ) → CallReply → KeySet → KeySet
 keys_past (always clears) key reply keys = no_keys
 keys_past acts key reply keys = keys_by key reply keys
 
--- the keys after an entry: a flush leaves none
+-- the keys after an entry
 abbrev pub keys_with : KeySet → Call → CallReply → KeySet
 keys_with keys call reply = keys_past (call_row call).acts (key_of call) reply keys
 
@@ -90,8 +90,8 @@ keys_after keys es = fold (λ keys (e : Entry). keys_with keys e.call e.reply) k
 
 -- ---- all entries of one shard
 
--- how many gets and calls that store there were, how many gets found an item and missed it, and how
--- many keys have an item
+-- the number of gets, of calls that store, of gets that found an item and that found none, and of
+-- keys that have an item
 abbrev pub counted : List Entry → Tallied
 counted es = record {
   gets = count_by (λ (e : Entry). is_get e.call) es;
@@ -114,7 +114,7 @@ pub record CallCounts : Type 0 where
 abbrev pub no_calls : CallCounts
 no_calls = record { gets = 0; sets = 0; hits = 0; misses = 0 }
 
--- one more where the test holds
+-- one more if the test holds
 abbrev pub one_more_if : Bool → ℕ → ℕ
 one_more_if test count = if test then count + 1 else count
 

@@ -1,4 +1,5 @@
--- Histories of calls: what each shard's replies replay, and what all shards' together.
+-- Histories of calls, of one shard and of all: each reply is the one that a replay of the calls
+-- gives.
 use Rattle.std.specs.Prelude.{◌≡◌, ℕ, ◌<◌, ◌==◌, if◌then◌else◌, List, [], ◌∷◌, length}
 use Rattle.mc_calls.specs.declared.entry.Entry.{Entry}
 use Rattle.mc_calls.specs.Shard.{State, empty_state, reply_to, state_after}
@@ -9,7 +10,7 @@ use Rattle.zy_base.specs.Limits.{stamp_limit}
 
 -- ---- one shard
 
--- each entry's reply is that of its call, where the entries before it left the shard
+-- each entry's reply is that to its call, on the shard as the entries before it left it
 abbrev pub IsReplay : ℕ → ℕ → State → List Entry → Type 0
 IsReplay shards number state [] = Unit {0}
 IsReplay shards number state (e ∷ es) =

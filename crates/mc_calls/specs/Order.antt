@@ -21,15 +21,15 @@ abbrev pub AreBelow : ℕ → List Entry → Type 0
 AreBelow shards [] = Unit {0}
 AreBelow shards (e ∷ es) = (e.shard < shards) × AreBelow shards es
 
--- the entries of the list at this place; none if there is no such list
+-- the entries of the list with this index; none if there is no such list
 abbrev pub history_of : List (List Entry) → ℕ → List Entry
 history_of histories shard = unwrap_or (slice_get histories shard) []
 
--- the entries of each list are at the shard whose number is the list's place
+-- the entries of each list are at the shard whose number is the list's index
 abbrev pub AreByShard : List (List Entry) → Type 0
 AreByShard histories = (shard : ℕ) → AreAt shard (history_of histories shard)
 
--- the stamp of the last entry, or the one before all where there is none
+-- the stamp of the last entry, or the one before all if there is no entry
 abbrev pub last_stamp : ℕ → List Entry → ℕ
 last_stamp before [] = before
 last_stamp before (e ∷ es) = last_stamp e.stamp es
@@ -53,8 +53,8 @@ abbrev pub IsBehind : Option Entry → Entry → Type 0
 IsBehind None e = Unit {0}
 IsBehind (Some before) e = IsBefore before e
 
--- the entries are in the order of stamps and, where stamps are equal, of shards, and come after the
--- one before
+-- the entries come after the one before, and are ordered by stamp and, if stamps are equal, by
+-- shard
 abbrev pub IsOrdered : Option Entry → List Entry → Type 0
 IsOrdered before [] = Unit {0}
 IsOrdered before (e ∷ es) = IsBehind before e × IsOrdered (Some e) es

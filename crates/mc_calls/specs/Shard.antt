@@ -27,7 +27,7 @@ pub use Rattle.zy_base.specs.Limits.{value_limit}
 abbrev pub Items : Type 0
 Items = FinMap (slice_cmp nat_cmp) Item
 
--- a shard: its items, how many items it ever stored, and how many calls of each kind there were
+-- a shard: its items, how many items it ever stored, and how many calls of each kind it answered
 pub record State : Type 0 where
   pub items : Items
   pub count : ℕ
@@ -77,11 +77,11 @@ answers reply = record { reply = reply; effect = keeps }
 abbrev pub stored : List ℕ → ℕ → List ℕ → Outcome
 stored key flags value = record { reply = Stored; effect = stores key flags value }
 
--- the value that two values make is stored, with the flags of the item that was there
+-- the joined value is stored with the flags of the item, unless it is too large
 abbrev pub joined : List ℕ → Item → List ℕ → Outcome
 joined key item value = if nat_lt value_limit (length value) then answers TooLarge else stored key item.flags value
 
--- the number is stored as digits without padding, with the flags of the item that was there
+-- the number is stored as digits without padding, with the flags of the item
 abbrev pub renumbered : List ℕ → Item → ℕ → Outcome
 renumbered key item number = record { reply = Number number; effect = stores key item.flags (decimal number) }
 
@@ -95,11 +95,11 @@ abbrev pub counted_down : List ℕ → Item → ℕ → Option ℕ → Outcome
 counted_down key item amount None = answers NotNumber
 counted_down key item amount (Some number) = renumbered key item (number - amount)
 
--- an item is exchanged where it has the unique that the caller saw
+-- an item is exchanged if it has the unique that the caller saw
 abbrev pub exchanged : List ℕ → Item → ℕ → ℕ → List ℕ → Outcome
 exchanged key item flags unique value = if item.unique == unique then stored key flags value else answers Exists
 
--- what an act answers and does, for a call with these parts, on a shard that counts this, where its key has no item or
+-- what an act answers and does for a call with these parts, on a shard with these counts, if its key has no item or
 -- has this one
 abbrev pub done : Tallied → CallParts → Act → Option Item → Outcome
 done counts call (says reply) found = answers reply
@@ -122,7 +122,7 @@ done counts call takes (Some item) = record { reply = Deleted; effect = removes 
 done counts call clears found = record { reply = Flushed; effect = empties }
 done counts call tallies found = answers (tally counts)
 
--- where the key has no item, this may be answered
+-- an act may answer this if the key has no item
 abbrev pub says_without : Act → CallReply → Bool
 says_without (says own) reply = reply_code own == reply_code reply
 says_without shows Miss = true
@@ -137,7 +137,7 @@ says_without clears Flushed = true
 says_without tallies (Tally gets sets hits misses items) = true
 says_without act reply = false
 
--- where it has one, this may be answered
+-- an act may answer this if the key has an item
 abbrev pub says_with : Act → CallReply → Bool
 says_with (says own) reply = reply_code own == reply_code reply
 says_with shows (Hit flags unique value) = true
@@ -157,7 +157,7 @@ says_with clears Flushed = true
 says_with tallies (Tally gets sets hits misses items) = true
 says_with act reply = false
 
--- what is done of these acts
+-- what these acts answer and do, in their case
 abbrev pub done_of : Tallied → CallParts → Acts → Option Item → Outcome
 done_of counts call (always act) found = done counts call act found
 done_of counts call (by_item without with) None = done counts call without None
@@ -168,7 +168,8 @@ abbrev pub may_say : Acts → CallReply → Bool
 may_say (always act) reply = says_without act reply || says_with act reply
 may_say (by_item without with) reply = says_without without reply || says_with with reply
 
--- each call, on a shard that counts this, where its key has no item and where it has one
+-- what each call answers and does on a shard with these counts, if its key has no item or has this
+-- one
 abbrev pub outcome_of : Tallied → Call → Option Item → Outcome
 outcome_of counts call found = done_of counts (parts_of call) (call_row call).acts found
 
@@ -183,7 +184,7 @@ item_at items (Some key) = get items key
 abbrev pub outcome_on : State → Call → Outcome
 outcome_on state call = outcome_of (tallied state) call (item_at state.items (key_of call))
 
--- the shard after an effect: only what is stored raises the counter
+-- the shard after an effect; only a stored item raises the counter
 abbrev pub state_with : ℕ → ℕ → State → Effect → State
 state_with shards number state keeps = state
 state_with shards number state (stores key flags value) =

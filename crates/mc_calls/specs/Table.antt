@@ -22,9 +22,9 @@ pub data Act : Type 0 where
   shows : Act
   -- stores the value with the flags
   puts : Act
-  -- stores the item's value with that of the call after it
+  -- stores the item's value followed by the call's
   appends : Act
-  -- stores the item's value with that of the call before it
+  -- stores the call's value followed by the item's
   prepends : Act
   -- stores the value with the flags, if the item has this unique
   exchanges : Act
@@ -39,16 +39,16 @@ pub data Act : Type 0 where
   -- answers what the shard counts
   tallies : Act
 
--- what a call does where its key has no item, and where it has one
+-- what a call does if its key has no item, and if it has one
 pub data Acts : Type 0 where
-  -- the same, in its two cases
+  -- the same act in both cases
   always : Act → Acts
-  -- the first where there is none, the second where there is one
+  -- the first if there is none, the second if there is one
   by_item : Act → Act → Acts
 
 -- ---- the table
 
--- a key, flags, a number and a value, or some of these
+-- which of a key, flags, a number and a value a kind has
 abbrev pub having : Bool → Bool → Bool → Bool → CallFields
 having key flags number value = record { key = key; flags = flags; number = number; value = value }
 
@@ -116,7 +116,7 @@ parts_of (Calls.Delete key) = parts Delete (Some key) None None None
 parts_of Calls.Flush = parts Flush None None None None
 parts_of Calls.Tally = parts Tally None None None None
 
--- the key, and what is in place of one; so for the other parts
+-- the key, or the empty one if there is none; the other parts likewise
 abbrev pub key_part : CallParts → List ℕ
 key_part call = unwrap_or call.key []
 

@@ -39,19 +39,19 @@ seen_at key state = seen (get state.items key)
 
 -- ---- calls and effects
 
--- what is done depends on the key's item alone, and is at this key alone
+-- the act depends only on the key's item, and changes nothing at other keys
 abbrev pub is_steady_act : Act → Bool
 is_steady_act exchanges = false
 is_steady_act clears = false
 is_steady_act tallies = false
 is_steady_act act = true
 
--- so it is of these acts
+-- this holds of these acts, in both cases
 abbrev pub are_steady : Acts → Bool
 are_steady (always act) = is_steady_act act
 are_steady (by_item without with) = is_steady_act without && is_steady_act with
 
--- the reply to the call depends on its key's item alone, and not on a unique, except for the unique that it
+-- the reply to the call depends only on its key's item without its unique, except for the unique that it
 -- shows, and its effect is at one key
 abbrev pub IsSteady : Call → Type 0
 IsSteady call = IsTrue (are_steady (call_row call).acts)
@@ -64,7 +64,7 @@ seen_after (stores at flags value) key found =
 seen_after (removes at) key found = if eq_by_cmp (slice_cmp nat_cmp) key at then None else found
 seen_after empties key found = None
 
--- an effect is at this key alone
+-- an effect is at this key only
 abbrev pub IsAtOnly : List ℕ → Effect → Type 0
 IsAtOnly key keeps = Unit {0}
 IsAtOnly key (stores at flags value) = at ≡ key

@@ -10,7 +10,7 @@ use zy_base::{Blob, NoMemory};
 /// A call on one shard of the store. A key has 1 to 250 bytes, and a value at most 1,048,576.
 #[derive(PartialEq, Eq, Drop)]
 pub enum Call {
-    /// The item of the key.
+    /// Asks for the item of the key.
     Get {
         key: Blob,
     },
@@ -20,29 +20,29 @@ pub enum Call {
         flags: u32,
         value: Blob,
     },
-    /// Stores an item where the key has none.
+    /// Stores an item if the key has none.
     Add {
         key: Blob,
         flags: u32,
         value: Blob,
     },
-    /// Stores an item where the key has one.
+    /// Stores an item if the key has one.
     Replace {
         key: Blob,
         flags: u32,
         value: Blob,
     },
-    /// Appends the value to the one there.
+    /// Appends the value to the item's.
     Append {
         key: Blob,
         value: Blob,
     },
-    /// Puts the value before the one there.
+    /// Puts the value before the item's.
     Prepend {
         key: Blob,
         value: Blob,
     },
-    /// Stores an item where the one there has this unique.
+    /// Stores an item if the one at the key has this unique.
     Cas {
         // The flags come first, so that they share a word with the kind of the call.
         flags: u32,
@@ -66,12 +66,12 @@ pub enum Call {
     },
     /// Removes all items of the shard.
     Flush,
-    /// Asks how many calls of each kind there were on the shard, and how many items it has.
+    /// Asks how many calls of each kind the shard has answered, and how many items it has.
     Tally,
 }
 
 impl Call {
-    /// The key that the call is about. A flush and a tally have none.
+    /// Returns the key that the call is about. A flush and a tally have none.
     pub fn key(&self) -> Option<&Blob>
         ensures value { option_copied result ≡ key_of self.now }
     {
@@ -85,7 +85,7 @@ impl Call {
         }
     }
 
-    /// The kind of the call.
+    /// Returns the kind of the call.
     pub fn kind(&self) -> CallKind
         ensures value { result ≡ call_kind self.now }
     {
@@ -105,14 +105,14 @@ impl Call {
         }
     }
 
-    /// The code of the call in a journal.
+    /// Returns the code of the call in a journal.
     pub fn code(&self) -> u8
         ensures value { result ≡ call_code self.now }
     {
         self.kind().code()
     }
 
-    /// The flags of the call, where it has some.
+    /// Returns the flags of the call, if it has some.
     pub fn flags(&self) -> Option<u32>
         ensures value { result ≡ call_flags self.now }
     {
@@ -125,7 +125,7 @@ impl Call {
         }
     }
 
-    /// The unique of a cas, and the amount of an incr or a decr.
+    /// Returns the unique of a cas, and the amount of an incr or a decr.
     pub fn number(&self) -> Option<u64>
         ensures value { result ≡ call_number self.now }
     {
@@ -137,7 +137,7 @@ impl Call {
         }
     }
 
-    /// The value of the call, where it has one.
+    /// Returns the value of the call, if it has one.
     pub fn value(&self) -> Option<&Blob>
         ensures value { option_copied result ≡ call_value self.now }
     {
@@ -152,7 +152,7 @@ impl Call {
         }
     }
 
-    /// The same call.
+    /// Copies the call.
     pub fn copy(&self) -> Result<Call, NoMemory>
         ensures value { IfOk result (λ copy. copy ≡ self.now) }
     {
@@ -229,7 +229,7 @@ fn share_both(key: &mut Blob, value: &mut Blob) -> Result<(), NoMemory>
     value.share()
 }
 
-// A copy of a key and of a value.
+// Copies a key and a value.
 fn copy_both(key: &Blob, value: &Blob) -> Result<(Blob, Blob), NoMemory>
     ensures key { IfOk result (λ both. both.0 ≡ key.now) }
     ensures value { IfOk result (λ both. both.1 ≡ value.now) }
@@ -244,7 +244,7 @@ fn copy_both(key: &Blob, value: &Blob) -> Result<(Blob, Blob), NoMemory>
     }
 }
 
-// A `cas` of copies of a key and of a value.
+// Makes a `cas` of copies of a key and a value.
 fn copy_cas(flags: u32, key: &Blob, unique: u64, value: &Blob) -> Result<Call, NoMemory>
     ensures value { IfOk result (λ copy. copy ≡ Cas flags key.now unique value.now) }
 {

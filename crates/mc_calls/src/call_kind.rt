@@ -53,7 +53,7 @@ struct KindRow {
 }
 
 impl CallKind {
-    /// The kind that has this code, 1 to 12.
+    /// Returns the kind that has this code, 1 to 12.
     pub fn of(code: u8) -> CallKind
         ensures value { result ≡ kind_of code }
     {
@@ -73,7 +73,7 @@ impl CallKind {
         }
     }
 
-    // The row of the kind.
+    // Returns the row of the kind.
     fn row(self) -> KindRow
         ensures code { result.code ≡ (row_of self).code }
         ensures fields { result.fields ≡ (row_of self).fields }
@@ -95,28 +95,28 @@ impl CallKind {
         }
     }
 
-    /// The code of the kind.
+    /// Returns the code of the kind.
     pub fn code(self) -> u8
         ensures value { result ≡ code_of self }
     {
         self.row().code
     }
 
-    /// The fields of the kind.
+    /// Returns the fields of the kind.
     pub fn fields(self) -> CallFields
         ensures value { result ≡ fields_of self }
     {
         self.row().fields
     }
 
-    /// What the kind is counted as.
+    /// Returns what the kind is counted as.
     pub fn counted(self) -> CountedAs
         ensures value { result ≡ (row_of self).counted }
     {
         self.row().counted
     }
 
-    /// The call of the kind with these fields, of which it takes those that it has.
+    /// Makes the call of the kind, with those of these fields that the kind has.
     pub fn call(self, key: Blob, flags: u32, number: u64, value: Blob) -> Call
         ensures value { result ≡ call_of self key flags number value }
     {
@@ -164,7 +164,7 @@ impl CallKind {
     }
 }
 
-// These, as a row.
+// Makes a row of these.
 fn row(code: u8, fields: CallFields, counted: CountedAs) -> KindRow
     ensures code { result.code ≡ code }
     ensures fields { result.fields ≡ fields }
@@ -177,7 +177,7 @@ fn row(code: u8, fields: CallFields, counted: CountedAs) -> KindRow
     }
 }
 
-// These fields.
+// Returns these fields.
 fn having(key: bool, flags: bool, number: bool, value: bool) -> CallFields
     ensures value { result ≡ having key flags number value }
 {

@@ -19,9 +19,9 @@ pub enum CallReply {
     },
     /// An item was stored.
     Stored,
-    /// The key has an item where the call needs none, or none where it needs one.
+    /// The key has an item although the call needs none, or none although it needs one.
     NotStored,
-    /// The item there has another unique.
+    /// The item has another unique.
     Exists,
     /// The key has no item.
     NotFound,
@@ -31,7 +31,7 @@ pub enum CallReply {
     Number {
         number: u64,
     },
-    /// The value there is no number.
+    /// The item's value is no number.
     NotNumber,
     /// The joined value would be too large.
     TooLarge,
@@ -55,17 +55,17 @@ pub enum CallReply {
 /// The greatest code of a reply.
 pub const LAST_REPLY_CODE: u8 = 12;
 
-/// The code of a hit, after which its flags, its unique and its value come.
+/// The code of a hit; its flags, its unique and its value follow.
 pub const HIT_CODE: u8 = 2;
 
-/// The code of a number, after which it comes.
+/// The code of a number, which follows it.
 pub const NUMBER_CODE: u8 = 8;
 
-/// The code of a tally, after which its five numbers come.
+/// The code of a tally; its five numbers follow.
 pub const TALLY_CODE: u8 = 12;
 
 impl CallReply {
-    /// The code of the reply in a journal.
+    /// Returns the code of the reply in a journal.
     pub fn code(&self) -> u8
         ensures value { result ≡ reply_code self.now }
     {
@@ -85,7 +85,7 @@ impl CallReply {
         }
     }
 
-    /// The flags of a hit.
+    /// Returns the flags of a hit.
     pub fn flags(&self) -> Option<u32>
         ensures value { result ≡ reply_flags self.now }
     {
@@ -95,7 +95,7 @@ impl CallReply {
         }
     }
 
-    /// The unique of a hit, and the number that a value is now.
+    /// Returns the unique of a hit, and the number that a value is now.
     pub fn number(&self) -> Option<u64>
         ensures value { result ≡ reply_number self.now }
     {
@@ -106,7 +106,7 @@ impl CallReply {
         }
     }
 
-    /// The value of a hit.
+    /// Returns the value of a hit.
     pub fn value(&self) -> Option<&Blob>
         ensures value { option_copied result ≡ reply_value self.now }
     {
@@ -116,7 +116,7 @@ impl CallReply {
         }
     }
 
-    /// The five numbers of a tally.
+    /// Returns the five numbers of a tally.
     pub fn counts(&self) -> Option<Tallied>
         ensures value { result ≡ reply_counts self.now }
     {
@@ -138,7 +138,7 @@ impl CallReply {
         }
     }
 
-    /// The tally that has these numbers.
+    /// Returns the tally that has these numbers.
     pub fn tally(counts: Tallied) -> CallReply
         ensures value { result ≡ tally counts }
     {
@@ -158,7 +158,7 @@ impl CallReply {
         }
     }
 
-    /// The reply that has this code and no fields.
+    /// Returns the reply that has this code and no fields.
     pub fn plain(code: u8) -> CallReply
         ensures value { result ≡ plain_reply code }
     {
@@ -175,7 +175,7 @@ impl CallReply {
         }
     }
 
-    /// The same reply.
+    /// Copies the reply.
     #[inline(always)]
     pub fn copy(&self) -> Result<CallReply, NoMemory>
         ensures value { IfOk result (λ copy. copy ≡ self.now) }

@@ -7,21 +7,21 @@ use crate::call_kind::CountedAs;
 use crate::call_reply::CallReply;
 
 impl Call {
-    /// Whether the call gets the item of a key.
+    /// Checks whether the call gets the item of a key.
     pub fn is_get(&self) -> bool
         ensures value { result ≡ is_get self.now }
     {
         matches!(self.kind().counted(), CountedAs::AsGet)
     }
 
-    /// Whether the call stores a value, where its shard lets it.
+    /// Checks whether the call asks its shard to store a value, whatever the reply.
     pub fn is_set(&self) -> bool
         ensures value { result ≡ is_set self.now }
     {
         matches!(self.kind().counted(), CountedAs::AsSet)
     }
 
-    /// Whether the call is a get that found an item by this reply.
+    /// Checks whether the call is a get and this reply is an item.
     pub fn is_hit(&self, reply: &CallReply) -> bool
         ensures value { result ≡ is_hit self.now reply.now }
     {

@@ -27,7 +27,7 @@ pub struct Entry {
 }
 
 impl Entry {
-    /// The same entry.
+    /// Copies the entry.
     pub fn copy(&self) -> Result<Entry, NoMemory>
         ensures value { IfOk result (λ copy. copy ≡ self.now) }
     {

@@ -1,4 +1,4 @@
-//! That numbers fit their types, for proofs: these functions do nothing.
+//! Shows in proofs that numbers fit their types: these functions do nothing.
 ghost use Rattle.std.specs.Prelude.{◌<◌, ◌^◌, IfSome};
 ghost use Rattle.mc_calls.specs.Bounds.{FitsCall, FitsReply};
 
@@ -17,7 +17,7 @@ pub fn numbers_fit(tag: Tag, call: &Call, reply: &CallReply)
     reply_fits(reply);
 }
 
-// The flags and the number of a call.
+// Does nothing. Shows that the flags and the number of a call fit their types.
 fn call_fits(call: &Call)
     ensures value { FitsCall call.now }
 {
@@ -25,7 +25,7 @@ fn call_fits(call: &Call)
     number_fits(call.number());
 }
 
-// Flags, where there are some.
+// Does nothing. Shows that flags fit their type.
 fn flags_fit(flags: Option<u32>)
     ensures value { IfSome flags (λ n. n < 2 ^ 32) }
 {
@@ -34,7 +34,7 @@ fn flags_fit(flags: Option<u32>)
     }
 }
 
-// A number, where there is one.
+// Does nothing. Shows that a number fits its type.
 fn number_fits(number: Option<u64>)
     ensures value { IfSome number (λ n. n < 2 ^ 64) }
 {
@@ -43,7 +43,7 @@ fn number_fits(number: Option<u64>)
     }
 }
 
-// The flags, the number and the counts of a reply.
+// Does nothing. Shows that the flags, the number and the counts of a reply fit their types.
 fn reply_fits(reply: &CallReply)
     ensures value { FitsReply reply.now }
 {

@@ -9,7 +9,7 @@ use std::marker::Model;
 use zy_base::NoMemory;
 
 /// A list of entries for each shard, at most 256. Contracts see it as the list of these lists.
-/// Every entry of a list is at the shard whose number is the list's place.
+/// Every entry is at the shard whose number is its list's index.
 #[derive(Drop)]
 pub struct Histories {
     lists: Vec<Entries>,
@@ -30,7 +30,7 @@ impl Model for Histories {
 }
 
 impl Histories {
-    /// No list. Takes no memory.
+    /// Begins without a list. Takes no memory.
     pub fn new(alloc: Global) -> Histories
         ensures value { result ≡ [] }
     {
@@ -39,7 +39,7 @@ impl Histories {
         }
     }
 
-    /// The histories of a vector, which is moved and not copied. Takes no memory.
+    /// Makes the histories of a vector, which is moved. Takes no memory.
     pub fn from_vec(lists: Vec<Entries>) -> Histories
         requires few { length lists.items ≤ shard_limit }
         requires shards { AreByShard lists.items }
@@ -48,7 +48,7 @@ impl Histories {
         Histories { lists }
     }
 
-    /// Appends the history of the next shard; after a refusal it is handed back.
+    /// Appends the history of the next shard; if allocation fails it is handed back.
     pub fn add(&mut self, list: Entries) -> Result<(), (Entries, NoMemory)>
         requires room { length self.old < shard_limit }
         requires shard { AreAt (length self.old) list }
@@ -62,7 +62,7 @@ impl Histories {
         }
     }
 
-    /// The number of lists.
+    /// Returns the number of lists.
     pub fn count(&self) -> u32
         ensures value { result ≡ length self.now }
         ensures limit { result ≤ shard_limit }
@@ -70,7 +70,7 @@ impl Histories {
         self.lists.len() as u32
     }
 
-    /// The history of a shard.
+    /// Returns the history of a shard.
     pub fn list(&self, shard: u32) -> &[Entry]
         requires within { shard < length self.now }
         ensures value { result.now ≡ history_of self.now shard }
@@ -79,7 +79,7 @@ impl Histories {
         self.lists[shard as usize].items()
     }
 
-    /// The vector of the histories. Takes no memory.
+    /// Returns the vector of the histories. Takes no memory.
     pub fn into_vec(self) -> Vec<Entries>
         ensures value { result.items ≡ self }
         ensures shards { AreByShard result.items }

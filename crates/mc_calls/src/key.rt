@@ -2,7 +2,8 @@
 ghost use Rattle.std.specs.Prelude.{◌≡◌, ◌<◌, ◌≤◌};
 ghost use Rattle.mc_calls.specs.Key as keys;
 
-/// The number of a key's shard, among `shards` shards: its 32-bit FNV-1a hash, modulo `shards`.
+/// Returns the number of a key's shard, among `shards` shards: its 32-bit FNV-1a hash, modulo
+/// `shards`.
 pub fn shard_of(key: &[u8], shards: u32) -> u32
     requires some { 1 ≤ shards }
     ensures value { result ≡ keys.shard_of key.now shards }
@@ -11,7 +12,7 @@ pub fn shard_of(key: &[u8], shards: u32) -> u32
     hash_of(key) % shards
 }
 
-/// The 32-bit FNV-1a hash of a key.
+/// Returns the 32-bit FNV-1a hash of a key.
 pub fn hash_of(key: &[u8]) -> u32
     ensures value { result ≡ keys.hash_of key.now }
 {

@@ -1,7 +1,7 @@
 //! What is counted of the calls on a shard.
 
-/// How many of the calls on a shard got a value, stored one, found their item or missed it, and how
-/// many items the shard has.
+/// The numbers of gets on a shard, of calls that store a value, of gets that found an item and that
+/// found none, and of the shard's items.
 #[derive(Clone, Copy, PartialEq, Eq)]
 pub struct Tallied {
     /// Calls that get the item of a key.
