@@ -1,5 +1,5 @@
--- What a text of fields is: its verdict is good exactly where whole fields lead to an end, and a fault exactly where it
--- has that fault.
+-- What a text of fields is: its verdict is good if and only if whole fields lead to an end, and a fault if and only if
+-- it has that fault.
 use Rattle.std.proofs.Common.{◌≡◌, inl, inr, ℕ, ◌+◌, ◌-◌, ◌<◌, ◌≤◌, Bool, true, false, List, [], ◌∷◌, ◌++◌, length, refl, sym, ◌∙◌, ap, subst, arith, append_assoc, length-append}
 use Rattle.std.specs.Prelude.{◌&&◌, not, nat_lt, nat_le, if◌then◌else◌, Option, None, Some, option_to_list}
 use Rattle.std.specs.List.{concat}

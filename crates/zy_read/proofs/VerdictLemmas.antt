@@ -1,4 +1,4 @@
--- What the verdict on a text of fields comes to, where it is good, and the states that whole fields lead to.
+-- What a good verdict on a text of fields says, and the states that whole fields lead to.
 use Rattle.std.proofs.Common.{◌≡◌, inl, inr, ℕ, ◌+◌, ◌-◌, ◌<◌, Bool, true, false, List, [], ◌∷◌, ◌++◌, length, refl}
 use Rattle.std.proofs.Common.{◌∙◌, ap, subst, arith}
 use Rattle.std.specs.Prelude.{nat_lt, if◌then◌else◌, Option, None, Some, ⊤}

@@ -45,7 +45,7 @@ abbrev pub EndsAt : {S G F : Type 0} → Fields S G F → Place S F → Result �
 EndsAt fields p (Ok done) = (p.fault ≡ None) × (fields.is_end p.state ≡ true)
 EndsAt fields p (Err fault) = EndsWith fields p.fault p fault
 
--- ---- for the reader alone
+-- ---- for the reader only
 
 -- the bytes that were read of a number and of a run are those of a field of this shape
 abbrev pub IsPart : Shape → List ℕ → List ℕ → Type 0
@@ -54,12 +54,12 @@ IsPart Four field payload = (length field < 4) × (payload ≡ [])
 IsPart Eight field payload = payload ≡ []
 IsPart (Run others) field payload = (field ≡ []) × (length payload ≤ others)
 
--- where no fault was met, the state may be that at the place of the field
+-- if no fault was met, the state may be that at the place of the field
 abbrev pub IsPlaced : {S F : Type 0} → (S → ℕ → Type 0) → Option F → S → ℕ → Type 0
 IsPlaced Fits None s at = Fits s at
 IsPlaced Fits (Some fault) s at = ⊤
 
--- what is so of the parts of a reader
+-- what holds of the parts of a reader
 pub record IsReader {S F : Type 0} (shape : S → Shape) (limit : ℕ) (Fits : S → ℕ → Type 0) (s : S)
     (field payload : List ℕ) (at : ℕ) (fault : Option F) : Type 0 where
   pub part : IsPart (shape s) field payload

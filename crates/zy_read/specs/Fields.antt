@@ -13,8 +13,8 @@ pub data Judged (S G F : Type 0) : Type 0 where
   Wrong : F → Judged S G F
 
 -- the fields of a format: the state before the first one, the number of bytes of the next one, what a whole one does
--- that begins at some place, the states at which a text may end, the most bytes of a text, the fault of one with more,
--- and the fault of one that ends too early
+-- at some place, the states at which a text may end, the most bytes of a text, and the faults of a text that has more
+-- bytes or ends too early
 pub record Fields (S G F : Type 0) : Type 0 where
   pub start : S
   pub width : S → ℕ
@@ -58,7 +58,7 @@ refused p fault = record { next = record p { seen = []; fault = Some fault }; ga
 abbrev pub grown_by : {S F : Type 0} → Place S F → List ℕ → Place S F
 grown_by p bytes = record p { seen = p.seen ++ bytes; at = p.at + length bytes }
 
--- the byte is the last one of a field, which does this
+-- the step at the last byte of a field, by what the field does
 abbrev pub moved : {S G F : Type 0} → Place S F → Judged S G F → Step (Place S F) G
 moved p (Then next) = record { next = at_state next (p.at + 1); gave = None }
 moved p (Gives next item) = record { next = at_state next (p.at + 1); gave = Some item }
@@ -68,7 +68,7 @@ moved p (Wrong fault) = refused p fault
 abbrev pub judged_at : {S G F : Type 0} → Fields S G F → Place S F → ℕ → Judged S G F
 judged_at fields p byte = fields.judge p.state (p.at - length p.seen) (p.seen ++ byte ∷ [])
 
--- a byte of a field
+-- what a byte of a field does
 abbrev pub field_step : {S G F : Type 0} → Fields S G F → Place S F → ℕ → Step (Place S F) G
 field_step fields p byte =
     if nat_lt (length p.seen + 1) (fields.width p.state) then record { next = grown_by p (byte ∷ []); gave = None }
@@ -78,11 +78,11 @@ field_step fields p byte =
 abbrev pub is_full : {S G F : Type 0} → Fields S G F → Place S F → Bool
 is_full fields p = not (fields.is_end p.state) && nat_le fields.limit p.at
 
--- a byte where no fault was met: that the text is too long comes before every other fault
+-- what a byte does if no fault was met; the first fault to count is that the text is too long
 abbrev pub open_step : {S G F : Type 0} → Fields S G F → Place S F → ℕ → Step (Place S F) G
 open_step fields p byte = if is_full fields p then refused p fields.too_long else field_step fields p byte
 
--- a byte, where this fault was met or none
+-- what a byte does, after this fault or none was met
 abbrev pub step_by : {S G F : Type 0} → Option F → Fields S G F → Place S F → ℕ → Step (Place S F) G
 step_by None fields p byte = open_step fields p byte
 step_by (Some fault) fields p byte = record { next = p; gave = None }
@@ -93,17 +93,17 @@ step fields p byte = step_by p.fault fields p byte
 
 -- ---- the format
 
--- the verdict on a text that ends where no fault was met
+-- the verdict on a text that ends before a fault was met
 abbrev pub whole_or_cut : {S G F V : Type 0} → Fields S G F → (S → List G → V) → (F → V) → Place S F → List G → V
 whole_or_cut fields good bad p given =
     if fields.is_end p.state then good p.state given else bad (fields.truncated p.at)
 
--- the verdict on a text that ends where this fault was met or none
+-- the verdict on a text that ends after this fault or none was met
 abbrev pub ended_by : {S G F V : Type 0} → Option F → Fields S G F → (S → List G → V) → (F → V) → Place S F → List G → V
 ended_by None fields good bad p given = whole_or_cut fields good bad p given
 ended_by (Some fault) fields good bad p given = bad fault
 
--- the format with these fields, and with these verdicts on a text that ends at its end, and on one with a fault
+-- the format with these fields, and with these verdicts on a whole text and on one with a fault
 abbrev pub format_of : {S G F V : Type 0} → Fields S G F → (S → List G → V) → (F → V) → Format (Place S F) G F V
 format_of fields good bad = record {
   start = at_state fields.start 0;

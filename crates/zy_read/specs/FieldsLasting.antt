@@ -4,7 +4,7 @@ use Rattle.std.specs.Prelude.{Option, Some, None}
 use Rattle.zy_read.specs.Format.{IsLasting}
 use Rattle.zy_read.specs.Fields.{Fields, Place, step, ended_by, format_of}
 
--- after a fault no byte does anything
+-- after a fault no byte changes anything
 still : {S G F : Type 0} (fields : Fields S G F) (p : Place S F) (byte : ℕ) (fault : F) → p.fault ≡ Some fault
     → step fields p byte ≡ record { next = p; gave = None }
 still fields p byte fault is = rw is refl

@@ -9,8 +9,8 @@ pub record Step (P G : Type 0) : Type 0 where
   pub next : P
   pub gave : Option G
 
--- a format: where a text begins, what a byte does, the fault that was met up to some place, the verdict on a text
--- that ends there and gave these records, and the verdict on a text with a fault
+-- a format: where a text begins, what a byte does, the fault met up to some place, the verdict on a text that
+-- ends there and gave some records, and the verdict on a text with a fault
 pub record Format (P G F V : Type 0) : Type 0 where
   pub start : P
   pub step : P → ℕ → Step P G
@@ -18,7 +18,7 @@ pub record Format (P G F V : Type 0) : Type 0 where
   pub ended : P → List G → V
   pub bad : F → V
 
--- the first fault counts: after it no byte does anything, and it is the verdict
+-- the first fault counts: after it no byte changes anything, and it is the verdict
 pub record IsLasting {P G F V : Type 0} (format : Format P G F V) : Type 0 where
   pub still : (p : P) (byte : ℕ) (fault : F) → format.fault_in p ≡ Some fault
       → format.step p byte ≡ record { next = p; gave = None }

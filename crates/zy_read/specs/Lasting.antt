@@ -1,4 +1,4 @@
--- What proofs need where a fault was met or was not.
+-- Facts for proofs, by whether a fault was met.
 use Rattle.std.proofs.Common.{◌≡◌, ap, subst}
 use Rattle.std.specs.Prelude.{Option, Some, None, ⊤}
 
@@ -10,7 +10,7 @@ abbrev or_else : {F D : Type 0} → (F → D) → D → Option F → D
 or_else broken other None = other
 or_else broken other (Some fault) = broken fault
 
--- where none was met, this one was not
+-- if none was met, this one was not
 pub none_met : {F : Type 0} (fault : F) → None ≡ Some fault → ⊥
 none_met {F} fault is = subst (λ (o : Option F). IsNone o) is tt
 

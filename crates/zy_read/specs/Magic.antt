@@ -10,20 +10,20 @@ use Rattle.zy_read.specs.declared.magic.MagicPart.TheVariants.{Letters, Digit, L
 use Rattle.zy_read.specs.declared.magic.MagicStep.{MagicStep}
 use Rattle.zy_read.specs.declared.magic.MagicStep.TheVariants.{Next, Whole, Wrong}
 
--- a letter
+-- what a byte does at a letter
 abbrev pub letter : List ℕ → ℕ → ℕ → MagicStep
 letter letters at byte =
     if byte == slice_index letters at then (if at == 5 then Next Digit else Next Letters) else Wrong
 
--- the digit of the version
+-- what a byte does at the digit of the version
 abbrev pub digit : ℕ → MagicStep
 digit byte = if byte == 49 then Next (LineFeed 1) else if byte == 50 then Next (LineFeed 2) else Wrong
 
--- the line feed
+-- what a byte does at the line feed
 abbrev pub line_feed : ℕ → ℕ → MagicStep
 line_feed version byte = if byte == 10 then Whole version else Wrong
 
--- what a byte does, where this part of the magic with these letters is next, and this many bytes were read
+-- what a byte does when this part of the magic with these letters is next and this many bytes were read
 abbrev pub magic_step : MagicPart → List ℕ → ℕ → ℕ → MagicStep
 magic_step Letters letters at byte = letter letters at byte
 magic_step Digit letters at byte = digit byte
@@ -52,13 +52,14 @@ pub record HasMagic (letters text : List ℕ) (version : ℕ) : Type 0 where
   pub known : (version ≡ 1) ⊎ (version ≡ 2)
   pub whole : text ≡ magic_of letters version ++ rest
 
--- the version of a magic that was read whole; the number is 0 before
+-- the version of a magic; the number is 0 until the magic was read whole
 abbrev pub version_in : ℕ → Option ℕ
 version_in version = if version == 0 then None else Some version
 
 -- ---- fields
 
--- what a byte of the magic does: another part is next, or the state after the magic of a version, or this is its fault
+-- what a byte of the magic does: another part is next, or the magic is whole and the state after it is next, or it is
+-- this fault
 abbrev pub magic_judged : {S G F : Type 0} → (MagicPart → S) → (ℕ → S) → F → MagicStep → Judged S G F
 magic_judged part_next after fault (Next part) = Then (part_next part)
 magic_judged part_next after fault (Whole version) = Then (after version)

@@ -22,7 +22,8 @@ pub record HasGiven {S : Type 0} (rest : S → Option (List ℕ)) (faults : S �
 abbrev pub IsOver : Option (List ℕ) → List ℕ → Type 0
 IsOver rest left = (left ≡ []) × IsAtEnd rest
 
--- there are bytes, or none are left, or the count of faults rose or is at its largest value
+-- the piece has bytes, or none are left, or the read failed: then the count of faults rose or is at
+-- its largest value
 abbrev pub Refills : {S : Type 0} → (S → Option (List ℕ)) → (S → ℕ) → S → S → List ℕ → List ℕ → Result Bool Failed
     → Type 0
 Refills rest faults first now left taken (Ok true) = HasGiven rest faults first now left taken

@@ -1,4 +1,5 @@
--- What whole fields spell, one after another: the texts that a format of fields takes, and those that have a fault.
+-- What whole fields encode, one after another: the texts that a format of fields takes, and those that have a
+-- fault.
 use Rattle.std.specs.Prelude.{◌≡◌, ◌⊎◌, ℕ, ◌+◌, ◌<◌, ◌≤◌, true, false, List, [], ◌∷◌, ◌++◌, length}
 use Rattle.std.specs.List.{concat}
 use Rattle.zy_read.specs.Fields.{Judged, Fields}
@@ -6,7 +7,7 @@ use Rattle.zy_read.specs.Fields.Judged.{Then, Gives, Wrong}
 
 -- ---- whole fields
 
--- what a whole field does is not a fault, and from the next state on the rest leads on with the other records
+-- the whole field is not wrong, and the rest leads on from the next state with the other records
 abbrev pub GoesOn : {S G F : Type 0} → Judged S G F → (S → List G → Type 0) → List G → Type 0
 GoesOn (Then next) Rest given = Rest next given
 GoesOn {S} {G} (Gives next item) Rest given = (others : List G) × (given ≡ item ∷ others) × Rest next others
@@ -65,7 +66,7 @@ pub record IsMisjudged {S G F : Type 0} (fields : Fields S G F) (text : List ℕ
   pub room : HasRoom fields s (length (concat begins.parts) + length field)
   pub wrong : fields.judge s (length (concat begins.parts)) field ≡ Wrong fault
 
--- the text has a further byte after its most bytes, and these are cut
+-- the text has the most bytes and one more, before its end was read
 pub record IsOverlong {S G F : Type 0} (fields : Fields S G F) (text : List ℕ) (s : S) : Type 0 where
   pub given : List G
   pub seen : List ℕ
@@ -76,7 +77,7 @@ pub record IsOverlong {S G F : Type 0} (fields : Fields S G F) (text : List ℕ)
   pub part : length seen < fields.width s
   pub most : length (concat begins.parts) + length seen ≡ fields.limit
 
--- the text has this fault, which is met where this is the state
+-- the text has this fault, which is met in this state
 abbrev pub HasFault : {S G F : Type 0} → Fields S G F → List ℕ → S → F → Type 0
 HasFault fields text s fault = IsMisjudged fields text s fault ⊎ (IsOverlong fields text s × (fault ≡ fields.too_long))
 

@@ -49,7 +49,7 @@ abbrev pub TellsLasting : {P G F V : Type 0} → Format P G F V → P → List �
 TellsLasting format old bytes (Err (Fault fault)) = LastsAs format old bytes fault
 TellsLasting format old bytes answer = ⊤
 
--- the answer is a function of the bytes fed
+-- the answer is determined by the bytes fed
 abbrev pub AnswersBy : {P G F V X : Type 0} → Format P G F V → P → (List ℕ → X) → X → Type 0
 AnswersBy {P} {G} format p of answer = (given : List G) (b : List ℕ) → StandsAs format p given b → answer ≡ of b
 
@@ -61,7 +61,7 @@ taken_with before (Ok gave) = before + 1
 taken_with before (Err (Fault fault)) = before + 1
 taken_with before (Err NoMemory) = before
 
--- ---- for readers alone
+-- ---- for readers only
 
 -- the step gives this answer and state; `NoMemory` changes nothing, and is answered only at a byte that needs memory
 abbrev pub Follows : {P G F V : Type 0} → Format P G F V → (P → ℕ → Type 0) → Step P G → P → P → ℕ

@@ -1,4 +1,4 @@
-//! What was taken of some bytes.
+//! How many of some bytes were taken, and the answer to the last one.
 ghost use Rattle.std.specs.Prelude.{◌≡◌, ◌<◌, ◌-◌, ◌^◌, ◌≢◌, Ok, None, OnOk, OnErr, IfErr};
 ghost use Rattle.zy_read.specs.Standing.{taken_with};
 
@@ -10,12 +10,12 @@ use crate::not_taken::NotTaken;
 pub struct Fed<G, F> {
     /// The number of bytes taken; after `NoMemory`, of those before the byte that needs memory.
     pub taken: usize,
-    /// A record or a fault at the last byte taken; `Ok(None)` where all bytes were taken.
+    /// A record or a fault at the last byte taken; `Ok(None)` if all bytes were taken.
     pub answer: Result<Option<G>, NotTaken<F>>,
 }
 
 impl<G: Drop, F: Drop> Fed<G, F> {
-    /// The answer to the byte after `before` others.
+    /// Returns the answer to the byte after `before` others.
     pub fn at(before: usize, answer: Result<Option<G>, NotTaken<F>>) -> Fed<G, F>
         requires room { before < 2 ^ 64 - 1 }
         ensures taken { result.taken ≡ taken_with before answer }
@@ -34,7 +34,7 @@ impl<G: Drop, F: Drop> Fed<G, F> {
     }
 }
 
-/// `Ok` if a byte was taken that ended nothing, and otherwise the answer.
+/// Answers `Ok` if a byte was taken that ended nothing; otherwise returns the answer.
 pub fn goes_on<G: Drop, F: Drop>(
     answer: Result<Option<G>, NotTaken<F>>,
 ) -> Result<(), Result<Option<G>, NotTaken<F>>>

@@ -4,8 +4,8 @@ ghost use Rattle.std.specs.Int.{from_be_bytes, w32};
 
 use std::marker::Model;
 
-/// The bytes that were read of a number of at most eight bytes. Contracts see it as their list,
-/// which has at most seven.
+/// The bytes read so far of a number of at most eight bytes. Contracts see it as the list of these,
+/// which are at most seven.
 #[derive(Drop)]
 pub struct Field {
     seen: usize,
@@ -23,7 +23,7 @@ impl Model for Field {
 }
 
 impl Field {
-    /// No byte was read.
+    /// Begins without a byte.
     pub fn new() -> Field
         ensures value { result ≡ [] }
     {
@@ -33,7 +33,7 @@ impl Field {
         }
     }
 
-    /// How many bytes were read.
+    /// Returns how many bytes were read.
     pub fn len(&self) -> usize
         ensures value { result ≡ length self.now }
         ensures limit { result < 8 }
@@ -57,7 +57,7 @@ impl Field {
         self.seen += 1;
     }
 
-    /// Four bytes, this one the last.
+    /// Returns the four bytes, of which this one is the last.
     pub fn four(&self, byte: u8) -> [u8; 4]
         requires whole { length self.now ≡ 3 }
         ensures value { result ≡ self.now ++ byte ∷ [] }
@@ -66,7 +66,7 @@ impl Field {
         [b[0], b[1], b[2], byte]
     }
 
-    /// Eight bytes, this one the last.
+    /// Returns the eight bytes, of which this one is the last.
     pub fn eight(&self, byte: u8) -> [u8; 8]
         requires whole { length self.now ≡ 7 }
         ensures value { result ≡ self.now ++ byte ∷ [] }
@@ -75,7 +75,7 @@ impl Field {
         [b[0], b[1], b[2], b[3], b[4], b[5], b[6], byte]
     }
 
-    /// The big-endian number of four bytes, this one the last.
+    /// Returns the big-endian number of four bytes, of which this one is the last.
     pub fn number(&self, byte: u8) -> u32
         requires whole { length self.now ≡ 3 }
         ensures value { result ≡ from_be_bytes w32 (self.now ++ byte ∷ []) }

@@ -12,7 +12,7 @@ use crate::shape::Shape;
 use std::alloc::Global;
 
 /// The state of a format of fields: what its next field is, and how it is judged when it is whole.
-/// A state stays as it was at a field that is wrong, or for which memory is refused.
+/// A state does not change at a field that is wrong, or for which an allocation fails.
 pub trait FieldFormat: Drop {
     /// The record that a field ends.
     type Gives: Drop;
@@ -41,32 +41,32 @@ pub trait FieldFormat: Drop {
     /// The next field may need memory.
     ghost Wants: { Self → Type 0 };
 
-    /// The shape of the next field.
+    /// Returns the shape of the next field.
     fn shape(&self) -> Shape
         ensures value { result ≡ shape_of self.now };
 
-    /// Whether a text may end here.
+    /// Checks whether a text may end here.
     fn is_end(&self) -> bool
         ensures value { result ≡ fields.is_end self.now };
 
-    /// Whether it is known that the next field gives no record.
+    /// Checks whether it is known that the next field gives no record.
     fn is_quiet(&self) -> bool
         ensures value { result ≡ true
             → (at : ℕ) (field : List ℕ) → IsQuiet (fields.judge self.now at field) };
 
-    /// The most bytes of a text.
+    /// Returns the most bytes of a text.
     fn limit(&self) -> u64
         ensures value { result ≡ fields.limit };
 
-    /// The fault of a text with more bytes.
+    /// Returns the fault of a text with more bytes.
     fn too_long(&self) -> Self::Fault
         ensures value { result ≡ fields.too_long };
 
-    /// The fault of a text that ends too early.
+    /// Returns the fault of a text that ends too early.
     fn truncated(&self, at: u64) -> Self::Fault
         ensures value { result ≡ fields.truncated at };
 
-    /// What a byte at this place does.
+    /// Returns what a byte at this place does.
     fn judge_byte(
         &mut self,
         alloc: Global,
@@ -78,7 +78,7 @@ pub trait FieldFormat: Drop {
         ensures value { Judges Fits Wants (fields.judge self.old at (byte ∷ [])) (at + 1)
             self.old self.new result };
 
-    /// What four bytes from this place on do.
+    /// Returns what four bytes from this place on do.
     fn judge_four(
         &mut self,
         alloc: Global,
@@ -90,7 +90,7 @@ pub trait FieldFormat: Drop {
         ensures value { Judges Fits Wants (fields.judge self.old at bytes) (at + 4)
             self.old self.new result };
 
-    /// What eight bytes from this place on do.
+    /// Returns what eight bytes from this place on do.
     fn judge_eight(
         &mut self,
         alloc: Global,
@@ -102,7 +102,7 @@ pub trait FieldFormat: Drop {
         ensures value { Judges Fits Wants (fields.judge self.old at bytes) (at + 8)
             self.old self.new result };
 
-    /// What a run of bytes from this place on does. It may take them out of their vector.
+    /// Returns what a run of bytes from this place on does. It may move them out of their vector.
     fn judge_run(
         &mut self,
         alloc: Global,
@@ -116,8 +116,8 @@ pub trait FieldFormat: Drop {
             (at + length bytes.old.items) self.old self.new result }
         ensures kept { result ≡ Err NoMemory → bytes.new.items ≡ bytes.old.items };
 
-    /// Takes whole fields at once, with which the bytes from this place on begin, and which give no
-    /// record; there may be none. Returns the number of their bytes.
+    /// Takes at once whole fields with which the bytes from this place on begin, and which give no
+    /// record. There may be none. Returns the number of their bytes.
     fn judge_front(&mut self, alloc: Global, at: u64, bytes: &[u8]) -> usize
         requires fits { Fits self.old at }
         ensures within { result ≤ length bytes.now }
@@ -130,7 +130,8 @@ pub trait FieldFormat: Drop {
     /// A run may need memory.
     ghost runs: { (s : Self) (others : ℕ) → shape_of s ≡ Kinds.Run others → Wants s };
 
-    /// A field has a byte; where a text may end, the next one is a byte, and wrong after the limit.
+    /// A field has a byte; where a text may end, the next one is a byte, which is wrong after the
+    /// limit.
     ghost lawful: { IsLawful fields };
 
     /// There is a number after the limit.

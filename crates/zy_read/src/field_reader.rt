@@ -48,7 +48,7 @@ impl<S: FieldFormat> Model for FieldReader<S> {
 }
 
 impl<S: FieldFormat> FieldReader<S> {
-    /// A reader to which no byte was fed, where this is the state before the first one. Takes no
+    /// Makes a reader to which no byte was fed, from the state before the first one. Takes no
     /// memory.
     pub fn new(alloc: Global, start: S) -> FieldReader<S>
         requires start { start ≡ S.fields.start }
@@ -64,28 +64,28 @@ impl<S: FieldFormat> FieldReader<S> {
         }
     }
 
-    /// The state.
+    /// Returns the state.
     pub fn state(&self) -> &S
         ensures value { result.now ≡ self.now.state }
     {
         &self.state
     }
 
-    /// Gives the state.
+    /// Returns the state.
     pub fn into_state(self) -> S
         ensures value { result ≡ self.state }
     {
         self.state
     }
 
-    /// The fault that was met.
+    /// Returns the fault that was met.
     pub fn fault(&self) -> Option<S::Fault>
         ensures value { result ≡ self.now.fault }
     {
         self.fault
     }
 
-    /// Whether the text may end here, and its fault otherwise.
+    /// Checks whether the text may end here; answers its fault if not.
     pub fn end(&self) -> Result<(), S::Fault>
         ensures value { EndsAt S.fields self.now result }
     {
@@ -96,7 +96,7 @@ impl<S: FieldFormat> FieldReader<S> {
         }
     }
 
-    // The text has its most bytes, and its end was not read.
+    // Checks whether the text has its most bytes, and its end was not read.
     fn is_full(&self) -> bool
         ensures value { result ≡ is_full S.fields self.now }
     {

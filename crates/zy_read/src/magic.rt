@@ -3,7 +3,8 @@ ghost use Rattle.std.specs.Prelude.{◌≡◌, ◌+◌};
 ghost use Rattle.zy_read.specs.Magic.{magic_step, IsInMagic};
 ghost use Rattle.zy_read.specs.declared.magic.MagicStep.TheVariants.{Next};
 
-/// What is next of a magic: six letters, the digit of a version, which is 1 or 2, and a line feed.
+/// The part of a magic that is next: six letters, the digit of a version, which is 1 or 2, and a
+/// line feed.
 #[derive(Clone, Copy)]
 pub enum MagicPart {
     /// A letter.
@@ -26,7 +27,7 @@ pub enum MagicStep {
 }
 
 impl MagicPart {
-    /// What this byte does where this part is next and `at` bytes were read.
+    /// Returns what this byte does, when this part is next and `at` bytes were read.
     pub fn step(self, letters: &[u8; 6], at: u64, byte: u8) -> MagicStep
         requires within { IsInMagic self at }
         ensures value { result ≡ magic_step self letters.now at byte }

@@ -2,12 +2,12 @@
 
 use zy_base::FileFault;
 
-/// Why a reader didn't take a byte, where texts have faults of this type.
+/// Why a reader didn't take a byte. Its texts have faults of type `F`.
 #[derive(Clone, Copy, PartialEq, Eq)]
 pub enum NotTaken<F> {
     /// The text has this fault.
     Fault(F),
-    /// An allocation was refused; the byte is still to be taken.
+    /// An allocation failed; the byte is still to be taken.
     NoMemory,
 }
 

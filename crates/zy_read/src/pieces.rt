@@ -11,7 +11,8 @@ use zy_base::{Blob, Failed, NoMemory, Piece, Source};
 // The most bytes that one read asks for.
 const PIECE: usize = 65_536;
 
-/// A piece of a source, of 64 KiB at most. Contracts see it as its bytes that were not taken yet.
+/// A piece of a source, of 64 KiB at most. Contracts see it as those of its bytes that were not
+/// taken yet.
 #[derive(Drop)]
 pub struct Pieces {
     alloc: Global,
@@ -35,7 +36,7 @@ impl Model for Pieces {
 }
 
 impl Pieces {
-    /// No byte was read yet.
+    /// Begins before the first byte.
     pub fn new(alloc: Global) -> Result<Pieces, NoMemory>
         ensures ok { IfOk result (λ pieces. pieces ≡ []) }
     {
@@ -70,16 +71,16 @@ impl Pieces {
         Ok(n > 0)
     }
 
-    /// The bytes that are left.
+    /// Returns the bytes that are left.
     pub fn left(&self) -> &[u8]
         ensures value { result.now ≡ self.now }
     {
         &self.piece[self.at..self.end]
     }
 
-    /// The bytes from `from` up to `end` of those that are left, as a byte string; none is taken. Byte
-    /// strings of more than 16 bytes share their bytes with the others that are cut from the piece, for
-    /// which the first of them takes memory.
+    /// Returns the bytes from `from` up to `end` of those that are left, as a byte string; none is
+    /// taken. Those of more than 16 bytes share their bytes with each other; the first of them
+    /// takes memory for all.
     #[inline(always)]
     pub fn part(&mut self, from: usize, end: usize) -> Result<Blob, NoMemory>
         requires order { from ≤ end }
@@ -93,7 +94,7 @@ impl Pieces {
         self.first_part(from, end)
     }
 
-    // The same, where no byte string was cut from the piece yet.
+    // Returns such a part, when no byte string was cut from the piece yet.
     fn first_part(&mut self, from: usize, end: usize) -> Result<Blob, NoMemory>
         requires order { from ≤ end }
         requires within { end ≤ length self.old }
@@ -106,7 +107,7 @@ impl Pieces {
         blob
     }
 
-    /// Takes this many first bytes of those that are left.
+    /// Takes this many of the bytes that are left, the first ones.
     pub fn pass(&mut self, count: usize)
         requires within { count ≤ length self.old }
         ensures value { self.new ≡ drop count self.old }

@@ -29,8 +29,8 @@ pub trait Reads {
         ensures value { Follows format wants (format.step self.old byte)
             self.old self.new byte result };
 
-    /// Takes bytes at once that end nothing, from some place on, but not the last one of the piece.
-    /// Gives how many, which may be none.
+    /// Takes at once bytes that end nothing, from some place on, but not the last one of the piece.
+    /// Returns how many, which may be none.
     fn take_run(&mut self, bytes: &[u8], at: usize) -> usize
         requires place { at < length bytes.now }
         ensures within { at + result < length bytes.now }
@@ -48,7 +48,7 @@ pub fn feed<R: Reads>(reader: &mut R, byte: u8) -> Result<Option<R::Gives>, NotT
     ensures exact { TellsFault R.format reader.old (byte ∷ []) result }
     ensures lasts { TellsLasting R.format reader.old (byte ∷ []) result }
 
-    // A refused allocation.
+    // If an allocation failed.
     ensures kept { result ≡ Err NoMemory → reader.new ≡ reader.old }
     ensures memory { result ≡ Err NoMemory → R.wants reader.old byte }
 {

@@ -5,9 +5,9 @@
 pub enum Shape {
     /// One.
     Byte,
-    /// Four, mostly a number.
+    /// Four, usually a number.
     Four,
-    /// Eight, mostly a number.
+    /// Eight, usually a number.
     Eight,
     /// One byte, and this number of others. They may need memory.
     Run(u64),

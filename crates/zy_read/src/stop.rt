@@ -6,14 +6,14 @@ ghost use Rattle.zy_read.specs.declared.stop.Stop.TheVariants as Stops;
 use crate::not_taken::NotTaken;
 use zy_base::{Failed, NoMemory};
 
-/// Why a text of a source is read no further, where texts have faults of this type.
+/// Why a text of a source is read no further. Its faults have type `F`.
 #[derive(Clone, Copy, PartialEq, Eq)]
 pub enum Stop<F> {
     /// The text has this fault.
     Refused(F),
     /// A read failed.
     ReadFault,
-    /// An allocation was refused.
+    /// An allocation failed.
     NoMemory,
 }
 

@@ -11,8 +11,8 @@ use crate::not_taken::NotTaken;
 use crate::shape::Shape;
 use std::alloc::Global;
 
-// Judges the next field where the bytes begin with all of it. Returns its size, or 0 where it is
-// wrong or memory for it is refused. A run is put into `payload`.
+// Judges the next field if the bytes begin with all of it. Returns its size, or 0 if it is wrong or
+// an allocation fails. A run is put into `payload`.
 #[tactic(auto, using(crate::proofs::TakenLemmas::quiet_then, crate::proofs::TakenLemmas::judged_kept, crate::proofs::OverLemmas::over_none, crate::proofs::OverLemmas::over_then))]
 pub(super) fn judge_whole<S: FieldFormat>(
     alloc: Global,
@@ -45,7 +45,7 @@ pub(super) fn judge_whole<S: FieldFormat>(
     }
 }
 
-// The same for a run. It needs memory.
+// Judges a run with which the bytes begin, as `judge_whole`. It needs memory.
 #[tactic(auto, using(crate::proofs::TakenLemmas::quiet_then, crate::proofs::TakenLemmas::judged_kept, crate::proofs::OverLemmas::over_none, crate::proofs::OverLemmas::over_then))]
 fn judge_whole_run<S: FieldFormat>(
     alloc: Global,
@@ -77,7 +77,7 @@ fn judge_whole_run<S: FieldFormat>(
     }
 }
 
-// Whether a field was taken.
+// Checks whether a field was taken.
 fn is_taken<G: Drop, F: Drop>(judgement: Result<Option<G>, NotTaken<F>>) -> bool
     ensures value { result ≡ is_ok judgement }
 {
@@ -112,7 +112,7 @@ pub(super) fn judge_last<S: FieldFormat>(
     }
 }
 
-// The same for a run that begins at this place.
+// Judges the run that a byte ends, and that begins at this place, as `judge_last`.
 fn judge_last_of_run<S: FieldFormat>(
     alloc: Global,
     state: &mut S,

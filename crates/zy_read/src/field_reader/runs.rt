@@ -51,8 +51,9 @@ impl<S: FieldFormat> FieldReader<S> {
         }
     }
 
-    // Takes the next field where the bytes begin with all of it and do not end there, and it gives
-    // no record and is not wrong. Returns its size, or 0; if memory for it was refused, 0.
+    // Takes the next field if the bytes begin with all of it and do not end there, and it gives no
+    // record and is not wrong. Returns its size; 0 if it was not taken, also because an allocation
+    // failed.
     #[tactic(auto, using(crate::proofs::Feeding::fed_none))]
     fn take_field(&mut self, bytes: &[u8]) -> usize
         requires some { 0 < length bytes.now }
@@ -78,15 +79,15 @@ impl<S: FieldFormat> FieldReader<S> {
         size
     }
 
-    // No byte of the next field was read.
+    // Checks whether no byte of the next field was read.
     fn is_between(&self) -> bool
         ensures value { result ≡ true → self.now.seen ≡ [] }
     {
         self.field.len() == 0 && self.payload.len() == 0
     }
 
-    // Takes bytes of a run, from some place on, but not its last one; where memory is wanted for
-    // them, none.
+    // Takes bytes of a run, from some place on, but not its last one. Takes none if an allocation
+    // fails.
     #[tactic(auto, using(crate::proofs::FieldLemmas::run_fed, crate::proofs::Feeding::fed_none))]
     pub(super) fn take_part(&mut self, bytes: &[u8], at: usize) -> usize
         requires place { at < length bytes.now }
@@ -113,7 +114,7 @@ impl<S: FieldFormat> FieldReader<S> {
         }
     }
 
-    // Takes bytes of a run, but not its last one, where there is memory.
+    // Takes bytes of a run, but not its last one. Returns false if an allocation failed.
     pub(super) fn append(&mut self, others: u64, bytes: &[u8]) -> bool
         requires shape { S.shape_of self.old.state ≡ Kinds.Run others }
         requires fits { length self.old.seen + length bytes.now ≤ others }

@@ -50,7 +50,7 @@ impl<S: FieldFormat> Reads for FieldReader<S> {
 }
 
 impl<S: FieldFormat> FieldReader<S> {
-    // A byte of a field.
+    // Takes a byte of a field.
     fn take_byte(&mut self, byte: u8) -> Result<Option<S::Gives>, NotTaken<S::Fault>>
         requires open { self.old.fault ≡ None }
         requires room { is_full S.fields self.old ≡ false }
