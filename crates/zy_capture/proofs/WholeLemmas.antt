@@ -1,4 +1,4 @@
--- A text is good exactly where it is the spelling of a capture.
+-- A text is good if and only if it is the spelling of a capture.
 use Rattle.std.proofs.Common.{◌≡◌, inl, inr, ℕ, ◌+◌, ◌<◌, ◌≤◌, true, List, [], ◌∷◌, ◌++◌, length, refl, sym, ◌∙◌, subst, arith}
 use Rattle.std.specs.Prelude.{Option, None, Some, flat_map}
 use Rattle.std.specs.List.{concat}

@@ -1,4 +1,4 @@
--- The capture format, docs/FORMATS.md, "Capture": its values, their one spelling, and which values have one.
+-- The capture format, docs/FORMATS.md, "Capture": its values, their encoding, and which values have one.
 use Rattle.std.specs.Prelude.{◌≡◌, ◌⊎◌, ℕ, ◌+◌, ◌<◌, ◌≤◌, List, [], ◌∷◌, ◌++◌, length, flat_map, codes}
 use Rattle.std.specs.List.{AllByRecursion}
 use Rattle.std.specs.Int.{to_be_bytes, w32}
@@ -54,6 +54,6 @@ pub record Spells (text : List ℕ) (version count : ℕ) (items : List Record) 
   pub spelled : text ≡ spelling version count items
   pub short : length text ≤ capture_limit
 
--- the bytes of a capture up to its end, or up to a further record
+-- the bytes of a capture before its end, or before another record
 abbrev pub front_text : ℕ → ℕ → List Record → List ℕ
 front_text version count items = capture_magic version ++ to_be_bytes w32 count ++ flat_map spelled items

@@ -1,4 +1,4 @@
--- The replies format, docs/FORMATS.md, "Replies": its values, their one spelling, and which values have one.
+-- The replies format, docs/FORMATS.md, "Replies": its values, their encoding, and which values have one.
 use Rattle.std.specs.Prelude.{◌≡◌, ◌⊎◌, ℕ, ◌+◌, ◌-◌, ◌^◌, ◌<◌, ◌≤◌, ◌==◌, if◌then◌else◌, List, [], ◌∷◌, ◌++◌, length}
 use Rattle.std.specs.Prelude.{flat_map, codes, ⊤}
 use Rattle.std.specs.Int.{to_be_bytes, w32, w64}
@@ -27,7 +27,7 @@ output_text version conn session bytes =
 
 -- ---- the text of all outputs
 
--- the texts of things that are numbered from some number on
+-- the texts of things that are numbered in order, from some number on, joined
 abbrev pub numbered_from : {X : Type 0} → (ℕ → X → List ℕ) → ℕ → List X → List ℕ
 numbered_from text number [] = []
 numbered_from text number (x ∷ xs) = text number x ++ numbered_from text (number + 1) xs
@@ -102,18 +102,19 @@ pub record SpellsReplies (text : List ℕ) (version : ℕ) (items : List Session
 
 -- ---- beginnings
 
--- the bytes of a replies file up to its end, or up to a further record
+-- the bytes of a replies file before its end, or before another record
 abbrev pub front_text : ℕ → List SessionBytes → List ℕ
 front_text version items = replies_magic version ++ flat_map (spelled version) items
 
--- ---- lawful numbers
+-- ---- counts
 
--- how many connections have an output after these, where there were some before
+-- how many connections have an output after these outputs, by how many had one before
 abbrev pub connections_after : ℕ → List SessionBytes → ℕ
 connections_after connections [] = connections
 connections_after connections (item ∷ items) = connections_after (item.conn + 1) items
 
--- how many sessions the last connection has after these outputs, where the last one before had some
+-- how many sessions the last connection has after these outputs, by how many the last one before
+-- had
 abbrev pub sessions_after : ℕ → List SessionBytes → ℕ
 sessions_after sessions [] = sessions
 sessions_after sessions (item ∷ items) = sessions_after (item.session + 1) items

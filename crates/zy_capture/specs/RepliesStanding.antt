@@ -33,7 +33,7 @@ abbrev pub IsOfOutput : RepliesPlace → ℕ → Type 0
 IsOfOutput p byte =
     ((conn session others : ℕ) × (p.state.due ≡ Output conn session others)) × (p.at < replies_limit)
 
--- ---- for the reader alone
+-- ---- for the reader only
 
 -- what is expected may be at this place: a part of the magic is at its own, and the numbers are within their bounds
 abbrev pub IsInRepliesBounds : RepliesDue → ℕ → Type 0
@@ -43,6 +43,6 @@ IsInRepliesBounds (Length conn session) at = AreNumbers conn session
 IsInRepliesBounds (Output conn session others) at = AreNumbers conn session
 IsInRepliesBounds due at = ⊤
 
--- an output is expected, for which memory is wanted
+-- an output is expected, which needs memory
 abbrev pub IsOutputDue : RepliesState → Type 0
 IsOutputDue s = (others : ℕ) × (shape s.due ≡ Run others)

@@ -52,7 +52,7 @@ after_magic s at step =
     magic_judged (λ part. record s { due = Magic part }) (λ version. record s { due = Tag; version = version })
     (Form at) step
 
--- the tag of a record, or the end
+-- what the tag of a record does, or the end
 abbrev pub tag : RepliesState → ℕ → ℕ → Judged RepliesState SessionBytes FileFault
 tag s at byte = if byte == 82 then goes s Connection else if byte == 69 then goes s Nothing else Wrong (Form at)
 
@@ -71,17 +71,17 @@ connection s at conn =
     if may_come s conn then (if s.version == 2 then goes s (Session conn) else goes s (Length conn 0))
     else Wrong (Form at)
 
--- the session of a record
+-- what the session of a record does
 abbrev pub session : ℕ → RepliesState → ℕ → ℕ → Judged RepliesState SessionBytes FileFault
 session conn s at number =
     if number == due_session s conn && nat_lt number (2 ^ 31) then goes s (Length conn number) else Wrong (Form at)
 
--- the length of an output
+-- what the length of an output does
 abbrev pub size_read : ℕ → ℕ → RepliesState → ℕ → Judged RepliesState SessionBytes FileFault
 size_read conn session s size =
     if size == 0 then gives s conn session [] else goes s (Output conn session (size - 1))
 
--- a whole field, where this is expected
+-- what a whole field does when this is expected
 abbrev pub judged : RepliesDue → RepliesState → ℕ → List ℕ → Judged RepliesState SessionBytes FileFault
 judged (Magic part) s at field = after_magic s at (magic_step part letters at (get_or field 0 0))
 judged Tag s at field = tag s at (get_or field 0 0)

@@ -16,7 +16,7 @@ pub record IsCaptureSoFar (text : List ℕ) : Type 0 where
   pub version_is : version_of text ≡ Some version
   pub count_is : count_of text ≡ Some count
   pub lawful : IsCapture version count (records_of text)
-  -- five bytes were spent on each close
+  -- each close took five bytes
   pub spent : (conn : ℕ) → 5 * closes conn (records_of text) ≤ length text
   pub few : (conn : ℕ) → closes conn (records_of text) < 2 ^ 31
 

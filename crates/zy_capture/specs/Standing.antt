@@ -36,7 +36,7 @@ pub record IsLengthEnd (p : CaptureProgress) (byte : ℕ) : Type 0 where
   pub lawful : number (p.seen ++ byte ∷ []) ≤ segment_limit
   pub within : p.at < capture_limit
 
--- ---- for the reader alone
+-- ---- for the reader only
 
 -- the step gives this answer and state; `NoMemory` changes nothing, and is answered only at the end of a length
 abbrev pub Takes : CaptureStep → CaptureProgress → CaptureProgress → ℕ → Result (Option Record) (NotTaken CaptureFault)
@@ -56,7 +56,7 @@ IsDueInBounds (Payload conn others) at field payload room = (length payload ≤ 
 IsDueInBounds Nothing at field payload room = field ≡ []
 IsDueInBounds due at field payload room = length field < 4
 
--- the same, where this fault was met or none; after one no byte is kept
+-- the same, by the fault that was met; after a fault no byte is kept
 abbrev pub IsWithinBy : Option CaptureFault → Due → ℕ → List ℕ → List ℕ → ℕ → Type 0
 IsWithinBy None due at field payload room = IsDueInBounds due at field payload room
 IsWithinBy (Some fault) due at field payload room = seen_of due field payload ≡ []

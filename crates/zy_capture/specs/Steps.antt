@@ -21,7 +21,7 @@ use Rattle.zy_capture.specs.Capture.{letters, connection_limit, segment_limit, c
 
 -- ---- the state
 
--- the state of a capture of this version and with this count, where this is the next field
+-- the state of a capture of this version and with this count, when this is the next field
 abbrev pub state : Due → ℕ → ℕ → CaptureState
 state due version count = record { due = due; version = version; count = count }
 
@@ -57,7 +57,7 @@ Judgement = Judged CaptureState Record CaptureFault
 abbrev pub number : List ℕ → ℕ
 number field = from_be_bytes w32 field
 
--- the byte of one
+-- the byte of a field of one byte
 abbrev pub byte : List ℕ → ℕ
 byte field = get_or field 0 0
 
@@ -65,17 +65,17 @@ byte field = get_or field 0 0
 abbrev pub segment : ℕ → List ℕ → Record
 segment conn bytes = Kinds.Segment (record { conn = conn; bytes = bytes })
 
--- a byte of the magic
+-- what a byte of the magic does
 abbrev pub judge_magic : CaptureState → ℕ → MagicStep → Judgement
 judge_magic s at step =
     magic_judged (λ part. to s (Magic part)) (λ version. state Count version s.count) (BadMagic at) step
 
--- the connection count
+-- what the connection count does
 abbrev pub judge_count : CaptureState → ℕ → Judgement
 judge_count s count =
     if nat_lt connection_limit count then Wrong (ConnCount count) else Then (state Tag s.version count)
 
--- the tag of a record, or the end
+-- what the tag of a record does, or the end
 abbrev pub judge_tag : CaptureState → ℕ → ℕ → Judgement
 judge_tag s at tag =
     if tag == 83 then Then (to s Connection)
@@ -83,24 +83,24 @@ judge_tag s at tag =
     else if tag == 67 && s.version == 2 then Then (to s Closed)
     else Wrong (BadTag at tag)
 
--- the connection of a segment
+-- what the connection of a segment does
 abbrev pub judge_connection : CaptureState → ℕ → ℕ → Judgement
 judge_connection s at conn =
     if nat_lt conn s.count then Then (to s (Length conn)) else Wrong (ConnRange at conn)
 
--- the length of a segment of this connection; one of length zero is whole
+-- what the length of a segment of this connection does; a segment of length zero is whole
 abbrev pub judge_length : CaptureState → ℕ → ℕ → ℕ → Judgement
 judge_length s conn at size =
     if nat_lt segment_limit size then Wrong (SegmentLength at size)
     else if size == 0 then Gives (to s Tag) (segment conn [])
     else Then (to s (Payload conn (size - 1)))
 
--- the connection of a close record
+-- what the connection of a close record does
 abbrev pub judge_closed : CaptureState → ℕ → ℕ → Judgement
 judge_closed s at conn =
     if nat_lt conn s.count then Gives (to s Tag) (Kinds.Close conn) else Wrong (ConnRange at conn)
 
--- a whole field that begins at this place
+-- what a whole field that begins at this place does
 abbrev pub judged : Due → CaptureState → ℕ → List ℕ → Judgement
 judged (Magic part) s at field = judge_magic s at (magic_step part letters at (byte field))
 judged Count s at field = judge_count s (number field)
@@ -133,7 +133,7 @@ CaptureProgress = Place CaptureState CaptureFault
 abbrev pub CaptureStep : Type 0
 CaptureStep = Reads.Step CaptureProgress Record
 
--- the place after a field that ends here, where this is the state
+-- the progress after a field that ends here and leads to this state
 abbrev pub after_field : CaptureProgress → CaptureState → CaptureProgress
 after_field p s = record p { state = s; seen = []; at = p.at + 1 }
 

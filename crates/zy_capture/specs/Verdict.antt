@@ -1,5 +1,5 @@
 -- The verdict on a whole text: the capture that it spells, or its first fault. A text is read from
--- its first byte to its last. That it is good exactly where it is a spelling is a law in
+-- its first byte to its last. That it is good if and only if it is a spelling is a law in
 -- src/laws.rt.
 use Rattle.std.specs.Prelude.{ℕ, Bool, true, false, List, Option, None, Some}
 use Rattle.zy_read.specs.Format.{Format, reading_of, given_by, fault_met, verdict_on}
@@ -38,7 +38,7 @@ is_good (Bad fault) = false
 
 -- ---- what was met in a text, whatever follows
 
--- the connection count, where it was read whole and not refused
+-- the connection count, if it was read whole and is not too large
 abbrev pub count_in : Due → ℕ → Option ℕ
 count_in (Magic part) count = None
 count_in Count count = None
@@ -52,7 +52,7 @@ is_record_open (Payload conn others) = true
 is_record_open Closed = true
 is_record_open due = false
 
--- the same, where this fault was met or none
+-- the same, by the fault that was met
 abbrev pub is_within_by : Option CaptureFault → Due → Bool
 is_within_by None due = is_record_open due
 is_within_by (Some fault) due = false

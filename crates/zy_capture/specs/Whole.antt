@@ -6,7 +6,7 @@ use Rattle.zy_capture.specs.declared.due.Due.TheVariants.{Tag}
 use Rattle.zy_capture.specs.Capture.{spelled, segment_limit, capture_limit}
 use Rattle.zy_capture.specs.Steps.{CaptureProgress, number}
 
--- its length can be spelled in four bytes
+-- its length fits into four bytes
 abbrev pub HasLength : Record → Type 0
 HasLength (Kinds.Segment s) = length s.bytes < 2 ^ 32
 HasLength (Kinds.Close conn) = ⊤
@@ -15,7 +15,7 @@ HasLength (Kinds.Close conn) = ⊤
 abbrev pub BeginsWithRecord : List ℕ → Type 0
 BeginsWithRecord bytes = (item : Record) × ((rest : List ℕ) × (HasLength item × (bytes ≡ spelled item ++ rest)))
 
--- ---- for the reader alone
+-- ---- for the reader only
 
 -- the connection of a segment with which bytes begin, and the number of its bytes
 abbrev pub front_conn : List ℕ → ℕ
@@ -31,7 +31,7 @@ pub record HoldsSegment (bytes : List ℕ) (conn size : ℕ) : Type 0 where
   pub size_is : size ≡ front_size bytes
   pub whole : 9 + size ≤ length bytes
 
--- the same where a record may begin, and it is lawful there
+-- the same where a record may begin, and the segment is valid there
 pub record TakesSegment (p : CaptureProgress) (bytes : List ℕ) (conn size : ℕ) : Type 0 where
   pub holds : HoldsSegment bytes conn size
   pub due : p.state.due ≡ Tag

@@ -5,7 +5,7 @@ use zy_read::NotTaken;
 /// What is wrong with a capture. Places count from 0 in the file.
 #[derive(Clone, Copy, PartialEq, Eq)]
 pub enum CaptureFault {
-    /// The byte at this place is that of no magic.
+    /// The byte at this place belongs to no magic.
     BadMagic { at: u64 },
     /// The connection count is over 4,096.
     ConnCount { number: u32 },

@@ -2,8 +2,8 @@
 
 use crate::due::Due;
 
-/// What is expected next, the version, or 0 before the magic was read, and the connection count, or
-/// 0 before it was read.
+/// What is expected next, the version and the connection count; these two are 0 until they were
+/// read.
 #[derive(Clone, Copy)]
 pub(crate) struct CaptureState {
     pub(crate) due: Due,

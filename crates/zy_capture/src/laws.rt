@@ -6,7 +6,7 @@ ghost use Rattle.zy_read.specs.Bytes.{AreBytes};
 ghost use Rattle.zy_capture.specs.Verdict.{verdict};
 ghost use Rattle.zy_capture.specs.Verdict.Verdict.{Good};
 
-/// A text is good, with a version, a count and records, exactly where it is their spelling, they
+/// A text is good, with a version, a count and records, if and only if it is their spelling, they
 /// are those of a capture, and it has at most 4,294,967,295 bytes.
 pub fn a_capture_is_good_exactly_where_it_is_a_spelling()
     ensures exactly { (text : List ℕ) (version count : ℕ) (items : List Record) → AreBytes text

@@ -33,7 +33,7 @@ impl Model for Outputs {
 }
 
 impl Outputs {
-    /// No output, of a version that is 1 or 2. Takes no memory.
+    /// Begins without an output, in version 1 or 2. Takes no memory.
     pub fn new(alloc: Global, version: u32) -> Outputs
         requires version { (version ≡ 1) ⊎ (version ≡ 2) }
         ensures version { result.version ≡ version }
@@ -47,7 +47,7 @@ impl Outputs {
     }
 
     /// Adds the output of the next connection's first session or, in version 2, of the last
-    /// connection's next session. After a refusal it is handed back.
+    /// connection's next session. If allocation fails it is handed back.
     pub fn add(&mut self, conn: u32, bytes: Blob) -> Result<(), (Blob, NoMemory)>
         requires next { MayAdd self.old conn }
         ensures ok { OnOk result (self.new ≡ with_output self.old conn bytes) }
@@ -63,7 +63,7 @@ impl Outputs {
         }
     }
 
-    /// The version, 1 or 2.
+    /// Returns the version, 1 or 2.
     pub fn version(&self) -> u32
         ensures value { result ≡ self.now.version }
         ensures known { (result ≡ 1) ⊎ (result ≡ 2) }
@@ -72,7 +72,7 @@ impl Outputs {
         self.version
     }
 
-    /// The number of connections that have an output.
+    /// Returns the number of connections that have an output.
     pub fn count(&self) -> u32
         ensures value { result ≡ length self.now.sessions }
         ensures limit { result ≤ connection_limit }
@@ -80,7 +80,7 @@ impl Outputs {
         self.connections.len() as u32
     }
 
-    /// The number of sessions of a connection.
+    /// Returns the number of sessions of a connection.
     pub fn sessions(&self, conn: u32) -> u32
         requires within { conn < length self.now.sessions }
         ensures value { result ≡ length (sessions_of self.now.sessions conn) }
@@ -90,7 +90,7 @@ impl Outputs {
         self.connections[conn as usize].count()
     }
 
-    /// The output of a session of a connection.
+    /// Returns the output of a session of a connection.
     pub fn output(&self, conn: u32, session: u32) -> &[u8]
         requires within { conn < length self.now.sessions }
         requires session { session < length (sessions_of self.now.sessions conn) }

@@ -49,7 +49,7 @@ impl Model for Reader {
 }
 
 impl Reader {
-    /// A reader to which no byte was fed. Takes no memory.
+    /// Makes a reader to which no byte was fed. Takes no memory.
     pub fn new(alloc: Global) -> Reader
         ensures value { StandsForRecords result [] [] }
     {
@@ -77,7 +77,7 @@ impl Reader {
         ensures exact { TellsFault captures self.old (byte ∷ []) result }
         ensures lasts { TellsLasting captures self.old (byte ∷ []) result }
 
-        // A refused allocation.
+        // If an allocation failed.
         ensures kept { result ≡ Err NoMemory → self.new ≡ self.old }
         ensures memory { result ≡ Err NoMemory → IsLengthEnd self.old byte }
     {
@@ -111,8 +111,9 @@ impl Reader {
         }
     }
 
-    /// Takes bytes of those that are left of a piece, as `feed_piece` does, and leaves them there. A
-    /// segment that the piece holds whole shares its bytes with the piece, if it has more than 16.
+    /// Takes some of the bytes that are left of a piece, as `feed_piece` does, and leaves them in
+    /// it. A segment that the piece holds whole shares its bytes with the piece, if it has more
+    /// than 16.
     #[inline(always)]
     pub fn feed_left(&mut self, pieces: &mut Pieces) -> Fed<Record, CaptureFault>
         requires some { 0 < length pieces.old }
@@ -136,7 +137,8 @@ impl Reader {
         }
     }
 
-    /// 1 or 2; `None` exactly where the magic was not read whole or was refused.
+    /// Returns the version, 1 or 2; `None` if and only if the magic was not read whole or was
+    /// wrong.
     #[tactic(auto, using(crate::proofs::Feeding::version_here))]
     pub fn version(&self) -> Option<u32>
         ensures value { AnswersBy captures self.now version_of result }
@@ -147,7 +149,7 @@ impl Reader {
         }
     }
 
-    /// The connection count; `None` exactly where it was not read whole or was refused.
+    /// Returns the connection count; `None` if and only if it was not read whole or was too large.
     #[tactic(auto, using(crate::proofs::Feeding::count_here))]
     pub fn count(&self) -> Option<u32>
         ensures value { AnswersBy captures self.now count_of result }
@@ -158,7 +160,7 @@ impl Reader {
         }
     }
 
-    /// True exactly where a record was begun that has not ended.
+    /// Checks whether a record was begun that has not ended.
     #[tactic(auto, using(crate::proofs::Feeding::within_here))]
     pub fn is_within_record(&self) -> bool
         ensures value { AnswersBy captures self.now is_within_record result }
@@ -170,7 +172,7 @@ impl Reader {
             )
     }
 
-    /// True exactly where the end was read and no fault was met.
+    /// Checks whether the end was read and no fault was met.
     #[tactic(auto, using(zy_read::proofs::Feeding::verdict_here))]
     pub fn is_done(&self) -> bool
         ensures value { AnswersBy captures self.now (λ b. is_good (verdict b)) result }
@@ -178,7 +180,7 @@ impl Reader {
         self.fault.is_none() && matches!(self.state.due, Due::Nothing)
     }
 
-    /// Whether the bytes that were fed are a whole capture, and their fault otherwise.
+    /// Checks whether the bytes that were fed are a whole capture; answers their fault if not.
     #[tactic(auto, using(zy_read::proofs::Feeding::verdict_here))]
     pub fn end(&self) -> Result<(), CaptureFault>
         ensures value { EndsBy self.now result }

@@ -16,7 +16,7 @@ pub struct Segment {
 pub enum Record {
     /// Bytes came on a connection.
     Segment(Segment),
-    /// A connection closed, and the next bytes with its number are those of a new session. In
-    /// version 2 alone.
+    /// A connection closed, and the next bytes with its number are those of a new session. Version
+    /// 2 only.
     Close { conn: u32 },
 }

@@ -27,7 +27,7 @@ impl Model for RepliesReader {
 }
 
 impl RepliesReader {
-    /// A reader to which no byte was fed. Takes no memory.
+    /// Makes a reader to which no byte was fed. Takes no memory.
     pub fn new(alloc: Global) -> RepliesReader
         ensures value { StandsForReplies result [] [] }
     {
@@ -46,7 +46,7 @@ impl RepliesReader {
         ensures exact { TellsFault replies self.old (byte ∷ []) result }
         ensures lasts { TellsLasting replies self.old (byte ∷ []) result }
 
-        // A refused allocation.
+        // If an allocation failed.
         ensures kept { result ≡ Err NoMemory → self.new ≡ self.old }
         ensures memory { result ≡ Err NoMemory → IsOfOutput self.old byte }
     {
@@ -74,7 +74,8 @@ impl RepliesReader {
         feed_piece(&mut self.reader, bytes)
     }
 
-    /// 1 or 2; `None` exactly where the magic was not read whole or was refused.
+    /// Returns the version, 1 or 2; `None` if and only if the magic was not read whole or was
+    /// wrong.
     #[tactic(auto, using(crate::proofs::RepliesFeeding::version_here))]
     pub fn version(&self) -> Option<u32>
         ensures value { AnswersBy replies self.now version_of result }
@@ -85,7 +86,7 @@ impl RepliesReader {
         }
     }
 
-    /// True exactly where the end was read and no fault was met.
+    /// Checks whether the end was read and no fault was met.
     #[tactic(auto, using(zy_read::proofs::Feeding::verdict_here))]
     pub fn is_done(&self) -> bool
         ensures value { AnswersBy replies self.now (λ b. is_good (verdict b)) result }
@@ -93,7 +94,7 @@ impl RepliesReader {
         self.reader.end().is_ok()
     }
 
-    /// Whether the bytes that were fed are a whole replies file, and their fault otherwise.
+    /// Checks whether the bytes that were fed are a whole replies file; answers their fault if not.
     #[tactic(auto, using(zy_read::proofs::Feeding::verdict_here))]
     pub fn end(&self) -> Result<(), FileFault>
         ensures value { EndsBy self.now result }

@@ -35,7 +35,7 @@ pub(crate) struct RepliesState {
 }
 
 impl RepliesState {
-    // Before the first byte.
+    // Makes the state before the first byte.
     pub(crate) fn new() -> RepliesState
         ensures value { result ≡ start }
     {
@@ -47,7 +47,7 @@ impl RepliesState {
         }
     }
 
-    // Whether a record of this connection may come next.
+    // Checks whether a record of this connection may come next.
     fn may_come(&self, conn: u32) -> bool
         ensures value { result ≡ may_come self.now conn }
     {
@@ -55,7 +55,7 @@ impl RepliesState {
             && (conn == self.connections || (self.version == 2 && conn + 1 == self.connections))
     }
 
-    // The next session of a connection.
+    // Returns the next session of a connection.
     fn due_session(&self, conn: u32) -> u32
         ensures value { result ≡ due_session self.now conn }
     {
@@ -66,7 +66,7 @@ impl RepliesState {
         }
     }
 
-    // The output of this session, at its last byte.
+    // Ends the output of this session, at its last byte.
     fn end_output(&mut self, conn: u32, session: u32, bytes: Blob) -> SessionBytes
         requires within { AreNumbers conn session }
         ensures value { self.new ≡ after_output self.old conn session }
@@ -115,7 +115,7 @@ impl FieldFormat for RepliesState {
         matches!(self.due, RepliesDue::Nothing)
     }
 
-    // An output ends a record, and so does a length of 0.
+    // Checks whether the next field gives no record; an output ends one, and so does a length of 0.
     #[tactic(auto, using(crate::proofs::RepliesFeeding::quiet))]
     fn is_quiet(&self) -> bool {
         !matches!(
@@ -136,7 +136,7 @@ impl FieldFormat for RepliesState {
         FileFault::Truncated { at }
     }
 
-    // A byte of the magic, the tag of a record, or the end.
+    // Judges a byte of the magic, the tag of a record, or the end.
     fn judge_byte(
         &mut self,
         alloc: Global,
@@ -159,7 +159,7 @@ impl FieldFormat for RepliesState {
         Ok(None)
     }
 
-    // The connection of a record, or its session, in version 2.
+    // Judges the connection of a record, or its session, in version 2.
     fn judge_four(
         &mut self,
         alloc: Global,
@@ -190,7 +190,7 @@ impl FieldFormat for RepliesState {
         Ok(None)
     }
 
-    // The length of an output.
+    // Judges the length of an output.
     fn judge_eight(
         &mut self,
         alloc: Global,
@@ -214,7 +214,7 @@ impl FieldFormat for RepliesState {
         }
     }
 
-    // A whole output.
+    // Judges a whole output.
     fn judge_run(
         &mut self,
         alloc: Global,
@@ -230,7 +230,7 @@ impl FieldFormat for RepliesState {
         }
     }
 
-    // None.
+    // Takes none.
     #[tactic(auto, using(zy_read::proofs::OverLemmas::over_none))]
     fn judge_front(&mut self, alloc: Global, at: u64, bytes: &[u8]) -> usize {
         0

@@ -26,7 +26,7 @@ impl Model for Sessions {
 }
 
 impl Sessions {
-    // One session with these bytes.
+    // Begins with one session, which has these bytes.
     pub(crate) fn one(alloc: Global, bytes: Blob) -> Sessions
         ensures value { result ≡ bytes ∷ [] }
     {
@@ -36,7 +36,7 @@ impl Sessions {
         }
     }
 
-    // Appends to the last session.
+    // Appends the bytes to the last session.
     pub(crate) fn grow_last(&mut self, bytes: &[u8]) -> Result<(), NoMemory>
         ensures ok { OnOk result (self.new ≡ last_grown self.old bytes.now) }
         ensures err { OnErr result (self.new ≡ self.old) }
@@ -44,7 +44,7 @@ impl Sessions {
         self.last.append(bytes)
     }
 
-    // Begins a session with these bytes; after a refusal they are handed back.
+    // Begins a session with these bytes; if allocation fails they are handed back.
     pub(crate) fn push(&mut self, bytes: Blob) -> Result<(), (Blob, NoMemory)>
         requires room { length self.old < 2 ^ 31 }
         ensures ok { OnOk result (self.new ≡ self.old ++ bytes ∷ []) }
@@ -59,14 +59,14 @@ impl Sessions {
         Ok(())
     }
 
-    // The bytes of the last session.
+    // Returns the bytes of the last session.
     pub(crate) fn into_last(self) -> Blob
         ensures value { result ≡ last_session self }
     {
         self.last
     }
 
-    // The number of sessions.
+    // Returns the number of sessions.
     pub(crate) fn count(&self) -> u32
         ensures value { result ≡ length self.now }
         ensures some { 0 < result }
@@ -75,7 +75,7 @@ impl Sessions {
         self.before.len() as u32 + 1
     }
 
-    // The bytes of a session.
+    // Returns the bytes of a session.
     pub(crate) fn bytes(&self, session: u32) -> &[u8]
         requires within { session < length self.now }
         ensures value { result.now ≡ slice_index_or self.now session [] }

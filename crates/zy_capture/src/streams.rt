@@ -30,7 +30,7 @@ impl Model for Streams {
 }
 
 impl Streams {
-    /// Each of `count` connections has one session, which is empty.
+    /// Gives each of `count` connections one empty session.
     pub fn new(alloc: Global, count: u32) -> Result<Streams, NoMemory>
         requires limit { count ≤ connection_limit }
         ensures value { IfOk result (λ streams. streams ≡ no_bytes count) }
@@ -67,7 +67,7 @@ impl Streams {
         }
     }
 
-    /// The number of connections.
+    /// Returns the number of connections.
     pub fn count(&self) -> u32
         ensures value { result ≡ length self.now }
         ensures limit { result ≤ connection_limit }
@@ -75,7 +75,7 @@ impl Streams {
         self.connections.len() as u32
     }
 
-    /// The number of sessions of a connection.
+    /// Returns the number of sessions of a connection.
     pub fn sessions(&self, conn: u32) -> u32
         requires within { conn < length self.now }
         ensures value { result ≡ length (sessions_of self.now conn) }
@@ -85,7 +85,7 @@ impl Streams {
         self.connections[conn as usize].count()
     }
 
-    /// The bytes of a session of a connection.
+    /// Returns the bytes of a session of a connection.
     pub fn stream(&self, conn: u32, session: u32) -> &[u8]
         requires within { conn < length self.now }
         requires session { session < length (sessions_of self.now conn) }

@@ -15,7 +15,7 @@ pub(crate) struct Head {
     pub(crate) size: u32,
 }
 
-/// Whether bytes begin with a whole record, whatever its connection and its length are.
+/// Checks whether bytes begin with a whole record, whatever its connection and its length are.
 pub fn begins_with_record(bytes: &[u8]) -> bool
     ensures value { (result ≡ true) ↔ BeginsWithRecord bytes.now }
 {
@@ -32,7 +32,7 @@ pub fn begins_with_record(bytes: &[u8]) -> bool
     false
 }
 
-// The head of the segment with which bytes begin, if they hold it whole.
+// Returns the head of the segment with which bytes begin, if they hold it whole.
 pub(crate) fn held_segment(bytes: &[u8]) -> Option<Head>
     ensures some { IfSome result (λ head. HoldsSegment bytes.now head.conn head.size) }
     ensures none { IfNone result ((conn size : ℕ) → HoldsSegment bytes.now conn size → ⊥) }

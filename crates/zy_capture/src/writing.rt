@@ -19,7 +19,7 @@ pub fn write_replies<K: Sink>(sink: &mut K, outputs: &Outputs) -> Result<(), Fai
     write_whole(sink, b"E")
 }
 
-// The magic of a version.
+// Returns the magic of a version.
 fn magic_of(version: u32) -> &'static [u8]
     requires version { (version ≡ 1) ⊎ (version ≡ 2) }
     ensures value { result.now ≡ replies_magic version }
@@ -31,7 +31,7 @@ fn magic_of(version: u32) -> &'static [u8]
     }
 }
 
-// The records of all connections.
+// Writes the records of all connections.
 fn write_connections<K: Sink>(sink: &mut K, outputs: &Outputs) -> Result<(), Failed>
     ensures writes { Writes K.holds K.faults K.finishes sink.old sink.new result
         (numbered_from (connection_text outputs.now.version) 0 outputs.now.sessions) }
@@ -42,7 +42,7 @@ fn write_connections<K: Sink>(sink: &mut K, outputs: &Outputs) -> Result<(), Fai
     Ok(())
 }
 
-// The records of a connection.
+// Writes the records of a connection.
 fn write_connection<K: Sink>(sink: &mut K, outputs: &Outputs, conn: u32) -> Result<(), Failed>
     requires within { conn < length outputs.now.sessions }
     ensures writes { Writes K.holds K.faults K.finishes sink.old sink.new result
@@ -60,7 +60,7 @@ fn write_connection<K: Sink>(sink: &mut K, outputs: &Outputs, conn: u32) -> Resu
     Ok(())
 }
 
-// A record.
+// Writes a record.
 fn write_output<K: Sink>(
     sink: &mut K,
     version: u32,

@@ -10,8 +10,8 @@ use super::steps::CAPTURE_LIMIT;
 use crate::due::Due;
 
 impl Reader {
-    // Takes the eight bytes that a segment begins with, up to the last byte of its length, where they are
-    // that and of a connection below the count; and says whether.
+    // Takes eight bytes, if they begin a segment of a connection below the count, up to the last
+    // byte of its length. Says whether it did.
     #[tactic(auto, using(crate::proofs::HeadLemmas::head_fed))]
     pub(super) fn take_head(&mut self, head: &[u8]) -> bool
         requires none { self.old.fault ≡ None }
@@ -31,7 +31,7 @@ impl Reader {
         }
     }
 
-    // The next byte is the last one of the length of a segment of this connection.
+    // Goes on to the last byte of the length of a segment of this connection.
     pub(super) fn go_to_length(&mut self, conn: u32, e: u8, f: u8, g: u8)
         requires none { self.old.fault ≡ None }
         requires room { self.old.at + 8 ≤ capture_limit }

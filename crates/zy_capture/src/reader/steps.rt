@@ -54,7 +54,7 @@ impl Reads for Reader {
         }
     }
 
-    // Takes bytes of a segment, but not its last one; or what one begins with.
+    // Takes bytes of a segment, but not its last one, or the first bytes of one.
     #[tactic(auto, using(zy_read::proofs::FieldLemmas::run_fed, zy_read::proofs::Feeding::fed_none))]
     fn take_run(&mut self, bytes: &[u8], at: usize) -> usize {
         if self.fault.is_some() {
@@ -91,19 +91,19 @@ impl Reader {
         requires room { self.old.at + length bytes.now ≤ capture_limit }
         ensures value { self.new ≡ grown_by self.old bytes.now }
     {
-        // There is room: it was taken at the end of the length.
+        // There is room, which was reserved at the end of the length.
         self.payload.append(bytes);
         self.at += bytes.len() as u64;
     }
 
-    // The capture has its most bytes, and its end was not read.
+    // Checks whether the capture has its most bytes, and its end was not read.
     fn is_full(&self) -> bool
         ensures value { result ≡ is_full fields self.now }
     {
         self.at >= CAPTURE_LIMIT && !matches!(self.state.due, Due::Nothing)
     }
 
-    // The byte is the last one of a field.
+    // Goes on after the last byte of a field.
     #[tactic(auto, using(crate::proofs::Bounds::within_any, crate::proofs::Bounds::none_seen))]
     fn go_on(&mut self, due: Due)
         requires none { self.old.fault ≡ None }
@@ -116,7 +116,7 @@ impl Reader {
         self.at += 1;
     }
 
-    // The byte is one of a number, and not the last one.
+    // Keeps a byte of a number that is not the last one.
     #[tactic(auto, using(crate::proofs::Bounds::number_seen, crate::proofs::Bounds::number_within))]
     fn keep(&mut self, byte: u8)
         requires none { self.old.fault ≡ None }
@@ -129,7 +129,7 @@ impl Reader {
         self.at += 1;
     }
 
-    // The byte is a fault.
+    // Keeps the fault of a byte, and answers it.
     #[tactic(auto, using(crate::proofs::Bounds::nothing_seen))]
     fn refuse(&mut self, fault: CaptureFault) -> Result<Option<Record>, FeedFault>
         ensures value { result ≡ Err (Fault fault) }
@@ -141,7 +141,7 @@ impl Reader {
         Err(FeedFault::Fault(fault))
     }
 
-    // A byte of the magic.
+    // Takes a byte of the magic.
     fn feed_magic(&mut self, part: MagicPart, byte: u8) -> Result<Option<Record>, FeedFault>
         requires due { self.old.state.due ≡ Dues.Magic part }
         requires none { self.old.fault ≡ None }
@@ -159,7 +159,7 @@ impl Reader {
         Ok(None)
     }
 
-    // The tag of a record, or the end.
+    // Takes the tag of a record, or the end.
     fn feed_tag(&mut self, byte: u8) -> Result<Option<Record>, FeedFault>
         requires due { self.old.state.due ≡ Dues.Tag }
         requires none { self.old.fault ≡ None }
@@ -179,7 +179,7 @@ impl Reader {
         Ok(None)
     }
 
-    // A byte of a number.
+    // Takes a byte of a number.
     fn feed_number(&mut self, byte: u8) -> Result<Option<Record>, FeedFault>
         requires number { IsFour self.old.state.due }
         requires none { self.old.fault ≡ None }
@@ -199,7 +199,7 @@ impl Reader {
         }
     }
 
-    // The last byte of the connection count.
+    // Takes the last byte of the connection count.
     fn end_count(&mut self, byte: u8) -> Result<Option<Record>, FeedFault>
         requires due { self.old.state.due ≡ Dues.Count }
         requires last { length self.old.seen ≡ 3 }
@@ -216,7 +216,7 @@ impl Reader {
         Ok(None)
     }
 
-    // The last byte of the connection of a segment.
+    // Takes the last byte of the connection of a segment.
     fn end_connection(&mut self, byte: u8) -> Result<Option<Record>, FeedFault>
         requires due { self.old.state.due ≡ Dues.Connection }
         requires last { length self.old.seen ≡ 3 }
@@ -235,7 +235,7 @@ impl Reader {
         Ok(None)
     }
 
-    // The last byte of the connection of a close record.
+    // Takes the last byte of the connection of a close record.
     fn end_closed(&mut self, byte: u8) -> Result<Option<Record>, FeedFault>
         requires due { self.old.state.due ≡ Dues.Closed }
         requires last { length self.old.seen ≡ 3 }
@@ -254,7 +254,7 @@ impl Reader {
         Ok(Some(Record::Close { conn: number }))
     }
 
-    // The last byte of the length of a segment. It needs memory.
+    // Takes the last byte of the length of a segment. It needs memory.
     fn end_length(&mut self, conn: u32, byte: u8) -> Result<Option<Record>, FeedFault>
         requires due { self.old.state.due ≡ Dues.Length conn }
         requires last { length self.old.seen ≡ 3 }
@@ -283,7 +283,7 @@ impl Reader {
         }
     }
 
-    // The byte is the last one of the length of a segment that has bytes, for which there is room.
+    // Goes on after the length of a segment that has bytes, with room for them.
     fn begin_segment(&mut self, conn: u32, others: u32, room: Filling)
         requires none { self.old.fault ≡ None }
         requires room { self.old.at < capture_limit }
@@ -297,7 +297,7 @@ impl Reader {
         self.at += 1;
     }
 
-    // A byte of a segment.
+    // Takes a byte of a segment.
     fn feed_payload(
         &mut self,
         conn: u32,

@@ -20,11 +20,12 @@ use zy_read::{Fed, Pieces};
 // The bytes of a segment before its own.
 const FRONT: usize = HEAD + 1;
 
-// The last place where there is room for each segment.
+// The last place after which every segment fits.
 const LAST: u64 = CAPTURE_LIMIT - 65_544;
 
 impl Reader {
-    // The head of the segment with which bytes begin, if they hold it whole and it is lawful here.
+    // Returns the head of the segment with which bytes begin, if they hold it whole and it is
+    // lawful here.
     pub(super) fn lawful_segment(&self, bytes: &[u8]) -> Option<Head>
         ensures some { IfSome result (λ head. TakesSegment self.now bytes.now head.conn head.size) }
     {
@@ -40,8 +41,8 @@ impl Reader {
         Some(head)
     }
 
-    // Takes the segment that has this head and these bytes. If memory for them was refused, it takes
-    // those before the last one of its length.
+    // Takes the segment that has this head and these bytes. If an allocation fails, takes the bytes
+    // before the last one of its length.
     #[inline(always)]
     pub(super) fn take_segment(
         &mut self,
@@ -86,8 +87,7 @@ impl Reader {
     }
 }
 
-// A copy of the segment that has this size, and with which bytes begin. It is not refused if it is
-// empty.
+// Copies the segment of this size with which bytes begin. This cannot fail if it is empty.
 pub(super) fn copy_of(alloc: Global, bytes: &[u8], size: u32) -> Result<Blob, NoMemory>
     requires within { 9 + size ≤ length bytes.now }
     ensures value { IfOk result (λ payload. payload ≡ take size (drop 9 bytes.now)) }
@@ -100,7 +100,7 @@ pub(super) fn copy_of(alloc: Global, bytes: &[u8], size: u32) -> Result<Blob, No
     }
 }
 
-// The same with bytes that are shared with the piece, which stays.
+// Makes that segment with bytes that are shared with the piece, which is left as it is.
 #[inline(always)]
 pub(super) fn part_of(alloc: Global, pieces: &mut Pieces, size: u32) -> Result<Blob, NoMemory>
     requires within { 9 + size ≤ length pieces.old }
