@@ -35,7 +35,7 @@ counts_text counts =
     to_be_bytes w64 counts.gets ++ (to_be_bytes w64 counts.sets ++ (to_be_bytes w64 counts.hits
     ++ (to_be_bytes w64 counts.misses ++ to_be_bytes w64 counts.items)))
 
--- a field that is there, and nothing for one that is not
+-- the text of a field, or nothing if there is none
 abbrev pub field_text : {X : Type 0} → (X → List ℕ) → Option X → List ℕ
 field_text text None = []
 field_text text (Some x) = text x

@@ -25,7 +25,7 @@ head_of rests shard = first_stamp (history_of rests shard)
 abbrev pub AreHeads : List (List Entry) → List (Option ℕ) → Type 0
 AreHeads rests heads = (shard : ℕ) → get_or heads shard None ≡ head_of rests shard
 
--- of the lists from one up to another, this is the first entry that comes first
+-- this is the entry that comes first of the first entries of the lists from one up to another
 pub record IsFirstOf (rests : List (List Entry)) (low high : ℕ) (head : Head) : Type 0 where
   pub from : low ≤ head.shard
   pub to : head.shard < high
@@ -33,12 +33,12 @@ pub record IsFirstOf (rests : List (List Entry)) (low high : ℕ) (head : Head) 
   pub first : (shard stamp : ℕ) → low ≤ shard → shard < high → shard ≢ head.shard → head_of rests shard ≡ Some stamp
       → is_earlier head.stamp head.shard stamp shard ≡ true
 
--- the first entry that comes first of these lists; none if all of them are empty
+-- the one that comes first of the first entries of these lists; none if all are empty
 abbrev pub IsBest : List (List Entry) → ℕ → ℕ → Option Head → Type 0
 IsBest rests low high None = (shard : ℕ) → low ≤ shard → shard < high → head_of rests shard ≡ None
 IsBest rests low high (Some head) = IsFirstOf rests low high head
 
--- these are the first entries that come first, of each 16 lists
+-- these are, for every 16 lists, the first entries that come first
 abbrev pub AreBests : List (List Entry) → List (Option Head) → Type 0
 AreBests rests bests = (group : ℕ) → group < 16 → IsBest rests (16 * group) (16 * group + 16) (get_or bests group None)
 

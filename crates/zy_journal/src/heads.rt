@@ -11,7 +11,7 @@ pub(crate) struct Head {
     pub(crate) stamp: u64,
 }
 
-/// The stamp of the entry at a place, if there is one.
+/// Returns the stamp of the entry at a place, if there is one.
 pub(crate) fn stamp_at(history: &[Entry], at: usize) -> Option<u64>
     ensures value { result ≡ first_stamp (drop at history.now) }
 {
@@ -21,7 +21,7 @@ pub(crate) fn stamp_at(history: &[Entry], at: usize) -> Option<u64>
     Some(history[at].stamp)
 }
 
-/// The stamps of the first entries of all histories.
+/// Returns the stamps of the first entries of all histories.
 pub(crate) fn heads_of(histories: &[Entries]) -> [Option<u64>; 256]
     requires few { length histories.now ≤ 256 }
     ensures value { AreHeads histories.now result }
@@ -35,7 +35,7 @@ pub(crate) fn heads_of(histories: &[Entries]) -> [Option<u64>; 256]
     heads
 }
 
-/// Of each 16 histories the first entry that comes first.
+/// Returns, for every 16 histories, the one of their first entries that comes first.
 pub(crate) fn bests_of(heads: &[Option<u64>; 256]) -> [Option<Head>; 16]
     ensures value { (rests : _) → AreHeads rests heads.now → AreBests rests result }
 {
@@ -48,7 +48,7 @@ pub(crate) fn bests_of(heads: &[Option<u64>; 256]) -> [Option<Head>; 16]
     bests
 }
 
-/// The first entry that comes first of 16 histories.
+/// Returns the one that comes first of the first entries of 16 histories.
 pub(crate) fn best_of(heads: &[Option<u64>; 256], group: usize) -> Option<Head>
     requires within { group < 16 }
     ensures value { (rests : _) → AreHeads rests heads.now
@@ -64,7 +64,7 @@ pub(crate) fn best_of(heads: &[Option<u64>; 256], group: usize) -> Option<Head>
     best
 }
 
-// The head of a history with this stamp, if there is one.
+// Returns the head of a history with this stamp, if there is one.
 fn head_at(shard: usize, stamp: Option<u64>) -> Option<Head>
     ensures value { (rests : _) → head_of rests shard ≡ stamp
         → IsBest rests shard (shard + 1) result }
@@ -75,7 +75,8 @@ fn head_at(shard: usize, stamp: Option<u64>) -> Option<Head>
     }
 }
 
-/// Of the first heads of some histories and of those after them, the one that comes first.
+/// Returns the earlier one of two heads, the first one of some histories and that of those after
+/// them.
 pub(crate) fn first_of(before: Option<Head>, behind: Option<Head>) -> Option<Head>
     ensures value { (rests : _) (low middle high : ℕ) → low ≤ middle → middle ≤ high
         → IsBest rests low middle before → IsBest rests middle high behind

@@ -6,7 +6,7 @@ use crate::walk::Walk;
 use mc_calls::{Entries, Hold, Holds};
 use std::marker::Model;
 
-/// The calls of all connections in the order in which they count, and the holds. Contracts see the
+/// The calls of all connections in one order, and the holds. Contracts see the
 /// two lists: the entries by stamp and then by shard, and the holds by rising connection and, for
 /// one connection, in the order in which they happened.
 #[derive(Drop)]
@@ -37,7 +37,7 @@ impl Model for Journal {
 }
 
 impl Journal {
-    /// These lists, which it takes over. Takes no memory.
+    /// Makes a journal of these lists, which are moved. Takes no memory.
     pub fn new(entries: Entries, holds: Holds) -> Journal
         ensures entries { result.entries ≡ entries }
         ensures holds { result.holds ≡ holds }
@@ -48,7 +48,7 @@ impl Journal {
         }
     }
 
-    // The merged list of histories, and these holds.
+    // Makes the journal of the merged list of histories, and of these holds.
     pub(crate) fn apart(histories: Vec<Entries>, holds: Holds) -> Journal
         requires few { length histories.items ≤ 256 }
         requires ordered { AreInOrder histories.items }
@@ -61,7 +61,7 @@ impl Journal {
         }
     }
 
-    /// The entries, one after the other. Takes no memory.
+    /// Returns the entries, one after the other. Takes no memory.
     pub fn entries(&self) -> Walk<'_>
         ensures value { result ≡ self.now.entries }
     {
@@ -71,14 +71,14 @@ impl Journal {
         }
     }
 
-    /// The holds.
+    /// Returns the holds.
     pub fn holds(&self) -> &[Hold]
         ensures value { result.now ≡ self.now.holds }
     {
         self.holds.items()
     }
 
-    /// The number of entries; `None` if it does not fit in 64 bits.
+    /// Returns the number of entries; `None` if it does not fit in 64 bits.
     pub fn count(&self) -> Option<u64>
         ensures value { IfSome result (λ n. n ≡ length self.now.entries) }
     {
@@ -89,7 +89,7 @@ impl Journal {
     }
 }
 
-// The number of entries of all histories.
+// Returns the number of entries of all histories.
 fn count_of(histories: &[Entries]) -> Option<u64>
     ensures value { IfSome result (λ n. n ≡ length (merged histories.now)) }
 {

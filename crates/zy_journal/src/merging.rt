@@ -5,10 +5,11 @@ ghost use Rattle.mc_calls.specs.Order.{IsOrdered, IsMergeOf, history_of};
 use crate::journal::Journal;
 use mc_calls::{Histories, Holds};
 
-/// The entries of all histories by stamp and then by shard, and the holds. No entry is moved: the
-/// journal keeps the histories, and a walk through its entries merges them on the way.
+/// Makes the journal of the entries of all histories, by stamp and then by shard, and of the holds.
+/// No entry is moved: the journal keeps the histories, and a walk through its entries merges them
+/// on the way.
 ///
-/// Takes no memory, and is never `Err`.
+/// Takes no memory, and never answers `Err`.
 pub fn merge(histories: Histories, holds: Holds) -> Result<Journal, (Histories, Holds)>
     requires ordered { (shard : _) → IsOrdered None (history_of histories shard) }
     ensures ok { IfOk result (λ journal. IsMergeOf histories journal.entries) }

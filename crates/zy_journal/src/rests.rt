@@ -12,8 +12,8 @@ pub(crate) struct Rests<'h> {
     histories: &'h [Entries],
     // How many entries of each were taken.
     at: [usize; 256],
-    // The stamp of the first entry that is left of each, and of each 16 of them the one that comes
-    // first. So of 256 histories the next entry is found by 32 comparisons.
+    // The stamp of the first entry left of each history, and for every 16 histories the first entry
+    // that comes first. So the next entry of 256 histories is found by 32 comparisons.
     heads: [Option<u64>; 256],
     bests: [Option<Head>; 16],
 }
@@ -33,7 +33,7 @@ impl<'h> Model for Rests<'h> {
 }
 
 impl<'h> Rests<'h> {
-    // Histories of which nothing was taken.
+    // Begins before the first entry of each history.
     pub(crate) fn new(histories: &'h [Entries]) -> Rests<'h>
         requires few { length histories.now ≤ 256 }
         ensures value { result ≡ histories.now }
@@ -59,7 +59,7 @@ impl<'h> Rests<'h> {
         }
     }
 
-    // The history whose first entry comes next.
+    // Returns the history whose first entry comes next.
     fn least(&self) -> Option<usize>
         ensures some { IfSome result (λ shard. IsLeast self.now shard) }
         ensures within { IfSome result (λ shard. shard < 256) }

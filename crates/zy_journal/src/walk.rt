@@ -9,7 +9,8 @@ use std::marker::Model;
 /// The entries of a journal that were not read yet. Contracts see it as their list.
 #[derive(Drop)]
 pub struct Walk<'j> {
-    // What is left of a list, and after it of histories: one of the two is empty from the start.
+    // What is left of a list, and then what is left of histories. One of the two is empty from the
+    // start.
     listed: &'j [Entry],
     rests: Rests<'j>,
 }
@@ -27,7 +28,7 @@ impl<'j> Model for Walk<'j> {
 }
 
 impl<'j> Walk<'j> {
-    // All entries of a list.
+    // Begins with all entries of a list.
     pub(crate) fn listed(entries: &'j [Entry]) -> Walk<'j>
         ensures value { result ≡ entries.now }
     {
@@ -37,7 +38,7 @@ impl<'j> Walk<'j> {
         }
     }
 
-    // All entries of histories, merged.
+    // Begins with all entries of histories, merged.
     pub(crate) fn apart(histories: &'j [Entries]) -> Walk<'j>
         requires few { length histories.now ≤ 256 }
         requires ordered { AreInOrder histories.now }
@@ -49,7 +50,7 @@ impl<'j> Walk<'j> {
         }
     }
 
-    /// The next entry; `None` if and only if none is left. Takes no memory.
+    /// Returns the next entry; `None` if and only if none is left. Takes no memory.
     pub fn next(&mut self) -> Option<&'j Entry>
         ensures some { IfSome result (λ e. self.old ≡ e.now ∷ self.new) }
         ensures none { IfNone result (self.old ≡ []) }

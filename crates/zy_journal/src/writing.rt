@@ -98,7 +98,7 @@ fn write_reply<K: Sink>(sink: &mut K, reply: &CallReply) -> Result<(), Failed>
     write_fields(sink, reply.flags(), reply.number(), reply.value())
 }
 
-// The five numbers of a tally, if they are there.
+// Writes the five numbers of a tally, if they are there.
 fn write_counts<K: Sink>(sink: &mut K, counts: Option<Tallied>) -> Result<(), Failed>
     ensures writes { Writes K.holds K.faults K.finishes sink.old sink.new result
         (field_text counts_text counts) }
@@ -116,7 +116,7 @@ fn write_counts<K: Sink>(sink: &mut K, counts: Option<Tallied>) -> Result<(), Fa
     }
 }
 
-// A code, and a key if there is one.
+// Writes a code, and a key if there is one.
 fn write_start<K: Sink>(sink: &mut K, code: u8, key: Option<&Blob>) -> Result<(), Failed>
     requires fits { IfSome (option_copied key) IsKey }
     ensures writes { Writes K.holds K.faults K.finishes sink.old sink.new result
@@ -131,7 +131,7 @@ fn write_start<K: Sink>(sink: &mut K, code: u8, key: Option<&Blob>) -> Result<()
     }
 }
 
-// The flags, a number and a value, each if it is there.
+// Writes the flags, a number and a value, each if it is there.
 fn write_fields<K: Sink>(
     sink: &mut K,
     flags: Option<u32>,
@@ -146,7 +146,7 @@ fn write_fields<K: Sink>(
     write_value(sink, value)
 }
 
-// The flags and a number, each if it is there.
+// Writes the flags and a number, each if it is there.
 fn write_numbers<K: Sink>(
     sink: &mut K,
     flags: Option<u32>,
