@@ -20,11 +20,11 @@ use Rattle.zy_journal_reader.specs.declared.due.LongField.TheVariants.{CallNumbe
 abbrev pub at_value : CallFields → Due
 at_value fields = if fields.value then Number ValueLength else Byte ReplyCode
 
--- what comes where its number stands
+-- what comes at the place of its number
 abbrev pub at_number : CallFields → Due
 at_number fields = if fields.number then Long CallNumber else at_value fields
 
--- what comes where its flags stand
+-- what comes at the place of its flags
 abbrev pub at_flags : CallFields → Due
 at_flags fields = if fields.flags then Number Flags else at_number fields
 
@@ -72,7 +72,7 @@ entry_read d reply = record {
 abbrev pub hold_of : Draft → ℕ → Hold
 hold_of d count = record { core = d.core; conn = d.conn; count = count }
 
--- ---- for the reader alone
+-- ---- for the reader only
 
 -- where a byte of the magic is expected, its place is within it; there, and where a record may begin, nothing of a
 -- record was read

@@ -19,7 +19,7 @@ use Rattle.zy_journal_reader.specs.declared.due.ByteField.TheVariants as Bytes
 use Rattle.zy_journal_reader.specs.Fields.{fresh}
 use Rattle.zy_journal_reader.specs.Steps.{ReadState}
 
--- a field with this text, if it is there, and what is known of it
+-- the text begins with this field, if the call has it, and the rest follows
 pub record HasField {X : Type 0} (text_of : X → List ℕ) (Is : X → Type 0) (has : Bool) (text : List ℕ) (x : X)
     (rest : List ℕ) : Type 0 where
   pub spelled : text ≡ field_text text_of (there has x) ++ rest

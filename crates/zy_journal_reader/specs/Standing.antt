@@ -29,7 +29,7 @@ abbrev pub EndsJournalBy : JournalProgress → Result Journal FileFault → Type
 EndsJournalBy p answer =
     (given : List ⊤) (b : List ℕ) → StandsForJournal p given b → EndsJournalAs answer (journal_verdict b)
 
--- the reader may need memory where this is expected: at a byte of a key or a value, and where an
+-- the reader may need memory when this is expected: a byte of a key or a value, or one at which an
 -- entry or a hold may end
 abbrev pub takes_memory : Due → Bool
 takes_memory (Bytes field) = true
@@ -44,7 +44,7 @@ takes_memory due = false
 abbrev pub MayWant : JournalProgress → ℕ → Type 0
 MayWant p byte = takes_memory p.state.due ≡ true
 
--- ---- for the reader alone
+-- ---- for the reader only
 
 -- the state may be that at this place
 abbrev pub FitsPlace : ReadState → ℕ → Type 0
@@ -54,6 +54,6 @@ FitsPlace s at = IsInBounds s.due at s.draft
 abbrev pub Wants : ReadState → Type 0
 Wants s = takes_memory s.due ≡ true
 
--- an answer and a new state, at which no place is told by what is expected, are those of a whole field
+-- an answer and a new state are those of a whole field, at whatever place the field is
 abbrev pub TakesStep : Done → ReadState → ReadState → Result (Option ⊤) (NotTaken FileFault) → Type 0
 TakesStep done old new result = Judges (λ (s : ReadState) after. (at : ℕ) → FitsPlace s at) Wants done 0 old new result

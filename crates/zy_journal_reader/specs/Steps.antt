@@ -78,7 +78,7 @@ journal_limit = 2 ^ 63 - 1
 abbrev pub goes_to : ReadState → Due → Done
 goes_to s due = Then (record s { due = due })
 
--- the same, with more known of the record
+-- the same, with more read of the record
 abbrev pub knows : ReadState → Draft → Due → Done
 knows s draft due = goes_to (record s { draft = draft }) due
 

@@ -5,7 +5,7 @@ ghost use Rattle.zy_journal_reader.specs.Fields.{after_call_code, at_flags, at_n
 use crate::due::{ByteField, Due, LongField, NumberField};
 use mc_calls::CallFields;
 
-// What comes after the code: the key, or what comes if there is none.
+// Returns what comes after the code: the key, or what comes if there is none.
 pub(crate) fn at_key(fields: CallFields) -> Due
     ensures value { result ≡ after_call_code fields }
     ensures open { IsOpenAnywhere result }
@@ -17,7 +17,7 @@ pub(crate) fn at_key(fields: CallFields) -> Due
     }
 }
 
-// What comes after the key: the flags, or what comes if there are none.
+// Returns what comes after the key: the flags, or what comes if there are none.
 pub(crate) fn at_flags(fields: CallFields) -> Due
     ensures value { result ≡ at_flags fields }
     ensures open { IsOpenAnywhere result }
@@ -29,7 +29,7 @@ pub(crate) fn at_flags(fields: CallFields) -> Due
     }
 }
 
-// What comes after the flags: the number, or what comes if there is none.
+// Returns what comes after the flags: the number, or what comes if there is none.
 pub(crate) fn at_number(fields: CallFields) -> Due
     ensures value { result ≡ at_number fields }
     ensures open { IsOpenAnywhere result }
@@ -41,7 +41,7 @@ pub(crate) fn at_number(fields: CallFields) -> Due
     }
 }
 
-// What comes after the number: the value, or the reply.
+// Returns what comes after the number: the value, or the reply.
 pub(crate) fn at_value(fields: CallFields) -> Due
     ensures value { result ≡ at_value fields }
     ensures open { IsOpenAnywhere result }

@@ -32,7 +32,7 @@ pub(crate) struct Draft {
 }
 
 impl Draft {
-    // Nothing was read.
+    // Begins with nothing read.
     pub(crate) fn new(alloc: Global) -> Draft
         ensures value { result ≡ fresh }
     {
@@ -61,7 +61,7 @@ impl Draft {
         }
     }
 
-    // The entry that was read, with this reply.
+    // Makes the entry that was read, with this reply.
     pub(crate) fn into_entry(self, reply: CallReply) -> Entry
         ensures value { result ≡ entry_read self reply }
     {

@@ -28,7 +28,7 @@ impl Model for JournalReader {
 }
 
 impl JournalReader {
-    /// A reader to which no byte was fed. Takes no memory.
+    /// Makes a reader to which no byte was fed. Takes no memory.
     pub fn new(alloc: Global) -> JournalReader
         ensures value { StandsForJournal result [] [] }
     {
@@ -46,7 +46,7 @@ impl JournalReader {
         ensures exact { TellsFault journals self.old (byte ∷ []) result }
         ensures lasts { TellsLasting journals self.old (byte ∷ []) result }
 
-        // A refused allocation.
+        // If an allocation failed.
         ensures kept { result ≡ Err NoMemory → self.new ≡ self.old }
         ensures memory { result ≡ Err NoMemory → MayWant self.old byte }
     {
@@ -74,7 +74,7 @@ impl JournalReader {
         feed_piece(&mut self.reader, bytes)
     }
 
-    /// True if and only if the end was read and no fault was met.
+    /// Checks whether the end was read and no fault was met.
     #[tactic(auto, using(zy_read::proofs::Feeding::verdict_here))]
     pub fn is_done(&self) -> bool
         ensures value { AnswersBy journals self.now (λ b. is_good_journal (journal_verdict b))
@@ -83,7 +83,7 @@ impl JournalReader {
         self.reader.end().is_ok()
     }
 
-    /// The journal whose bytes were fed, or their fault.
+    /// Returns the journal whose bytes were fed, or their fault.
     #[tactic(auto, using(zy_read::proofs::Feeding::verdict_here))]
     pub fn end(self) -> Result<Journal, FileFault>
         ensures value { EndsJournalBy self result }

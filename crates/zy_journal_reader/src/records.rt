@@ -16,7 +16,7 @@ use replies::reply;
 use std::alloc::Global;
 use zy_base::{CONNECTION_LIMIT, CORE_LIMIT, HOLD_LIMIT, NoMemory};
 
-// An entry that may come next, and the bytes after it; nothing if memory for it was refused.
+// Returns an entry that may come next, and the bytes after it; nothing also if an allocation fails.
 pub(crate) fn entry(alloc: Global, past: Past, bytes: &[u8]) -> Option<(Entry, &[u8])>
     ensures value { IfSome result (λ found. HasEntry past bytes.now found.0 found.1.now) }
 {
@@ -35,7 +35,7 @@ pub(crate) fn entry(alloc: Global, past: Past, bytes: &[u8]) -> Option<(Entry, &
     }
 }
 
-// A hold that may come next, and the bytes after it.
+// Returns a hold that may come next, and the bytes after it.
 pub(crate) fn hold(past: Past, bytes: &[u8]) -> Option<(Hold, &[u8])>
     ensures value { IfSome result (λ found. HasHold past bytes.now found.0 found.1.now) }
 {

@@ -51,7 +51,7 @@ impl Model for JournalState {
 }
 
 impl JournalState {
-    // Before the first byte.
+    // Makes the state before the first byte.
     pub(crate) fn new(alloc: Global) -> JournalState
         ensures value { result ≡ journal_start }
     {
@@ -68,7 +68,7 @@ impl JournalState {
         }
     }
 
-    // The journal that was read.
+    // Returns the journal that was read.
     pub(crate) fn into_journal(self) -> Journal
         ensures value { result ≡ journal_in self }
     {
@@ -108,7 +108,7 @@ impl FieldFormat for JournalState {
         matches!(self.due, Due::Nothing)
     }
 
-    // A tag may be the end.
+    // Checks whether the next field gives no record: only a tag may be the end.
     #[tactic(auto, using(crate::proofs::OpenLemmas::quiet))]
     fn is_quiet(&self) -> bool {
         !matches!(self.due, Due::Byte(ByteField::Tag))
@@ -167,7 +167,8 @@ impl FieldFormat for JournalState {
         }
     }
 
-    // A key or a value, copied so that it takes no more room than it needs, and a short one none.
+    // Judges a key or a value. Copies it, so that it takes no more memory than it needs, and none
+    // if it is short.
     #[tactic(auto, using(crate::proofs::PlacedLemmas::placed, crate::proofs::PlacedLemmas::run_due))]
     fn judge_run(
         &mut self,
@@ -184,7 +185,7 @@ impl FieldFormat for JournalState {
         }
     }
 
-    // Whole records, where one may begin.
+    // Takes whole records, where one may begin.
     #[tactic(auto, using(zy_read::proofs::OverLemmas::over_none))]
     fn judge_front(&mut self, alloc: Global, at: u64, bytes: &[u8]) -> usize {
         match self.due {

@@ -19,7 +19,7 @@ pub(crate) struct CallBytes<'a> {
 }
 
 impl CallBytes<'_> {
-    // The key and the value.
+    // Copies the key and the value.
     pub(crate) fn contents(&self, alloc: Global) -> Result<(Blob, Blob), NoMemory>
         ensures key { IfOk result (λ both. both.0 ≡ self.now.key.now) }
         ensures value { IfOk result (λ both. both.1 ≡ self.now.value.now) }
@@ -38,7 +38,7 @@ impl CallBytes<'_> {
     }
 }
 
-// The code and the fields of a call, and the bytes after them.
+// Returns the code and the fields of a call, and the bytes after them.
 pub(crate) fn call_fields(bytes: &[u8]) -> Option<(CallBytes<'_>, &[u8])>
     ensures value { IfSome result (λ found. HasCall bytes.now
         (call_of found.0.kind found.0.key.now found.0.flags found.0.number found.0.value.now)
@@ -60,7 +60,7 @@ pub(crate) fn call_fields(bytes: &[u8]) -> Option<(CallBytes<'_>, &[u8])>
     Some((found, rest))
 }
 
-// The kind of a call by its code, and the bytes after that.
+// Returns the kind of a call by its code, and the bytes after that.
 #[tactic(auto, using(crate::proofs::FoundLemmas::kind_found))]
 fn kind_of(bytes: &[u8]) -> Option<(CallKind, &[u8])>
     ensures value { IfSome result (λ found. bytes.now ≡ code_of found.0 ∷ found.1.now) }

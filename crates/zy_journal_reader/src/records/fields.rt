@@ -7,7 +7,7 @@ ghost use Rattle.zy_journal_reader.specs.Found.{HasField};
 
 use zy_base::{KEY_LIMIT, VALUE_LIMIT};
 
-// A number of four bytes.
+// Returns a number of four bytes.
 #[tactic(auto, using(crate::proofs::FoundLemmas::four_found))]
 pub(crate) fn four(bytes: &[u8]) -> Option<(u32, &[u8])>
     ensures value { IfSome result (λ found. bytes.now ≡ to_be_bytes w32 found.0 ++ found.1.now) }
@@ -19,7 +19,7 @@ pub(crate) fn four(bytes: &[u8]) -> Option<(u32, &[u8])>
     Some((u32::from_be_bytes(*first), rest))
 }
 
-// A number of eight bytes.
+// Returns a number of eight bytes.
 #[tactic(auto, using(crate::proofs::FoundLemmas::eight_found))]
 pub(crate) fn eight(bytes: &[u8]) -> Option<(u64, &[u8])>
     ensures value { IfSome result (λ found. bytes.now ≡ to_be_bytes w64 found.0 ++ found.1.now) }
@@ -31,7 +31,7 @@ pub(crate) fn eight(bytes: &[u8]) -> Option<(u64, &[u8])>
     Some((u64::from_be_bytes(*first), rest))
 }
 
-// The bytes of a value.
+// Returns the bytes of a value.
 pub(crate) fn contents(bytes: &[u8]) -> Option<(&[u8], &[u8])>
     ensures value { IfSome result (λ found. bytes.now ≡ value_text found.0.now ++ found.1.now) }
     ensures within { IfSome result (λ found. IsValue found.0.now) }
@@ -43,7 +43,7 @@ pub(crate) fn contents(bytes: &[u8]) -> Option<(&[u8], &[u8])>
     rest.split_at_checked(size as usize)
 }
 
-// The bytes of a key, if there is one; else none.
+// Returns the bytes of a key, if there is one, and otherwise no bytes.
 pub(crate) fn key(has: bool, bytes: &[u8]) -> Option<(&[u8], &[u8])>
     ensures value { IfSome result (λ found.
         HasField key_text IsKey has bytes.now found.0.now found.1.now) }
@@ -58,7 +58,7 @@ pub(crate) fn key(has: bool, bytes: &[u8]) -> Option<(&[u8], &[u8])>
     rest.split_at_checked(usize::from(*size))
 }
 
-// Flags, if there are some; else 0.
+// Returns flags, if there are some, and otherwise 0.
 pub(crate) fn flags(has: bool, bytes: &[u8]) -> Option<(u32, &[u8])>
     ensures value { IfSome result (λ found.
         HasField (to_be_bytes w32) (λ n. n < 2 ^ 32) has bytes.now found.0 found.1.now) }
@@ -69,7 +69,7 @@ pub(crate) fn flags(has: bool, bytes: &[u8]) -> Option<(u32, &[u8])>
     four(bytes)
 }
 
-// A number, if there is one; else 0.
+// Returns a number, if there is one, and otherwise 0.
 pub(crate) fn number(has: bool, bytes: &[u8]) -> Option<(u64, &[u8])>
     ensures value { IfSome result (λ found.
         HasField (to_be_bytes w64) (λ n. n < 2 ^ 64) has bytes.now found.0 found.1.now) }
@@ -80,7 +80,7 @@ pub(crate) fn number(has: bool, bytes: &[u8]) -> Option<(u64, &[u8])>
     eight(bytes)
 }
 
-// The bytes of a value, if there is one; else none.
+// Returns the bytes of a value, if there is one, and otherwise no bytes.
 pub(crate) fn value(has: bool, bytes: &[u8]) -> Option<(&[u8], &[u8])>
     ensures value { IfSome result (λ found.
         HasField value_text IsValue has bytes.now found.0.now found.1.now) }

@@ -7,7 +7,7 @@ use crate::past::Past;
 use mc_calls::{Call, CallReply, Entry, Tag};
 use zy_base::{COMMAND_LIMIT, CONNECTION_LIMIT, SHARD_LIMIT, STAMP_LIMIT};
 
-/// When and where an entry was, and whose call it is.
+/// The stamp and the shard of an entry, and whose call it is.
 #[derive(Clone, Copy)]
 pub(crate) struct Head {
     pub(crate) stamp: u64,
@@ -16,7 +16,7 @@ pub(crate) struct Head {
 }
 
 impl Head {
-    // The entry of this call and its reply.
+    // Makes the entry of this call and its reply.
     pub(crate) fn entry(self, call: Call, reply: CallReply) -> Entry
         ensures value { result ≡ entry_at self call reply }
     {
@@ -29,7 +29,7 @@ impl Head {
         }
     }
 
-    // Whether an entry may have this head.
+    // Checks whether an entry may have this head.
     fn is_next(&self, past: Past) -> bool
         ensures value { result ≡ is_next self.now past }
     {
@@ -42,7 +42,7 @@ impl Head {
     }
 }
 
-// The head of an entry that may come next, and the bytes after it.
+// Returns the head of an entry that may come next, and the bytes after it.
 #[tactic(auto, using(crate::proofs::FoundLemmas::head_found))]
 pub(crate) fn head_fields(past: Past, bytes: &[u8]) -> Option<(Head, &[u8])>
     ensures value { IfSome result (λ found. HasHead past bytes.now found.0 found.1.now) }
@@ -61,7 +61,7 @@ pub(crate) fn head_fields(past: Past, bytes: &[u8]) -> Option<(Head, &[u8])>
     Some((found, rest))
 }
 
-// Whose call it is, and the bytes after that.
+// Returns whose call it is, and the bytes after that.
 fn owner(bytes: &[u8]) -> Option<(Tag, &[u8])>
     ensures value { IfSome result (λ found. HasTag bytes.now found.0 found.1.now) }
 {

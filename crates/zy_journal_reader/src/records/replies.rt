@@ -8,7 +8,7 @@ use mc_calls::{CallReply, HIT_CODE, LAST_REPLY_CODE, NUMBER_CODE, TALLY_CODE, Ta
 use std::alloc::Global;
 use zy_base::Blob;
 
-// A reply; nothing if memory for it was refused.
+// Returns a reply; nothing also if an allocation fails.
 #[tactic(auto, using(crate::proofs::FoundLemmas::plain_found))]
 pub(crate) fn reply(alloc: Global, bytes: &[u8]) -> Option<(CallReply, &[u8])>
     ensures value { IfSome result (λ found. HasReply bytes.now found.0 found.1.now) }
@@ -28,7 +28,7 @@ pub(crate) fn reply(alloc: Global, bytes: &[u8]) -> Option<(CallReply, &[u8])>
     }
 }
 
-// The fields of a hit.
+// Returns the fields of a hit.
 #[tactic(auto, using(crate::proofs::FoundLemmas::hit_found))]
 fn hit(alloc: Global, bytes: &[u8]) -> Option<(CallReply, &[u8])>
     ensures value { IfSome result (λ found. HasReply (hit_code ∷ bytes.now) found.0 found.1.now) }
@@ -49,7 +49,7 @@ fn hit(alloc: Global, bytes: &[u8]) -> Option<(CallReply, &[u8])>
     }
 }
 
-// The number that a value is now.
+// Returns the number that a value is now.
 #[tactic(auto, using(crate::proofs::FoundLemmas::number_found))]
 fn counted(bytes: &[u8]) -> Option<(CallReply, &[u8])>
     ensures value { IfSome result (λ found.
@@ -59,7 +59,7 @@ fn counted(bytes: &[u8]) -> Option<(CallReply, &[u8])>
     Some((CallReply::Number { number }, rest))
 }
 
-// The numbers of a tally.
+// Returns the numbers of a tally.
 #[tactic(auto, using(crate::proofs::FoundLemmas::tally_found))]
 fn tally(bytes: &[u8]) -> Option<(CallReply, &[u8])>
     ensures value { IfSome result (λ found. HasReply (tally_code ∷ bytes.now) found.0 found.1.now) }

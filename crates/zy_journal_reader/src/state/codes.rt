@@ -20,7 +20,7 @@ use zy_read::FileFeed;
 const MAGIC: &[u8; 8] = b"ZYGJRN1\n";
 
 impl JournalState {
-    // A valid field of one byte.
+    // Takes a valid field of one byte.
     #[tactic(auto, using(crate::proofs::PlacedLemmas::placed))]
     pub(super) fn take_byte(
         &mut self,
@@ -54,7 +54,7 @@ impl JournalState {
         Ok(None)
     }
 
-    // Whether the byte is allowed there.
+    // Checks whether the byte is allowed there.
     pub(super) fn is_lawful_byte(&self, field: ByteField, at: u64, byte: u8) -> bool
         requires due { self.now.due ≡ Dues.Byte field }
         requires fits { FitsPlace self.now at }
@@ -71,7 +71,7 @@ impl JournalState {
         }
     }
 
-    // The tag of a record, or the end.
+    // Takes the tag of a record, or the end.
     fn take_tag(&mut self, byte: u8) -> Option<()>
         ensures value { TakesStep (after_byte Codes.Tag self.old 0 byte) self.old self.new
             (Ok result) }
@@ -87,7 +87,7 @@ impl JournalState {
         None
     }
 
-    // The code of a reply.
+    // Takes the code of a reply.
     fn take_reply_code(&mut self, alloc: Global, byte: u8) -> Result<Option<()>, FileFeed>
         requires due { self.old.due ≡ Dues.Byte Codes.ReplyCode }
         ensures value { TakesStep (after_byte Codes.ReplyCode self.old 0 byte) self.old self.new result }
@@ -104,7 +104,7 @@ impl JournalState {
         Ok(None)
     }
 
-    // A length that is not 0.
+    // Takes a length that is not 0.
     pub(super) fn begin_bytes(&mut self, field: BytesField, size: u32)
         ensures value { begins_bytes self.old field size ≡ Then self.new }
     {

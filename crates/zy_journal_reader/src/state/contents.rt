@@ -12,7 +12,7 @@ use zy_base::Blob;
 use zy_read::FileFeed;
 
 impl JournalState {
-    // A whole key or value. If it ends an entry, it needs memory.
+    // Takes a whole key or value. If it ends an entry, it needs memory.
     pub(super) fn take_contents(
         &mut self,
         alloc: Global,

@@ -14,7 +14,7 @@ use zy_base::Blob;
 use zy_read::FileFeed;
 
 impl JournalState {
-    // The field ends an entry, which needs memory.
+    // Ends an entry, which needs memory.
     pub(super) fn end_entry(
         &mut self,
         alloc: Global,
@@ -33,7 +33,7 @@ impl JournalState {
         Ok(None)
     }
 
-    // The field ends the entry of a get that found this value, which needs memory.
+    // Ends the entry of a get that found this value, which needs memory.
     pub(super) fn end_hit(&mut self, alloc: Global, value: Blob) -> Result<Option<()>, FileFeed>
         requires due { takes_memory self.old.due ≡ true }
         ensures value { TakesStep (ends_hit self.old value) self.old self.new result }
@@ -46,7 +46,7 @@ impl JournalState {
         self.end_entry(alloc, reply)
     }
 
-    // The field ends a hold, which needs memory.
+    // Ends a hold, which needs memory.
     pub(super) fn end_hold(&mut self, alloc: Global, count: u32) -> Result<Option<()>, FileFeed>
         requires due { takes_memory self.old.due ≡ true }
         ensures value { TakesStep (ends_hold self.old count) self.old self.new result }

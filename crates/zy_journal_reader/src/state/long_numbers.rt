@@ -14,7 +14,7 @@ use zy_base::{COMMAND_LIMIT, STAMP_LIMIT};
 use zy_read::FileFeed;
 
 impl JournalState {
-    // Whether the number is allowed there.
+    // Checks whether the number is allowed there.
     pub(super) fn is_lawful_long(&self, field: LongField, number: u64) -> bool
         ensures value { result ≡ lawful_long field self.now number }
     {
@@ -32,7 +32,7 @@ impl JournalState {
         }
     }
 
-    // A valid number.
+    // Takes a valid number.
     pub(super) fn take_long(
         &mut self,
         alloc: Global,
@@ -81,7 +81,7 @@ impl JournalState {
         Ok(None)
     }
 
-    // How many items there are, which ends a tally and its entry.
+    // Takes the number of items, which ends a tally and its entry.
     fn end_tally(&mut self, alloc: Global, number: u64) -> Result<Option<()>, FileFeed>
         requires due { self.old.due ≡ Dues.Long Longs.Items }
         ensures value { TakesStep (after_eight Longs.Items self.old number)

@@ -14,7 +14,7 @@ use zy_base::{Blob, CONNECTION_LIMIT, CORE_LIMIT, HOLD_LIMIT, SHARD_LIMIT, VALUE
 use zy_read::FileFeed;
 
 impl JournalState {
-    // Whether the number is allowed there.
+    // Checks whether the number is allowed there.
     pub(super) fn is_lawful_number(&self, field: NumberField, number: u32) -> bool
         ensures value { result ≡ lawful_number field self.now number }
     {
@@ -35,7 +35,7 @@ impl JournalState {
         }
     }
 
-    // A valid number.
+    // Takes a valid number.
     pub(super) fn take_number(
         &mut self,
         alloc: Global,
@@ -81,7 +81,7 @@ impl JournalState {
         Ok(None)
     }
 
-    // The length of the value that a call stores.
+    // Takes the length of the value that a call stores.
     fn begin_value(&mut self, alloc: Global, size: u32)
         requires due { self.old.due ≡ Dues.Number Numbers.ValueLength }
         ensures value { after_four Numbers.ValueLength self.old size ≡ Then self.new }
@@ -94,7 +94,7 @@ impl JournalState {
         }
     }
 
-    // The length of the value that a get found.
+    // Takes the length of the value that a get found.
     fn begin_found(&mut self, alloc: Global, size: u32) -> Result<Option<()>, FileFeed>
         requires due { self.old.due ≡ Dues.Number Numbers.FoundLength }
         ensures value { TakesStep (after_four Numbers.FoundLength self.old size) self.old self.new result }

@@ -29,8 +29,8 @@ impl JournalState {
         }
     }
 
-    // Takes the record that the bytes begin with, if it is valid. Returns its size, or 0; if
-    // memory for it was refused, 0.
+    // Takes the record that the bytes begin with, if it is valid. Returns its size; 0 if it was not
+    // taken, also because an allocation failed.
     #[tactic(auto, using(zy_read::proofs::OverLemmas::over_none))]
     fn take_record(&mut self, alloc: Global, bytes: &[u8]) -> usize
         requires there { IsAtRecord self.old }
@@ -85,7 +85,7 @@ impl JournalState {
         }
     }
 
-    // Keeps a whole entry, if there is memory.
+    // Keeps a whole entry. Returns false if an allocation failed.
     fn add_entry(&mut self, entry: Entry) -> bool
         ensures ok { result ≡ true → self.new ≡ and_entry self.old entry }
         ensures kept { result ≡ false → self.new ≡ self.old }
@@ -100,7 +100,7 @@ impl JournalState {
         true
     }
 
-    // Keeps a whole hold, if there is memory.
+    // Keeps a whole hold. Returns false if an allocation failed.
     fn add_hold(&mut self, hold: Hold) -> bool
         ensures ok { result ≡ true → self.new ≡ and_hold self.old hold }
         ensures kept { result ≡ false → self.new ≡ self.old }
