@@ -9,7 +9,7 @@ use Rattle.std.specs.Prelude.{slice_index, bit_xor}
 abbrev pub bit_at : List ℕ → ℕ → ℕ
 bit_at bytes place = (slice_index bytes (place / 8) / 2 ^ (7 - place % 8)) % 2
 
--- the number that the `count` bits from a place on spell
+-- the number that the `count` bits from a place on make
 abbrev pub bits_from : List ℕ → ℕ → ℕ → ℕ
 bits_from bytes place zero = 0
 bits_from bytes place (suc count) = bit_at bytes place * 2 ^ count + bits_from bytes (place + 1) count

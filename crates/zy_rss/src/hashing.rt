@@ -4,8 +4,8 @@ ghost use Rattle.zy_rss.specs.Toeplitz as hashes;
 
 use crate::windows::WINDOWS;
 
-/// The hash of twelve bytes: source address, destination address, source port, destination port,
-/// each with its highest byte first. Takes no memory.
+/// Returns the hash of twelve bytes: source address, destination address, source port, destination
+/// port, each with its highest byte first. Takes no memory.
 pub fn toeplitz(input: &[u8; 12]) -> u32
     ensures value { result ≡ hashes.toeplitz input.now }
 {
@@ -16,7 +16,7 @@ pub fn toeplitz(input: &[u8; 12]) -> u32
     hash
 }
 
-// What the bit at a place adds to the hash.
+// Returns what this bit of the input adds to the hash.
 #[tactic(auto, using(crate::proofs::WindowLemmas::window_at))]
 fn term(input: &[u8; 12], place: usize) -> u32
     requires within { place < 96 }

@@ -1,6 +1,6 @@
-//! The 32 bits of the key from each of its first 96 places on.
+//! The 32 bits of the key from each of its first 96 bits on.
 
-/// 32 bits of the key from each place on.
+/// The 32 bits of the key from each bit on.
 pub(crate) const WINDOWS: &[u32; 96] = &[
     0x6d5a_56da,
     0xdab4_adb4,
