@@ -1,4 +1,4 @@
--- Where a file has bytes alone, so do the frames, the payloads of its packets, their streams and their capture.
+-- If a file has bytes alone, so do the frames, the payloads of its packets, their streams and their capture.
 use Rattle.std.proofs.Common.{◌≡◌, ℕ, zero, suc, ◌+◌, ◌-◌, ◌<◌, ◌≤◌, List, [], ◌∷◌, ◌++◌, length, take, drop, map, flat_map, refl, subst, arith}
 use Rattle.std.specs.Prelude.{Option, Some, None, Bool, true, false, nat_lt, nat_le, if◌then◌else◌, ◌==◌, ◌&&◌, slice_range, ⊤}
 use Rattle.std.specs.List.{AllByRecursion}

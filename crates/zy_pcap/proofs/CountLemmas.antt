@@ -1,4 +1,4 @@
--- A stream is not longer than the payloads of its packets, and has bytes alone where they do.
+-- A stream is not longer than the payloads of its packets, and has bytes alone if they do.
 use Rattle.std.proofs.Common.{◌≡◌, ℕ, zero, suc, ◌+◌, ◌^◌, ◌<◌, ◌≤◌, List, [], ◌∷◌, length, refl, inl, inr, arith}
 use Rattle.std.specs.Prelude.{Option, Some, None, Bool, true, false, if◌then◌else◌, ◌==◌, ⊤}
 use Rattle.std.specs.List.{AllByRecursion}

@@ -1,4 +1,5 @@
--- The fields of records: the bytes that are kept of each, and a byte where a file has its most bytes.
+-- The fields of records: the bytes that are kept of each, and what a byte does when a file has its
+-- most bytes.
 use Rattle.std.proofs.Common.{◌≡◌, ℕ, ◌-◌, ◌<◌, ◌≤◌, List, [], ◌∷◌, ◌++◌, length, length-append, take, refl, ap, ◌∙◌, arith}
 use Rattle.std.specs.Prelude.{None, nat_le, true}
 use Rattle.std.proofs.lemmas.Bool.Decides.{nat_tests}

@@ -79,7 +79,7 @@ flow_keys flows = map key_in flows
 
 -- ---- one further packet
 
--- the list with something at a place, which is one of it or comes after all of it
+-- the list with something at a place, which is in the list or after its end
 abbrev pub put_at : {X : Type 0} → List (Option X) → ℕ → X → List (Option X)
 put_at xs place x =
     if nat_lt place (length xs) then slice_set xs place (Some x)

@@ -68,7 +68,7 @@ segment_in frame =
       size = payload_size frame;
     }
 
--- a packet to the port, by the lengths of its headers and its payload
+-- what a packet to the port is, by the lengths of its headers and its payload
 abbrev pub judge_payload : ℕ → List ℕ → Judged
 judge_payload at frame =
     if nat_lt (tcp_size frame) 20 then Refused (Short at)
@@ -77,14 +77,14 @@ judge_payload at frame =
     else if nat_lt (length frame) (ip + total frame) then Refused (Missing at)
     else Taken (segment_in frame)
 
--- an IP packet that has TCP and is no fragment, by its port
+-- what an IP packet that has TCP and is no fragment is, by its port
 abbrev pub judge_tcp : ℕ → ℕ → List ℕ → Judged
 judge_tcp port at frame =
     if nat_lt (total frame) (ip_size frame + 20) then Refused (Short at)
     else if nat_lt (length frame) (tcp frame + 20) then Refused (Short at)
     else if short_at frame (tcp frame + 2) == port then judge_payload at frame else Passed
 
--- an IP packet, by its header
+-- what an IP packet is, by its header
 abbrev pub judge_ip : ℕ → ℕ → List ℕ → Judged
 judge_ip port at frame =
     if nat_lt (length frame) (ip + 20) then Refused (Short at)
@@ -94,14 +94,14 @@ judge_ip port at frame =
     else if not (short_at frame (ip + 6) % 2 ^ 14 == 0) then Refused (Fragment at)
     else judge_tcp port at frame
 
--- an IPv6 packet: one that goes to the port by TCP is a fault
+-- what an IPv6 packet is: one that goes to the port by TCP is a fault
 abbrev pub judge_ipv6 : ℕ → ℕ → List ℕ → Judged
 judge_ipv6 port at frame =
     if nat_lt (length frame) 58 then Passed
     else if slice_index frame 20 == 6 && short_at frame 56 == port then Refused (Ipv6 at)
     else Passed
 
--- a frame, by its type
+-- what a frame is, by its type
 abbrev pub judge_type : ℕ → ℕ → ℕ → List ℕ → Judged
 judge_type type port at frame =
     if type == 0x86dd then judge_ipv6 port at frame
@@ -109,7 +109,7 @@ judge_type type port at frame =
     else if type == 0x0800 then judge_ip port at frame
     else Passed
 
--- the frame of a record at a place, where packets to the port are looked for
+-- what the frame of a record at a place is, for packets to the port
 unfoldable pub judge : ℕ → ℕ → List ℕ → Judged
 judge port at frame =
     if nat_lt (length frame) ip then Refused (Short at) else judge_type (short_at frame 12) port at frame

@@ -32,7 +32,7 @@ Rise (run ∷ runs) = AllByRecursion (λ (other : Run). run.0 ≤ other.0) runs 
 abbrev pub HoldsSame : (ℕ → Option ℕ) → (ℕ → Option ℕ) → Type 0
 HoldsSame old new = (at : ℕ) → new at ≡ old at
 
--- all bytes are as they were, and where there was none, those of the second one are there
+-- each offset has the byte that it had; an offset without one has that of the second, if it has one
 abbrev pub HoldsBoth : (ℕ → Option ℕ) → (ℕ → Option ℕ) → (ℕ → Option ℕ) → Type 0
 HoldsBoth old new more = (at : ℕ) → new at ≡ byte_or_other (old at) (more at)
 
@@ -90,15 +90,15 @@ pub record AreAll (byte : ℕ → Option ℕ) (from limit : ℕ) (bytes : List �
   pub within : from + length bytes ≤ limit
   pub ends : from + length bytes < limit → byte (from + length bytes) ≡ None
 
--- of bytes that begin at one offset, those from another one on, up to an end
+-- those of bytes that begin at one offset that are from another one on, up to an end
 abbrev pub next_of : ℕ → ℕ → List ℕ → ℕ → List ℕ
 next_of at begin bytes end = slice_range bytes (at - begin) (min (length bytes) (end - begin))
 
--- a run that may be there has at least so many bytes
+-- there is a run, and it has at least this many bytes
 abbrev pub is_long : Option (List ℕ) → ℕ → Bool
 is_long None size = false
 is_long (Some run) size = nat_le size (length run)
 
--- there is a run that begins at an offset, with at least so many bytes
+-- there is a run that begins at an offset, with at least this many bytes
 abbrev pub has_run : List Run → ℕ → ℕ → Bool
 has_run runs from size = is_long (lookup (is_at (nat_cmp from)) runs) size

@@ -19,18 +19,18 @@ use Rattle.zy_pcap.specs.Pairs.{BothOrNone, AllPairs}
 
 -- ---- what is kept
 
--- of a session its first packet's number and its bytes
+-- what is kept of a session: its first packet's number and its bytes
 pub record KeepsSession (kept : KeptSession) (session : Session) : Type 0 where
   pub sequence : kept.sequence ≡ session.first.sequence
   pub syn : kept.is_syn ≡ session.first.is_syn
   pub bytes : (at : ℕ) → at < 2 ^ 31 → byte_held kept.bytes at ≡ byte_at session.first session.packets at
 
--- of a flow its key and its sessions
+-- what is kept of a flow: its key and its sessions
 pub record KeepsFlow (kept : KeptFlow) (flow : Flow) : Type 0 where
   pub key : kept.key ≡ flow.key
   pub sessions : AllPairs KeepsSession kept.sessions.items flow.sessions
 
--- of all flows those that were given a number
+-- what is kept of all flows: those that were given a number
 abbrev pub KeepsFlows : List (Option KeptFlow) → Flows → Type 0
 KeepsFlows kept flows = AllPairs (BothOrNone KeepsFlow) kept flows
 
@@ -62,7 +62,7 @@ continues_by (Some session) segment = not (is_ended_by session segment)
 abbrev pub continues : List KeptSession → Segment → Bool
 continues sessions segment = continues_by (slice_get sessions (length sessions - 1)) segment
 
--- bytes were added from an offset on, or memory was refused
+-- bytes were added from an offset on, or an allocation failed
 abbrev pub Adds : KeptSession → KeptSession → ℕ → List ℕ → Result ⊤ (NotTaken PcapFault) → Type 0
 Adds old new from bytes (Ok u) =
     (new.sequence ≡ old.sequence) × (new.is_syn ≡ old.is_syn)
@@ -72,7 +72,7 @@ Adds old new from bytes (Err NoMemory) =
     (new.sequence ≡ old.sequence) × (new.is_syn ≡ old.is_syn) × HoldsSame (byte_held old.bytes) (byte_held new.bytes)
 
 -- what was kept of something is, after a packet, kept of its successor; or there is this fault, or
--- memory was refused
+-- an allocation failed
 abbrev pub MeetsAs : {K S : Type 0} → (K → S → Type 0) → (S → Option PcapFault) → (S → S) → K → K
     → Result ⊤ (NotTaken PcapFault) → Type 0
 MeetsAs {K} {S} keeps fault next old new (Ok u) = (s : S) → keeps old s → (fault s ≡ None) × keeps new (next s)
@@ -92,7 +92,7 @@ abbrev pub MeetsSession : Packet → ℕ → KeptSession → KeptSession → Res
 MeetsSession packet at old new result =
     MeetsAs KeepsSession (session_fault packet at) (session_next packet) old new result
 
--- a packet began a session, or memory was refused
+-- a packet began a session, or an allocation failed
 abbrev pub BeginsSession : Packet → List KeptSession → List KeptSession → Result ⊤ (NotTaken PcapFault) → Type 0
 BeginsSession packet old new (Ok u) =
     (kept : KeptSession) × ((new ≡ old ++ kept ∷ []) × KeepsSession kept (session_begun_by packet))
@@ -134,7 +134,7 @@ MeetsFlow number packet at old new result =
     → (next : KeptFlow) × ((new ≡ slice_set old number (Some next)) × (next.key ≡ flow.key)
     × MeetsSessions packet at flow.sessions.items next.sessions.items result)
 
--- a flow that a packet begins has a number, or memory was refused
+-- a flow that a packet begins has a number, or an allocation failed
 abbrev pub BeginsFlow : ℕ → Packet → List (Option KeptFlow) → List (Option KeptFlow) → Result ⊤ (NotTaken PcapFault)
     → Type 0
 BeginsFlow number packet old new (Ok u) =

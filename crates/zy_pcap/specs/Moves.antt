@@ -46,7 +46,7 @@ abbrev pub KeepsField : Due → List ℕ → List ℕ → ℕ → Type 0
 KeepsField (Dues.Frame others) field frame room = (field ≡ []) × (length frame ≤ others + 1) × (others + 1 ≤ room)
 KeepsField due field frame room = (length field < due_width due) × (frame ≡ [])
 
--- the same, if this fault was met or none; after one no byte is kept
+-- the same, by the fault that was met; after a fault no byte is kept
 abbrev pub KeepsFieldBy : Option PcapFault → Due → List ℕ → List ℕ → ℕ → Type 0
 KeepsFieldBy None due field frame room = KeepsField due field frame room
 KeepsFieldBy (Some fault) due field frame room = (field ≡ []) × (frame ≡ [])
@@ -91,7 +91,7 @@ TakesMove step old new (Err NoMemory) = new ≡ old
 
 -- ---- a number
 
--- an answer is what a field does that gives no frame
+-- an answer is what a field does, and the field gives no frame
 abbrev pub DoesNext : DueJudged → Result PcapState PcapFault → Type 0
 DoesNext judged (Ok next) = (judged ≡ Then next) × IsWord next.due
 DoesNext judged (Err fault) = judged ≡ Wrong fault

@@ -1,4 +1,5 @@
--- The packets of a file, or its first fault: what its fields do if each frame that they give is judged.
+-- The packets of a file, or its first fault: what its fields do when each frame that they give is
+-- judged.
 use Rattle.std.specs.Prelude.{ℕ, List, [], ◌∷◌, ◌++◌, Option, None, Some, ⊤}
 use Rattle.zy_read.specs.Format.{Format, fault_met, verdict_on}
 use Rattle.zy_read.specs.Fields as Reads
@@ -42,7 +43,7 @@ abbrev pub record_settled : Option PcapFault → FileState → FieldJudged
 record_settled None next = Then next
 record_settled (Some fault) next = Wrong fault
 
--- the end of a record whose frame is this, if this is the next state of the records
+-- the end of a record with this frame, by what the frame is and the next state of the records
 abbrev pub record_ended : FileState → PcapState → List ℕ → Judged → FieldJudged
 record_ended s next frame judged =
     record_settled (frame_fault s.records.begun frame s.packets judged)

@@ -52,16 +52,16 @@ first_number packet = number_after packet.sequence packet.is_syn
 abbrev pub offset : Packet → Packet → ℕ → ℕ
 offset first packet index = (first_number packet + index + (2 ^ 32 - first_number first)) % 2 ^ 32
 
--- the offset is refused; an offset from 2^31 on is before the session
+-- the byte at the offset is a fault; an offset from 2^31 on is before the session
 abbrev pub is_far : ℕ → Bool
 is_far offset = nat_le (2 ^ 30) offset && nat_lt offset (2 ^ 31)
 
--- one of the first `count` payload bytes has an offset that is refused
+-- one of the first `count` payload bytes has an offset that is a fault
 abbrev pub reaches_with : Packet → Packet → ℕ → Bool
 reaches_with first packet zero = false
 reaches_with first packet (suc count) = reaches_with first packet count || is_far (offset first packet count)
 
--- a payload byte has an offset that is refused
+-- a payload byte has an offset that is a fault
 abbrev pub reaches : Packet → Packet → Bool
 reaches first packet = reaches_with first packet (length packet.payload)
 

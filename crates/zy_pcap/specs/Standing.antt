@@ -43,12 +43,12 @@ abbrev pub Lasts : PcapReading → List ℕ → PcapFault → Type 0
 Lasts old bytes fault =
     (b more : List ℕ) → StandsForFile old b → packets old.port (b ++ (bytes ++ more)) ≡ Bad fault
 
--- the bytes were fed; none of them if memory was refused
+-- the bytes were fed; none of them if an allocation failed
 abbrev pub FeedsFileAs : PcapReading → PcapReading → List ℕ → Result ⊤ (NotTaken PcapFault) → Type 0
 FeedsFileAs old new bytes (Err NoMemory) = FeedsFile old new []
 FeedsFileAs old new bytes answer = FeedsFile old new bytes
 
--- the number of bytes taken, when the byte after `before` others was refused
+-- the number of bytes taken, when the byte after `before` others was a fault or was not taken
 abbrev pub taken_before : ℕ → NotTaken PcapFault → ℕ
 taken_before before (Fault fault) = before + 1
 taken_before before NoMemory = before

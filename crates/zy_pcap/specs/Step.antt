@@ -37,7 +37,7 @@ MeetsFrame port at frame old new result =
     MeetsAs KeepsPackets (λ packets. frame_fault at frame packets (judge port at frame))
     (λ packets. packets_with frame packets (judge port at frame)) old new result
 
--- the place after a record whose frame is whole; after a refused allocation its last byte is not read
+-- the place after a record whose frame is whole; if an allocation failed its last byte is not read
 abbrev pub PlaceIs : FilePlace → FilePlace → Result ⊤ (NotTaken PcapFault) → Type 0
 PlaceIs old new (Ok u) = new ≡ then_record old
 PlaceIs old new (Err (Fault fault)) = new ≡ broken old fault

@@ -28,7 +28,7 @@ pub(crate) enum Due {
 }
 
 impl Due {
-    // How many bytes the field has.
+    // Returns how many bytes the field has.
     pub(crate) fn width(self) -> usize
         ensures value { result ≡ due_width self }
     {

@@ -1,4 +1,4 @@
-//! What was taken of some bytes.
+//! How many of some bytes were taken, and the answer to the last one.
 ghost use Rattle.std.specs.Prelude.{◌≡◌, ◌<◌, ◌-◌, ◌^◌, Err};
 ghost use Rattle.zy_pcap.specs.Standing.{taken_before};
 
@@ -14,7 +14,7 @@ pub struct Fed {
 }
 
 impl Fed {
-    // The byte after `before` others was refused.
+    // Returns the answer when the byte after `before` others was not taken, or was a fault.
     pub(crate) fn stopped(before: usize, refused: PcapFeed) -> Fed
         requires room { before < 2 ^ 64 - 1 }
         ensures taken { result.taken ≡ taken_before before refused }

@@ -26,7 +26,7 @@ impl Model for Flows {
 }
 
 impl Flows {
-    // The streams that were kept.
+    // Makes the streams of the flows that were kept.
     pub(crate) fn of(kept: KeptFlows) -> Flows
         requires limit { length kept.flows.items ≤ 4096 }
         ensures value { result ≡ kept_streams kept.flows.items }
@@ -34,7 +34,7 @@ impl Flows {
         Flows { kept }
     }
 
-    // What is kept.
+    // Returns what is kept.
     #[tactic(auto, using(crate::proofs::StreamLemmas::streams_length))]
     pub(crate) fn kept(&self) -> &[Option<KeptFlow>]
         ensures value { kept_streams result.now ≡ self.now }
@@ -43,7 +43,7 @@ impl Flows {
         self.kept.flows.as_slice()
     }
 
-    /// The count of connections: the greatest number given plus one, or 0.
+    /// Returns the count of connections: the greatest number given plus one, or 0.
     #[tactic(auto, using(crate::proofs::StreamLemmas::streams_length))]
     pub fn count(&self) -> u32
         ensures value { result ≡ length self.now }

@@ -8,7 +8,7 @@ use crate::pcap_fault::PcapFault;
 
 const IP: usize = 14;
 
-// What the frame of a record at this place is, where packets to this port are looked for.
+// Judges the frame of a record at this place, for packets to this port.
 #[tactic(auto, unfolding(crate::specs::Frame::judge))]
 pub(crate) fn judge(port: u16, at: u64, frame: &[u8]) -> Judged
     ensures value { result ≡ frames.judge port at frame.now }
@@ -25,7 +25,7 @@ pub(crate) fn judge(port: u16, at: u64, frame: &[u8]) -> Judged
     }
 }
 
-// The number of two bytes at a place.
+// Returns the number of two bytes at a place.
 fn short_at(frame: &[u8], at: usize) -> u16
     requires within { at + 1 < length frame.now }
     ensures value { result ≡ frames.short_at frame.now at }
@@ -33,7 +33,7 @@ fn short_at(frame: &[u8], at: usize) -> u16
     u16::from_be_bytes([frame[at], frame[at + 1]])
 }
 
-// The number of four bytes at a place.
+// Returns the number of four bytes at a place.
 fn number_at(frame: &[u8], at: usize) -> u32
     requires within { at + 3 < length frame.now }
     ensures value { result ≡ frames.number_at frame.now at }
@@ -41,7 +41,7 @@ fn number_at(frame: &[u8], at: usize) -> u32
     u32::from_be_bytes([frame[at], frame[at + 1], frame[at + 2], frame[at + 3]])
 }
 
-// An IPv6 packet.
+// Judges an IPv6 packet.
 fn judge_ipv6(port: u16, at: u64, frame: &[u8]) -> Judged
     ensures value { result ≡ frames.judge_ipv6 port at frame.now }
     ensures held { IsCarried frame.now result }
@@ -53,7 +53,7 @@ fn judge_ipv6(port: u16, at: u64, frame: &[u8]) -> Judged
     }
 }
 
-// An IP packet.
+// Judges an IP packet.
 fn judge_ip(port: u16, at: u64, frame: &[u8]) -> Judged
     ensures value { result ≡ frames.judge_ip port at frame.now }
     ensures held { IsCarried frame.now result }
@@ -70,7 +70,7 @@ fn judge_ip(port: u16, at: u64, frame: &[u8]) -> Judged
     judge_tcp(port, at, frame)
 }
 
-// An IP packet that has TCP and is no fragment.
+// Judges an IP packet that has TCP and is no fragment.
 fn judge_tcp(port: u16, at: u64, frame: &[u8]) -> Judged
     requires header { frames.ip + 20 ≤ length frame.now }
     ensures value { result ≡ frames.judge_tcp port at frame.now }
@@ -86,7 +86,7 @@ fn judge_tcp(port: u16, at: u64, frame: &[u8]) -> Judged
     judge_payload(at, frame)
 }
 
-// A packet to the port.
+// Judges a packet to the port.
 fn judge_payload(at: u64, frame: &[u8]) -> Judged
     requires header { frames.tcp frame.now + 20 ≤ length frame.now }
     ensures value { result ≡ frames.judge_payload at frame.now }
@@ -115,7 +115,7 @@ fn judge_payload(at: u64, frame: &[u8]) -> Judged
     })
 }
 
-// The addresses and ports of a packet whose TCP header begins at a place.
+// Returns the addresses and ports of a packet whose TCP header begins at a place.
 fn flow_at(frame: &[u8], tcp: usize) -> [u8; 12]
     requires place { tcp ≡ frames.tcp frame.now }
     requires header { tcp + 20 ≤ length frame.now }

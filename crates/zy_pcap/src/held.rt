@@ -14,9 +14,10 @@ const ROW_LIMIT: u32 = 1 << 31;
 /// Bytes by their offsets: those from the first one on in a row, and those after a gap in runs. A byte
 /// that two runs have is that of the run that begins first.
 ///
-/// A packet adds at most one run, no longer than its payload, copies no more bytes than that, and looks
-/// at no more runs than its payload has bytes. When a gap is filled, each run behind it is copied into
-/// the row and goes. So whatever their order, the memory and the bytes copied are linear in the payloads.
+/// A packet adds at most one run, no longer than its payload, copies no more bytes than that, and
+/// looks at no more runs than its payload has bytes. When a gap is filled, each run after it is
+/// copied into the row and dropped. So whatever their order, the memory and the bytes copied are
+/// linear in the payloads.
 #[derive(Drop)]
 pub(crate) struct HeldBytes {
     pub(crate) front: Vec<u8>,
@@ -24,7 +25,7 @@ pub(crate) struct HeldBytes {
 }
 
 impl HeldBytes {
-    // No bytes. Takes no memory.
+    // Begins without bytes. Takes no memory.
     #[tactic(auto, unfolding(crate::specs::Held::byte_held))]
     pub(crate) fn new(alloc: Global) -> HeldBytes
         ensures none { (at : ℕ) → byte_held (parts result) at ≡ None }
@@ -36,8 +37,8 @@ impl HeldBytes {
         }
     }
 
-    // Bytes are there from an offset on, if there was none before. If allocation fails, all bytes are
-    // as before.
+    // Adds bytes from an offset on; those that were kept before stay. If allocation fails, nothing
+    // changes.
     pub(crate) fn add(&mut self, from: u32, bytes: &[u8]) -> Result<(), NoMemory>
         requires within { from + length bytes.now ≤ 2 ^ 31 }
         requires whole { IsWhole self.old }
@@ -61,7 +62,7 @@ impl HeldBytes {
         self.add_next(begin, bytes)
     }
 
-    // Bytes of which some come next after the row, if there are no runs.
+    // Adds bytes of which some come next after the row, when there are no runs.
     fn append(&mut self, from: usize, bytes: &[u8]) -> Result<(), NoMemory>
         requires next { from ≤ length self.old.front.items }
         requires some { length self.old.front.items < from + length bytes.now }
@@ -83,7 +84,7 @@ impl HeldBytes {
         }
     }
 
-    // Bytes of which some come next after the row.
+    // Adds bytes of which some come next after the row.
     fn add_next(&mut self, from: usize, bytes: &[u8]) -> Result<(), NoMemory>
         requires next { from ≤ length self.old.front.items }
         requires some { length self.old.front.items < from + length bytes.now }
@@ -113,7 +114,7 @@ impl HeldBytes {
         }
     }
 
-    // Bytes that come after a gap.
+    // Adds bytes that come after a gap.
     fn add_apart(&mut self, from: u32, bytes: &[u8]) -> Result<(), NoMemory>
         requires apart { length self.old.front.items < from }
         requires within { from + length bytes.now ≤ 2 ^ 31 }
@@ -146,7 +147,7 @@ impl HeldBytes {
         }
     }
 
-    // There is a run that begins at an offset, with at least so many bytes.
+    // Checks whether there is a run that begins at an offset, with at least this many bytes.
     fn has_run(&self, from: u32, size: usize) -> bool
         ensures value { result ≡ has_run self.now.runs.entries from size }
     {
@@ -156,7 +157,7 @@ impl HeldBytes {
         }
     }
 
-    // Forgets the first runs, as far as the row has come to their ends.
+    // Drops the first runs, as far as the row has come to their ends.
     fn forget(&mut self)
         ensures same { HoldsSame (byte_held (parts self.old)) (byte_held (parts self.new)) }
         ensures front { self.new.front ≡ self.old.front }
@@ -164,7 +165,7 @@ impl HeldBytes {
         while self.forget_first() {}
     }
 
-    // Forgets the first run, if the row has come to its end.
+    // Drops the first run, if the row has come to its end.
     fn forget_first(&mut self) -> bool
         ensures same { HoldsSame (byte_held (parts self.old)) (byte_held (parts self.new)) }
         ensures front { self.new.front ≡ self.old.front }
@@ -178,7 +179,7 @@ impl HeldBytes {
         false
     }
 
-    // The row has come to the end of the first run.
+    // Checks whether the row has come to the end of the first run.
     fn is_over(&self) -> bool
         ensures value { result ≡ true → IsOver self.now }
     {
@@ -188,7 +189,7 @@ impl HeldBytes {
         }
     }
 
-    // The bytes from the first one on, up to the first one that is missing.
+    // Returns the bytes from the first one on, up to the first one that is missing.
     pub(crate) fn stream(&self) -> &[u8]
         requires whole { IsWhole self.now }
         ensures value { result.now ≡ longest (byte_held (parts self.now)) }

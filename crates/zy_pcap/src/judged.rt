@@ -9,7 +9,7 @@ pub(crate) struct Segment {
     pub(crate) flow: [u8; 12],
     pub(crate) sequence: u32,
     pub(crate) is_syn: bool,
-    /// The place of the payload's first byte in the frame; 0 where the payload is empty.
+    /// The place of the payload's first byte in the frame; 0 if the payload is empty.
     pub(crate) begin: usize,
     /// The number of the payload's bytes.
     pub(crate) size: usize,

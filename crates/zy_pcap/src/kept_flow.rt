@@ -18,7 +18,7 @@ pub(crate) struct KeptFlow {
 }
 
 impl KeptFlow {
-    // The flow that a packet begins.
+    // Returns the flow that a packet begins.
     pub(crate) fn begun(
         alloc: Global,
         segment: &Segment,
@@ -64,7 +64,7 @@ impl KeptFlow {
         self.begin(segment, payload)
     }
 
-    // A packet is one of the current session.
+    // Checks whether a packet is one of the current session.
     fn goes_on(&self, segment: &Segment) -> bool
         ensures value { result ≡ continues self.now.sessions.items segment.now }
         ensures some { result ≡ true → 0 < length self.now.sessions.items }

@@ -27,7 +27,7 @@ pub(crate) struct KeptFlows {
 }
 
 impl KeptFlows {
-    // No flow. Takes no memory.
+    // Begins without a flow. Takes no memory.
     pub(crate) fn new(alloc: Global) -> KeptFlows
         ensures value { result.flows.items ≡ [] }
     {
@@ -57,7 +57,7 @@ impl KeptFlows {
         }
     }
 
-    // The connection number of a flow.
+    // Returns the connection number of a flow.
     fn slot(&self, key: &[u8; 12]) -> Slot
         ensures value { result ≡ slot_of (kept_keys self.now.flows.items) key.now }
         ensures within { IsNumber result }
@@ -78,7 +78,7 @@ impl KeptFlows {
         Slot::Full
     }
 
-    // The flow to which a number was given.
+    // Returns the flow to which a number was given.
     fn key_of(&self, number: u32) -> Option<&[u8; 12]>
         ensures value { option_map (λ key. key.now) result
             ≡ slice_index_or (kept_keys self.now.flows.items) number None }

@@ -10,7 +10,7 @@ use crate::pcap_fault::{PcapFault, PcapFeed};
 use std::alloc::Global;
 use zy_base::NoMemory;
 
-// An offset from which on, and before twice which, bytes are refused.
+// The first offset whose byte is a fault; those from twice this on come before the session.
 const FAR: u32 = 1 << 30;
 
 /// A session's first sequence number, whether it began with SYN, and its bytes by offset.
@@ -21,7 +21,7 @@ pub(crate) struct KeptSession {
     pub(crate) bytes: KeptStream,
 }
 
-// The sequence number of the first payload byte.
+// Returns the sequence number of the first payload byte.
 fn number_after(sequence: u32, is_syn: bool) -> u32
     ensures value { result ≡ number_after sequence is_syn }
 {
@@ -33,7 +33,7 @@ fn number_after(sequence: u32, is_syn: bool) -> u32
 }
 
 impl KeptSession {
-    // The session that a packet begins.
+    // Returns the session that a packet begins.
     pub(crate) fn begun(
         alloc: Global,
         segment: &Segment,
@@ -55,14 +55,14 @@ impl KeptSession {
         })
     }
 
-    // A packet begins a new session.
+    // Checks whether a packet begins a new session.
     pub(crate) fn is_ended_by(&self, segment: &Segment) -> bool
         ensures value { result ≡ is_ended_by self.now segment.now }
     {
         segment.is_syn && !(self.is_syn && self.sequence == segment.sequence)
     }
 
-    // The offset of a packet's first payload byte.
+    // Returns the offset of a packet's first payload byte.
     fn offset(&self, segment: &Segment) -> u32
         ensures value { result ≡ apart (number_after self.now.sequence self.now.is_syn)
             (number_after segment.now.sequence segment.now.is_syn) }

@@ -25,7 +25,7 @@ impl Model for KeptStream {
 }
 
 impl KeptStream {
-    // No bytes. Takes no memory.
+    // Begins without bytes. Takes no memory.
     pub(crate) fn new(alloc: Global) -> KeptStream
         ensures none { (at : ℕ) → byte_held result at ≡ None }
     {
@@ -34,8 +34,8 @@ impl KeptStream {
         }
     }
 
-    // Bytes are there from an offset on, if there was none before. If allocation fails, all bytes are
-    // as before.
+    // Adds bytes from an offset on; those that were kept before stay. If allocation fails, nothing
+    // changes.
     pub(crate) fn add(&mut self, from: u32, bytes: &[u8]) -> Result<(), NoMemory>
         requires within { from + length bytes.now ≤ 2 ^ 31 }
         ensures ok { OnOk result (HoldsBoth (byte_held self.old) (byte_held self.new)
@@ -45,7 +45,7 @@ impl KeptStream {
         self.held.add(from, bytes)
     }
 
-    // The stream.
+    // Returns the stream.
     pub(crate) fn stream(&self) -> &[u8]
         ensures value { result.now ≡ longest (byte_held self.now) }
     {

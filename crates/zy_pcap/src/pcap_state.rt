@@ -18,14 +18,14 @@ pub(crate) struct PcapState {
 }
 
 impl PcapState {
-    // The same state, if this is the next field.
+    // Returns the same state, with this as the next field.
     pub(crate) fn to(self, due: Due) -> PcapState
         ensures value { result ≡ then_due self due }
     {
         PcapState { due, ..self }
     }
 
-    // The state after a number of four bytes, or its fault.
+    // Returns the state after a number of four bytes, or its fault.
     pub(crate) fn after_number(self, number: u32) -> Result<PcapState, PcapFault>
         requires number { IsNumberDue self.due }
         ensures value { DoesNext (number_does self.due self number) result }
@@ -39,7 +39,7 @@ impl PcapState {
         }
     }
 
-    // The magic.
+    // Returns the state after the magic, or its fault.
     fn after_magic(self, number: u32) -> Result<PcapState, PcapFault>
         ensures value { DoesNext (magic_does self number) result }
     {
@@ -54,7 +54,7 @@ impl PcapState {
         }
     }
 
-    // The version.
+    // Returns the state after the version, or its fault.
     fn after_version(self, number: u32) -> Result<PcapState, PcapFault>
         ensures value { DoesNext (version_does self number) result }
     {
@@ -70,7 +70,7 @@ impl PcapState {
         }
     }
 
-    // The link type.
+    // Returns the state after the link type, or its fault.
     fn after_link_type(self, number: u32) -> Result<PcapState, PcapFault>
         ensures value { DoesNext (link_does self number) result }
     {
@@ -80,7 +80,7 @@ impl PcapState {
         }
     }
 
-    // The captured length of a record.
+    // Returns the state after the captured length of a record, or its fault.
     fn after_captured(self, number: u32) -> Result<PcapState, PcapFault>
         ensures value { DoesNext (captured_does self number) result }
     {

@@ -38,7 +38,7 @@ impl Model for PcapReader {
 }
 
 impl PcapReader {
-    /// A reader to which no byte was fed, of packets to this port. Takes no memory.
+    /// Makes a reader to which no byte was fed, of packets to this port. Takes no memory.
     #[tactic(auto, using(crate::proofs::ReadLemmas::begins))]
     pub fn new(alloc: Global, port: u16) -> PcapReader
         requires port { 1 ≤ port }
@@ -90,8 +90,8 @@ impl PcapReader {
         }
     }
 
-    // Takes some first bytes of these, which are within a frame, and not the last one; maybe none.
-    // Gives how many.
+    // Takes some of these bytes, the first ones, which are within a frame, but not the last one.
+    // Returns how many, which may be none.
     fn take_run(&mut self, bytes: &[u8]) -> usize
         requires some { 0 < length bytes.now }
         ensures port { self.new.port ≡ self.old.port }
@@ -113,8 +113,8 @@ impl PcapReader {
         }
     }
 
-    /// The streams of all flows if the bytes that were fed are a whole file, and otherwise their
-    /// first fault. Takes no memory.
+    /// Returns the streams of all flows if the bytes that were fed are a whole file, and otherwise
+    /// their first fault. Takes no memory.
     #[tactic(auto, using(crate::proofs::ReadLemmas::finished, crate::proofs::ReadLemmas::finished_bad))]
     pub fn finish(self) -> Result<Flows, PcapFault>
         ensures value { FinishesBy self result }
@@ -132,8 +132,8 @@ impl PcapReader {
     }
 }
 
-// Takes the record that has ended, whose frame is whole. If memory is refused, the last byte of the
-// frame is left.
+// Takes the record that has ended, whose frame is whole. If an allocation fails, the last byte of
+// the frame is left.
 fn settle(records: &mut Records, kept: &mut KeptFlows, port: u16) -> Result<(), PcapFeed>
     requires none { records.old.fault ≡ None }
     requires room { records.old.at < file_limit }

@@ -47,7 +47,7 @@ impl Model for Records {
 }
 
 impl Records {
-    // No byte was read. Takes no memory.
+    // Begins before the first byte. Takes no memory.
     pub(crate) fn new(alloc: Global) -> Records
         ensures value { result ≡ at_state file_start 0 }
     {
@@ -64,7 +64,7 @@ impl Records {
         }
     }
 
-    // Whether a file may end here, and its fault otherwise.
+    // Checks whether a file may end here; answers its fault if not.
     pub(crate) fn end(&self) -> Result<(), PcapFault>
         ensures value { EndsAt frames self.now result }
     {
@@ -75,14 +75,14 @@ impl Records {
         }
     }
 
-    // The place of the record that was begun.
+    // Returns the place of the record that was begun.
     pub(crate) fn begun(&self) -> u64
         ensures value { result ≡ self.now.state.begun }
     {
         self.state.begun
     }
 
-    // The bytes read of the expected frame.
+    // Returns the bytes read of the expected frame.
     pub(crate) fn frame(&self) -> &[u8]
         requires none { self.now.fault ≡ None }
         ensures value { result.now ≡ frame_read self.now }
@@ -90,7 +90,7 @@ impl Records {
         self.frame.as_slice()
     }
 
-    // The record has ended.
+    // Ends the record.
     pub(crate) fn end_record(&mut self)
         requires none { self.old.fault ≡ None }
         requires room { self.old.at < file_limit }
@@ -99,7 +99,7 @@ impl Records {
         self.go_on(self.state.to(Due::Begin));
     }
 
-    // There is a fault.
+    // Keeps a fault.
     pub(crate) fn refuse(&mut self, fault: PcapFault)
         ensures value { self.new ≡ broken self.old fault }
     {
@@ -108,7 +108,7 @@ impl Records {
         self.fault = Some(fault);
     }
 
-    // The last byte of a frame that is whole is not read.
+    // Leaves the last byte of a frame that is whole unread.
     pub(crate) fn leave_last(&mut self)
         requires none { self.old.fault ≡ None }
         ensures value { self.new ≡ without_last self.old }
@@ -117,8 +117,8 @@ impl Records {
         self.frame.truncate(rest);
     }
 
-    // Takes some first bytes of these, which are within a frame, and not the last one; maybe none.
-    // Gives how many.
+    // Takes some of these bytes, the first ones, which are within a frame, but not the last one.
+    // Returns how many, which may be none.
     #[tactic(auto, using(crate::proofs::FrameLemmas::none_fed))]
     pub(crate) fn take_run(&mut self, bytes: &[u8]) -> usize
         requires some { 0 < length bytes.now }
@@ -147,7 +147,7 @@ impl Records {
         requires room { self.old.at + length bytes.now ≤ file_limit }
         ensures value { self.new ≡ grown_by self.old bytes.now }
     {
-        // There is room: it was taken at the end of the original length.
+        // There is room, which was reserved at the end of the original length.
         let _ = self.frame.extend_from_slice(bytes);
         self.at += bytes.len() as u64;
     }

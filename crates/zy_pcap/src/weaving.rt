@@ -6,8 +6,8 @@ use std::alloc::Global;
 use std::collections::btree_map::Range;
 use zy_base::{Blob, NoMemory};
 
-// The bytes that are there from an offset on, in a row and up to a limit: those of runs, which count
-// first, and some that begin at that offset.
+// Returns the bytes from an offset on, up to a limit or the first one that is missing: those of
+// runs, which have precedence, and some that begin at that offset.
 //
 // Each of these bytes is copied once, and no run is looked at beyond the first one after a gap.
 pub(crate) fn woven(
@@ -49,8 +49,8 @@ pub(crate) fn woven(
     }
 }
 
-// Appends to a row that begins at an offset those bytes that come next, of some that begin at another
-// offset, up to an end.
+// Appends the bytes that come next after a row, up to an end. The row and the bytes begin at given
+// offsets.
 fn append(
     woven: &mut Vec<u8>,
     from: usize,

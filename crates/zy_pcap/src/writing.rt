@@ -29,7 +29,7 @@ pub fn write_flows<K: Sink>(sink: &mut K, flows: &Flows) -> Result<(), Failed>
     write_whole(sink, b"E")
 }
 
-// The beginning.
+// Writes the beginning.
 #[tactic(auto, unfolding(crate::specs::Texts::start_text))]
 fn write_start<K: Sink>(sink: &mut K, count: u32) -> Result<(), Failed>
     ensures writes { Writes K.holds K.faults K.finishes sink.old sink.new result (start_text count) }
@@ -38,7 +38,7 @@ fn write_start<K: Sink>(sink: &mut K, count: u32) -> Result<(), Failed>
     write_pieces(sink, &[b"ZYGCAP2\n", &count])
 }
 
-// The records of all connections.
+// Writes the records of all connections.
 fn write_connections<K: Sink>(sink: &mut K, flows: &[Option<KeptFlow>]) -> Result<(), Failed>
     requires few { length flows.now ≤ 4096 }
     ensures writes { Writes K.holds K.faults K.finishes sink.old sink.new result
@@ -50,7 +50,7 @@ fn write_connections<K: Sink>(sink: &mut K, flows: &[Option<KeptFlow>]) -> Resul
     Ok(())
 }
 
-// The records of a connection, which may have been given to no flow.
+// Writes the records of a connection, which may have been given to no flow.
 fn write_connection<K: Sink>(sink: &mut K, conn: u32, flow: &Option<KeptFlow>) -> Result<(), Failed>
     ensures writes { Writes K.holds K.faults K.finishes sink.old sink.new result
         (kept_connection conn flow.now) }
@@ -61,7 +61,7 @@ fn write_connection<K: Sink>(sink: &mut K, conn: u32, flow: &Option<KeptFlow>) -
     }
 }
 
-// The records of a flow's sessions.
+// Writes the records of a flow's sessions.
 fn write_sessions<K: Sink>(sink: &mut K, conn: u32, sessions: &[KeptSession]) -> Result<(), Failed>
     ensures writes { Writes K.holds K.faults K.finishes sink.old sink.new result
         (numbered_from (kept_text conn) 0 sessions.now) }
@@ -72,7 +72,7 @@ fn write_sessions<K: Sink>(sink: &mut K, conn: u32, sessions: &[KeptSession]) ->
     Ok(())
 }
 
-// The records of a session, after a close record if it is not the first one.
+// Writes the records of a session, after a close record if it is not the first one.
 fn write_session<K: Sink>(
     sink: &mut K,
     conn: u32,
@@ -89,7 +89,7 @@ fn write_session<K: Sink>(
     write_stream(sink, conn, stream.stream())
 }
 
-// A close record.
+// Writes a close record.
 #[tactic(auto, unfolding(crate::specs::Texts::close_text))]
 fn write_close<K: Sink>(sink: &mut K, conn: u32) -> Result<(), Failed>
     ensures writes { Writes K.holds K.faults K.finishes sink.old sink.new result (close_text conn) }
@@ -98,7 +98,7 @@ fn write_close<K: Sink>(sink: &mut K, conn: u32) -> Result<(), Failed>
     write_pieces(sink, &[b"C", &number])
 }
 
-// The segments of a stream.
+// Writes the segments of a stream.
 fn write_stream<K: Sink>(sink: &mut K, conn: u32, bytes: &[u8]) -> Result<(), Failed>
     ensures writes { Writes K.holds K.faults K.finishes sink.old sink.new result
         (stream_text conn bytes.now) }
@@ -112,7 +112,7 @@ fn write_stream<K: Sink>(sink: &mut K, conn: u32, bytes: &[u8]) -> Result<(), Fa
     Ok(())
 }
 
-// A segment.
+// Writes a segment.
 fn write_segment<K: Sink>(sink: &mut K, conn: u32, bytes: &[u8]) -> Result<(), Failed>
     requires few { length bytes.now ≤ 65535 }
     ensures writes { Writes K.holds K.faults K.finishes sink.old sink.new result
@@ -122,7 +122,7 @@ fn write_segment<K: Sink>(sink: &mut K, conn: u32, bytes: &[u8]) -> Result<(), F
     write_whole(sink, bytes)
 }
 
-// The beginning of a segment.
+// Writes the beginning of a segment.
 #[tactic(auto, unfolding(crate::specs::Texts::segment_head))]
 fn write_head<K: Sink>(sink: &mut K, conn: u32, size: u32) -> Result<(), Failed>
     ensures writes { Writes K.holds K.faults K.finishes sink.old sink.new result (segment_head conn size) }

@@ -13,7 +13,7 @@ use crate::pcap_state::PcapState;
 
 impl Records {
     // Takes the next byte; `true` at the last byte of a record, whose frame is whole then. The
-    // caller ends the record, refuses it, or leaves its last byte.
+    // caller then ends the record, keeps its fault, or leaves its last byte unread.
     #[tactic(auto, using(crate::proofs::DueLemmas::full_step))]
     pub(crate) fn take(&mut self, byte: u8) -> Result<bool, PcapFeed>
         requires part { IsPartOfField self.old }
@@ -31,7 +31,7 @@ impl Records {
         }
     }
 
-    // The byte is a fault.
+    // Keeps the fault of a byte, and answers it.
     fn fail(&mut self, fault: PcapFault) -> Result<bool, PcapFeed>
         ensures value { result ≡ Err (Fault fault) }
         ensures state { self.new ≡ broken self.old fault }
@@ -40,7 +40,7 @@ impl Records {
         Err(PcapFeed::Fault(fault))
     }
 
-    // A byte of a frame.
+    // Takes a byte of a frame.
     #[tactic(auto, using(crate::proofs::DueLemmas::take_front))]
     fn take_frame(&mut self, others: u32, byte: u8) -> bool
         requires due { self.old.state.due ≡ Dues.Frame others }
@@ -57,7 +57,7 @@ impl Records {
         true
     }
 
-    // A byte of a field that is no frame.
+    // Takes a byte of a field that is no frame.
     fn take_word(&mut self, byte: u8) -> Result<bool, PcapFeed>
         requires word { IsWord self.old.state.due }
         requires none { self.old.fault ≡ None }
@@ -71,7 +71,7 @@ impl Records {
         self.end_word(byte)
     }
 
-    // The byte is not the last one of its field.
+    // Keeps a byte that is not the last one of its field.
     #[tactic(auto, using(crate::proofs::DueLemmas::word_seen, crate::proofs::DueLemmas::word_kept, crate::proofs::DueLemmas::word_short))]
     fn keep(&mut self, byte: u8)
         requires word { IsWord self.old.state.due }
@@ -84,7 +84,7 @@ impl Records {
         self.at += 1;
     }
 
-    // The last byte of a field that is no frame.
+    // Takes the last byte of a field that is no frame.
     fn end_word(&mut self, byte: u8) -> Result<bool, PcapFeed>
         requires word { IsWord self.old.state.due }
         requires last { length self.old.seen + 1 ≡ due_width self.old.state.due }
@@ -115,7 +115,7 @@ impl Records {
         Ok(false)
     }
 
-    // The number of four bytes, this one the last.
+    // Returns the number of four bytes, of which this one is the last.
     #[tactic(auto, using(crate::proofs::DueLemmas::word_seen))]
     fn number(&self, byte: u8) -> u32
         requires word { IsWord self.now.state.due }
@@ -130,7 +130,7 @@ impl Records {
         }
     }
 
-    // The byte is the last one of its field, and this is the state after it.
+    // Goes on after the last byte of a field, to this state.
     #[tactic(auto, using(crate::proofs::DueLemmas::word_seen, crate::proofs::DueLemmas::word_kept, crate::proofs::DueLemmas::some_width))]
     pub(super) fn go_on(&mut self, next: PcapState)
         requires word { IsWord next.due }
@@ -145,7 +145,7 @@ impl Records {
         self.at += 1;
     }
 
-    // The last byte of an original length. It needs memory.
+    // Takes the last byte of an original length. It needs memory.
     fn end_original(&mut self, size: u32) -> Result<bool, PcapFeed>
         requires due { self.old.state.due ≡ Dues.Original size }
         requires none { self.old.fault ≡ None }
