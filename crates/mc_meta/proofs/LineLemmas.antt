@@ -1,4 +1,4 @@
--- What a line says, by its words alone, which are at their places.
+-- What a line says depends only on its words, which are at their places.
 use Rattle.std.proofs.Common.{◌≡◌, ℕ, List, [], ◌∷◌, map, refl, ap, ◌∙◌}
 use Rattle.std.specs.List.{AllByRecursion}
 use Rattle.mc_meta.specs.Words.{Placed, words, words_at, text_of, IsWordIn}

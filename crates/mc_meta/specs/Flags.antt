@@ -49,7 +49,7 @@ mode_of token = None
 abbrev pub no_flags : Flags
 no_flags = record { seen = []; marks = []; flags = 0; unique = None; mode = set_mode }
 
--- a further letter was seen
+-- one more letter was seen
 abbrev pub with_letter : Flags → ℕ → Flags
 with_letter said letter = record {
   seen = said.seen ++ letter ∷ [];
@@ -59,7 +59,7 @@ with_letter said letter = record {
   mode = said.mode;
 }
 
--- a further letter has no token
+-- one more letter has no token
 abbrev pub with_mark : Flags → ℕ → Flags
 with_mark said letter = record {
   seen = said.seen;
@@ -99,13 +99,13 @@ with_mode said mode = record {
   mode = mode;
 }
 
--- a letter that has no token
+-- the flags with a letter that has no token
 abbrev pub with_lone : Flags → ℕ → List ℕ → Option Flags
 with_lone said letter [] = Some (with_mark said letter)
 with_lone said letter token = None
 
--- a letter with its token: `F` has a number below 2^32, `C` one below 2^64, `M` a mode, and `T` an exptime, which has
--- no effect; other letters have no token
+-- the flags with a letter and its token: `F` has a number below 2^32, `C` one below 2^64, `M` a mode, and `T` an
+-- exptime, which has no effect; other letters have no token
 abbrev pub with_token : Flags → ℕ → List ℕ → Option Flags
 with_token said letter token =
     if letter == 70 then option_map (with_flags said) (small_number_of token) else
@@ -114,7 +114,7 @@ with_token said letter token =
     if letter == 84 then (if is_exptime token then Some said else None) else
     with_lone said letter token
 
--- what some flags and a further one say, where its letter is listed and new, and its token is good
+-- what some flags and one more say; none unless its letter is listed and new, and its token is good
 abbrev pub with_flag : List ℕ → Flags → List ℕ → Option Flags
 with_flag listed said [] = None
 with_flag listed said (letter ∷ token) =
@@ -122,12 +122,12 @@ with_flag listed said (letter ∷ token) =
     then with_token (with_letter said letter) letter token
     else None
 
--- what some flags and then these words say; none where a word is no flag
+-- what some flags and then these words say; none if a word is no flag
 abbrev pub flags_after : List ℕ → Flags → List Placed → Option Flags
 flags_after listed said [] = Some said
 flags_after listed said (word ∷ words) =
     option_and_then (λ more. flags_after listed more words) (with_flag listed said word.text)
 
--- what these words say as flags; none where a word is no flag
+-- what these words say as flags; none if a word is no flag
 abbrev pub flags_of : List ℕ → List Placed → Option Flags
 flags_of listed words = flags_after listed no_flags words

@@ -53,23 +53,23 @@ set_with key (Some bytes) (Some said) = if agrees said.unique said.mode
     else Bad
 set_with key bytes said = Bad
 
--- no word after `mn`
+-- what the words after `mn` say: there must be none
 abbrev pub noop_line : List Placed → MetaLine
 noop_line [] = Noop
 noop_line words = WrongCount
 
--- a key and flags after `mg`
+-- what the words after `mg` say: a key and flags
 abbrev pub get_line : List Placed → MetaLine
 get_line [] = WrongCount
 get_line (key ∷ words) = keyed key (get_with key (flags_of get_letters words))
 
--- a key, a datalen and flags after `ms`
+-- what the words after `ms` say: a key, a datalen and flags
 abbrev pub set_line : List Placed → MetaLine
 set_line (key ∷ datalen ∷ words) =
     keyed key (set_with key (small_number_of datalen.text) (flags_of set_letters words))
 set_line words = WrongCount
 
--- a key and flags after `md`
+-- what the words after `md` say: a key and flags
 abbrev pub delete_line : List Placed → MetaLine
 delete_line [] = WrongCount
 delete_line (key ∷ words) = keyed key (delete_with key (flags_of delete_letters words))
@@ -81,7 +81,7 @@ abbrev pub is_meta_name : List ℕ → Bool
 is_meta_name name =
     bytes_eq name (codes "mn") || bytes_eq name (codes "mg") || bytes_eq name (codes "ms") || bytes_eq name (codes "md")
 
--- what a line says whose first word is this name, with the words after it
+-- what a line with this first word says, by the words after it
 abbrev pub line_of : List ℕ → List Placed → MetaLine
 line_of name words =
     if bytes_eq name (codes "mn") then noop_line words else

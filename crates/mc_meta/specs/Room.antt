@@ -7,13 +7,13 @@ use Rattle.mc_meta.specs.Flags.{is_among}
 abbrev pub used : List ℕ → List ℕ → List ℕ
 used listed seen = filter (is_among seen) listed
 
--- at most six letters are listed, and those seen, of which the marks are some, are listed and differ
+-- at most six letters are listed; those seen are listed and differ, and the marks are among them
 pub record HasRoom (listed : List ℕ) (said : Flags) : Type 0 where
   pub few : length listed ≤ 6
   pub seen : length said.seen ≤ length (used listed said.seen)
   pub marks : length said.marks ≤ length said.seen
 
--- further flags have seen the same letters, and have one more mark at most
+-- the second flags have seen the same letters, and have at most one more mark
 pub record Follows (said more : Flags) : Type 0 where
   pub seen : more.seen ≡ said.seen
   pub marks : length more.marks ≤ length said.marks + 1

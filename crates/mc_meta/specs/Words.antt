@@ -1,4 +1,4 @@
--- The words of a line, which spaces part, and their places in it.
+-- The words of a line, which are separated by spaces, and their places in it.
 use Rattle.std.specs.Prelude.{◌≡◌, ◌<◌, ◌≤◌, ℕ, ◌+◌, Bool, true, false, ◌==◌, if◌then◌else◌}
 use Rattle.std.specs.Prelude.{List, [], ◌∷◌, length, filter, take, drop}
 
@@ -17,7 +17,7 @@ abbrev pub put_before : ℕ → List (List ℕ) → List (List ℕ)
 put_before byte [] = (byte ∷ []) ∷ []
 put_before byte (piece ∷ pieces) = (byte ∷ piece) ∷ pieces
 
--- the pieces of a text, which ends a piece at each space
+-- the pieces of a text: each space ends a piece
 abbrev pub pieces_of : List ℕ → List (List ℕ)
 pieces_of [] = [] ∷ []
 pieces_of (byte ∷ bytes) =
@@ -39,7 +39,7 @@ pub record Placed : Type 0 where
   pub from : ℕ
   pub text : List ℕ
 
--- pieces with their places, where the first begins at a place, and a space is between two of them
+-- pieces with their places, from some place on, with a space between two of them
 abbrev pub placed : ℕ → List (List ℕ) → List Placed
 placed at [] = []
 placed at (piece ∷ pieces) =

@@ -3,7 +3,7 @@ ghost use Rattle.std.specs.Prelude.{◌≡◌};
 ghost use Rattle.std.specs.Str.{all_ascii_digits};
 ghost use Rattle.mc_meta.specs.Number.{is_exptime, without_sign};
 
-/// Whether a word is an exptime: 1 to 19 digits, with a minus sign before them or not.
+/// Checks whether a word is an exptime: 1 to 19 digits, which a minus sign may precede.
 pub fn is_exptime(word: &[u8]) -> bool
     ensures value { result ≡ is_exptime word.now }
 {
@@ -11,7 +11,7 @@ pub fn is_exptime(word: &[u8]) -> bool
     !digits.is_empty() && digits.len() <= 19 && are_digits(digits)
 }
 
-// The word without the minus sign that it may begin with.
+// Returns the word without the minus sign that it may begin with.
 fn without_sign(word: &[u8]) -> &[u8]
     ensures value { result.now ≡ without_sign word.now }
 {
@@ -22,7 +22,7 @@ fn without_sign(word: &[u8]) -> &[u8]
     }
 }
 
-// Whether all bytes are digits.
+// Checks whether all bytes are digits.
 fn are_digits(text: &[u8]) -> bool
     ensures value { result ≡ all_ascii_digits text.now }
 {

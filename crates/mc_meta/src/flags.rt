@@ -24,8 +24,8 @@ pub(crate) struct Flags {
     pub(crate) mode: u8,
 }
 
-/// What the words of a text that begins at a place of the line say as flags; `None` where a word is
-/// no flag.
+/// Reads what the words of a text that begins at a place of the line say as flags; `None` if a
+/// word is no flag.
 pub(crate) fn read_flags(listed: &[u8], at: usize, text: &[u8]) -> Option<Flags>
     requires few { length listed.now ≤ 6 }
     requires within { at + length text.now ≤ line_limit }
@@ -51,7 +51,7 @@ pub(crate) fn read_flags(listed: &[u8], at: usize, text: &[u8]) -> Option<Flags>
     Some(flags)
 }
 
-// What some flags and a further one say; `None` where the word is no flag.
+// Returns what some flags and one more say; `None` if the word is no flag.
 fn with_flag(listed: &[u8], mut flags: Flags, word: &[u8]) -> Option<Flags>
     requires room { HasRoom listed.now flags }
     ensures value { result ≡ with_flag listed.now flags word.now }
@@ -67,7 +67,7 @@ fn with_flag(listed: &[u8], mut flags: Flags, word: &[u8]) -> Option<Flags>
     with_token(flags, *letter, token)
 }
 
-// What some flags say with a letter and its token; `None` where the token is bad.
+// Returns what some flags say with a letter and its token; `None` if the token is bad.
 fn with_token(mut flags: Flags, letter: u8, token: &[u8]) -> Option<Flags>
     requires room { length flags.marks < 6 }
     ensures value { result ≡ with_token flags letter token.now }
@@ -100,7 +100,7 @@ fn with_token(mut flags: Flags, letter: u8, token: &[u8]) -> Option<Flags>
     }
 }
 
-// What some flags say with a letter that has no token.
+// Returns what some flags say with a letter that has no token.
 fn with_lone(mut flags: Flags, letter: u8, token: &[u8]) -> Option<Flags>
     requires room { length flags.marks < 6 }
     ensures value { result ≡ with_lone flags letter token.now }
@@ -113,7 +113,7 @@ fn with_lone(mut flags: Flags, letter: u8, token: &[u8]) -> Option<Flags>
     Some(flags)
 }
 
-// The mode that a token is, in capitals.
+// Reads the mode that a token is, in capitals.
 fn read_mode(token: &[u8]) -> Option<u8>
     ensures value { result ≡ mode_of token.now }
 {
@@ -123,7 +123,7 @@ fn read_mode(token: &[u8]) -> Option<u8>
     }
 }
 
-// The mode that a letter is, in capitals.
+// Returns the mode that a letter is, in capitals.
 fn capital_mode(letter: u8) -> Option<u8>
     ensures value { result ≡ mode_of_letter letter }
 {

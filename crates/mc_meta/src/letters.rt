@@ -22,7 +22,7 @@ impl Model for Letters {
 }
 
 impl Letters {
-    // No letter.
+    // Begins without a letter.
     pub(crate) fn new() -> Letters
         ensures value { result ≡ [] }
     {
@@ -32,7 +32,7 @@ impl Letters {
         }
     }
 
-    /// The letter at a place; `None` exactly past the end.
+    /// Returns the letter at a place; `None` if and only if the place is past the end.
     pub fn get(&self, i: usize) -> Option<u8>
         ensures value { result ≡ slice_get self.now i }
         ensures none { (result ≡ None) ↔ (length self.now ≤ i) }
@@ -45,14 +45,14 @@ impl Letters {
         }
     }
 
-    /// The letters, in the line's order.
+    /// Returns the letters, in the line's order.
     pub fn bytes(&self) -> &[u8]
         ensures value { result.now ≡ self.now }
     {
         &self.bytes[..self.count as usize]
     }
 
-    /// Whether a letter is one of them.
+    /// Checks whether a letter is one of them.
     pub fn has(&self, letter: u8) -> bool
         ensures value { result ≡ is_among self.now letter }
     {

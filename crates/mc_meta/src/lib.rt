@@ -1,4 +1,4 @@
-//! From a line to the meta command that it is, with places in the line.
+//! Reads a line as a meta command, with places in the line.
 #![tactic(auto)]
 
 mod exptime;

@@ -32,11 +32,11 @@ pub enum MetaLine {
         key: Span,
         /// The number of bytes of the value.
         bytes: u32,
-        /// The flags of the item, 0 where the line has none.
+        /// The flags of the item, 0 if the line has none.
         flags: u32,
-        /// The unique that the item must have, where the line has one.
+        /// The unique that the item must have, if the line has one.
         unique: Option<u64>,
-        /// `E`, `A`, `P`, `R` or `S`, in capitals; `S` where the line has none.
+        /// `E`, `A`, `P`, `R` or `S`, in capitals; `S` if the line has none.
         mode: u8,
         /// The letters without a token, in the line's order.
         marks: Letters,

@@ -2,7 +2,7 @@
 ghost use Rattle.std.specs.Prelude.{◌≡◌, ◌<◌, ◌≤◌, ◌+◌, ◌*◌, ◌^◌, IfSome, IfNone};
 ghost use Rattle.mc_meta.specs.Number.{number_of, small_number_of};
 
-/// The number that 1 to 20 digits spell, where it is below 2^64; leading zeros are allowed.
+/// Reads a number of 1 to 20 digits, if it is below 2^64; leading zeros are allowed.
 pub(crate) fn read_number(text: &[u8]) -> Option<u64>
     ensures value { result ≡ number_of text.now }
 {
@@ -22,7 +22,7 @@ pub(crate) fn read_number(text: &[u8]) -> Option<u64>
     Some(number)
 }
 
-// The number whose digits are those of a number and then this one, where it is below 2^64.
+// Returns the number with this digit after its own, if it is below 2^64.
 fn with_digit(number: u64, digit: u8) -> Option<u64>
     requires { digit < 10 }
     ensures fits { IfSome result (λ longer. longer ≡ number * 10 + digit) }
@@ -34,7 +34,7 @@ fn with_digit(number: u64, digit: u8) -> Option<u64>
     }
 }
 
-/// The number below 2^32 that a word of 1 to 20 digits spells; leading zeros are allowed.
+/// Reads a number of 1 to 20 digits, if it is below 2^32; leading zeros are allowed.
 pub fn read_small_number(word: &[u8]) -> Option<u32>
     ensures value { result ≡ small_number_of word.now }
 {

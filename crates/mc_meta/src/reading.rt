@@ -9,8 +9,8 @@ use crate::meta_line::MetaLine;
 use crate::number::read_small_number;
 use crate::word::{Split, is_key, next_word};
 
-/// What a line says as a meta command. The line is given without the bytes that end it. The key that it
-/// has is a word of it. Takes no memory.
+/// Reads what a line says as a meta command. The line is given without the bytes that end it. Its
+/// key is a word of the line. Takes no memory.
 pub fn read_meta(line: &[u8]) -> MetaLine
     requires within { length line.now ≤ line_limit }
     ensures value { result ≡ meta_line line.now }
@@ -22,7 +22,7 @@ pub fn read_meta(line: &[u8]) -> MetaLine
     }
 }
 
-// What a line says whose first word is this name, with the text after it.
+// Reads what a line with this first word says, by the text after the word.
 fn read_after(name: &[u8], at: usize, text: &[u8]) -> MetaLine
     requires within { at + length text.now ≤ line_limit }
     ensures value { result ≡ line_of name.now (words_at at text.now) }
@@ -40,7 +40,7 @@ fn read_after(name: &[u8], at: usize, text: &[u8]) -> MetaLine
     }
 }
 
-// No word after `mn`.
+// Reads what comes after `mn`, which must be no word.
 fn read_noop(at: usize, text: &[u8]) -> MetaLine
     requires within { at + length text.now ≤ line_limit }
     ensures value { result ≡ noop_line (words_at at text.now) }
@@ -51,7 +51,7 @@ fn read_noop(at: usize, text: &[u8]) -> MetaLine
     }
 }
 
-// A key and flags after `mg`.
+// Reads a key and flags after `mg`.
 fn read_get(at: usize, text: &[u8]) -> MetaLine
     requires within { at + length text.now ≤ line_limit }
     ensures value { result ≡ get_line (words_at at text.now) }
@@ -71,7 +71,7 @@ fn read_get(at: usize, text: &[u8]) -> MetaLine
     }
 }
 
-// A key and flags after `md`.
+// Reads a key and flags after `md`.
 fn read_delete(at: usize, text: &[u8]) -> MetaLine
     requires within { at + length text.now ≤ line_limit }
     ensures value { result ≡ delete_line (words_at at text.now) }
@@ -91,7 +91,7 @@ fn read_delete(at: usize, text: &[u8]) -> MetaLine
     }
 }
 
-// A key, a datalen and flags after `ms`.
+// Reads a key, a datalen and flags after `ms`.
 fn read_set(at: usize, text: &[u8]) -> MetaLine
     requires within { at + length text.now ≤ line_limit }
     ensures value { result ≡ set_line (words_at at text.now) }
@@ -111,7 +111,7 @@ fn read_set(at: usize, text: &[u8]) -> MetaLine
     }
 }
 
-// What the line of a storage command says, by its key, its datalen and its flags.
+// Returns what the line of a storage command says, by its key, its datalen and its flags.
 fn set_with(key: Split<'_>, bytes: Option<u32>, said: Flags) -> MetaLine
     requires places { key.to ≡ key.from + length key.word.now }
     ensures value { result ≡ set_with
@@ -133,7 +133,7 @@ fn set_with(key: Split<'_>, bytes: Option<u32>, said: Flags) -> MetaLine
     }
 }
 
-// Whether a unique, where there is one, goes with the mode.
+// Checks whether there is no unique, or the mode is one that goes with it.
 fn agrees(unique: Option<u64>, mode: u8) -> bool
     ensures value { result ≡ agrees unique mode }
 {

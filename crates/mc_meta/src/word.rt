@@ -18,7 +18,7 @@ pub(crate) struct Split<'a> {
 }
 
 impl Split<'_> {
-    /// The place of the word.
+    /// Returns the place of the word.
     pub(crate) fn span(&self) -> Span
         requires places { self.now.to ≡ self.now.from + length self.now.word.now }
         ensures value { result
@@ -31,7 +31,7 @@ impl Split<'_> {
     }
 }
 
-/// The first word of a text that begins at a place of the line, and the text after it.
+/// Returns the first word of a text that begins at a place of the line, and the text after it.
 #[tactic(auto, using(crate::proofs::WordLemmas::words_none))]
 pub(crate) fn next_word(at: usize, text: &[u8]) -> Option<Split<'_>>
     requires within { at + length text.now ≤ line_limit }
@@ -57,7 +57,8 @@ pub(crate) fn next_word(at: usize, text: &[u8]) -> Option<Split<'_>>
     })
 }
 
-/// How many spaces a text begins with. The text after them has the same words at the same places.
+/// Returns how many spaces a text begins with. The text after them has the same words at the same
+/// places.
 #[tactic(auto, using(crate::proofs::WordLemmas::words_past, crate::proofs::PlaceLemmas::same_words))]
 pub fn count_spaces(text: &[u8]) -> usize
     ensures value { words (drop result text.now) ≡ words text.now }
@@ -74,9 +75,9 @@ pub fn count_spaces(text: &[u8]) -> usize
     text.len()
 }
 
-/// The length of the word that a text begins with: the number of bytes before the first space, or
-/// of all bytes where there is none. The other words are those of the text after it. Keys are long, so that
-/// four bytes are looked at in a step.
+/// Returns the length of the word that a text begins with: the number of bytes before the first
+/// space, or of all bytes if there is none. The other words are those of the text after it. Four
+/// bytes are tested in a step, since keys are long.
 #[tactic(auto, using(crate::proofs::WordLemmas::word_ends_at, crate::proofs::WordLemmas::ended_whole))]
 pub fn word_length(text: &[u8]) -> usize
     requires some { 0 < length text.now }
@@ -112,7 +113,7 @@ pub fn word_length(text: &[u8]) -> usize
     text.len()
 }
 
-/// Whether a word has at most 250 bytes, and so is not too long for a key.
+/// Checks whether a word has at most 250 bytes, and so is not too long for a key.
 pub fn is_key(word: &[u8]) -> bool
     ensures value { result ≡ is_key word.now }
 {
