@@ -6,7 +6,7 @@ use Rattle.mc_stats.specs.declared.counts.Counts.{Counts}
 abbrev pub no_counts : Counts
 no_counts = record { gets = 0; sets = 0; hits = 0; misses = 0; items = 0 }
 
--- a get is counted, and that it found an item or missed it
+-- a get is counted, and whether it found an item
 abbrev pub with_get : Bool → Counts → Counts
 with_get hit counts = record {
   gets = counts.gets + 1;
@@ -26,7 +26,7 @@ with_set counts = record {
   items = counts.items;
 }
 
--- a further item is counted
+-- one more item is counted
 abbrev pub with_item : Counts → Counts
 with_item counts = record {
   gets = counts.gets;
@@ -36,7 +36,7 @@ with_item counts = record {
   items = counts.items + 1;
 }
 
--- an item less is counted
+-- one item less is counted
 abbrev pub without_item : Counts → Counts
 without_item counts = record {
   gets = counts.gets;

@@ -2,8 +2,8 @@
 ghost use Rattle.std.specs.Prelude.{◌≡◌, ◌<◌, ◌≤◌, ◌^◌, ◌-◌, true, false};
 ghost use Rattle.mc_stats.specs.Counts.{no_counts, with_get, with_set, with_item, without_item, without_items};
 
-/// How many calls got a value, stored one, found their item or missed it, and how many items there
-/// are.
+/// The numbers of gets, of calls that store a value, of gets that found an item and that found
+/// none, and of items.
 #[derive(Clone, Copy, PartialEq, Eq)]
 pub struct Counts {
     /// Calls that get the item of a key.
@@ -19,7 +19,7 @@ pub struct Counts {
 }
 
 impl Counts {
-    /// All counts are 0.
+    /// Begins with all counts 0.
     pub fn new() -> Counts
         ensures value { result ≡ no_counts }
     {
@@ -32,7 +32,7 @@ impl Counts {
         }
     }
 
-    /// Counts a get, which found an item or missed it.
+    /// Counts a get, and whether it found an item.
     pub fn got(&mut self, hit: bool)
         requires gets { self.old.gets < 2 ^ 64 - 1 }
         requires hits { hit ≡ true → self.old.hits < 2 ^ 64 - 1 }
@@ -71,7 +71,7 @@ impl Counts {
         self.items -= 1;
     }
 
-    /// Counts that all items were removed.
+    /// Sets the count of items to 0.
     pub fn emptied(&mut self)
         ensures value { self.new ≡ without_items self.old }
     {
