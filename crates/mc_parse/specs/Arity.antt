@@ -6,7 +6,7 @@ use Rattle.mc_parse.specs.Words.{is_noreply}
 
 -- ---- numbers of words
 
--- between `least` and `most` words follow; where there are `most`, the last must be noreply
+-- between `least` and `most` words follow; if there are `most`, the last must be noreply
 abbrev pub from_to : ℕ → ℕ → Arity
 from_to least most = record { least = least; most = Some most; noreply = true }
 
@@ -20,7 +20,7 @@ no_more = record { least = 0; most = Some 0; noreply = false }
 
 -- ---- the number of words
 
--- a number is not above a limit, where there is a limit
+-- there is no limit, or the number is not above it
 abbrev pub is_within : Option ℕ → ℕ → Bool
 is_within None count = true
 is_within (Some most) count = nat_le count most
@@ -70,7 +70,7 @@ abbrev pub following : List (List ℕ) → Bool → Following
 following words true = record { words = but_last words; quiet = true }
 following words false = record { words = words; quiet = false }
 
--- what follows a name, where the number of words is allowed and noreply is not missing
+-- what follows a name; none unless the number of words is allowed and noreply is not missing
 abbrev pub following_of : Arity → List (List ℕ) → Option Following
 following_of arity words = if has_count arity (length words) && not (lacks_noreply arity words)
     then Some (following words (asks_silence arity words))

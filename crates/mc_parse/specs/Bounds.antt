@@ -9,7 +9,7 @@ use Rattle.mc_parse.specs.Saying.{Saying, says_items, says_marks}
 use Rattle.mc_parse.specs.Deed.{says_of}
 use Rattle.mc_parse.specs.Calls.{Due}
 
--- the keys and the value of what is done on the shards are within their bounds
+-- the keys and the value of a deed are within their bounds
 abbrev pub IsDeed : Deed → Type 0
 IsDeed (makes_one call) = IsCall call
 IsDeed (gets_each keys) = AllByRecursion IsKey keys

@@ -35,12 +35,12 @@ get_calls shards keys = map (get_at shards) keys
 abbrev pub calls_on_all : Call → ℕ → List ShardCall
 calls_on_all call shards = map (on_shard call) (range_with_len 0 shards)
 
--- a call alone, on the shard of its key; none where it has no key
+-- the list of a call, on the shard of its key; no call if it has no key
 abbrev pub call_alone : ℕ → Call → Option (List ℕ) → List ShardCall
 call_alone shards call None = []
 call_alone shards call (Some key) = at_key shards key call ∷ []
 
--- the calls of what is done on `shards` shards, in their order
+-- the calls of a deed on `shards` shards, in their order
 abbrev pub calls_by : ℕ → Deed → List ShardCall
 calls_by shards does_nothing = []
 calls_by shards (makes_one call) = call_alone shards call (key_of call)

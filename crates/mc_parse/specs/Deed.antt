@@ -1,5 +1,6 @@
 -- What a command does on the shards, and what answers it (docs/PROFILE.md, "Calls" and "Answers"). Its calls, its keys,
--- their bounds and their number go by the first alone, and its text, the size of it and what it shows by the second.
+-- their bounds and their number depend only on the first; its text, the size of that and what it shows only on the
+-- second.
 use Rattle.std.specs.Prelude.{ℕ, Bool, true, false, List}
 use Rattle.mc_calls.specs.declared.call.Call.{Call}
 use Rattle.mc_calls.specs.declared.call.Call.TheVariants.{Get as GetCall, Set as SetCall, Add as AddCall}
@@ -95,13 +96,13 @@ deed_of command = (command_row command).deed
 abbrev pub says_of : Command → Saying
 says_of command = (command_row command).says
 
--- an answer is not given
+-- the answer is not sent
 abbrev pub is_unsaid : Saying → Bool
 is_unsaid (says_reply quiet) = quiet
 is_unsaid (says_line line quiet) = quiet
 is_unsaid says = false
 
--- what is done is one call at most
+-- a deed is at most one call
 abbrev pub IsOnce : Deed → Type 0
 IsOnce (gets_each keys) = ⊥
 IsOnce (makes_on_all made) = ⊥

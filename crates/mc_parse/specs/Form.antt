@@ -33,9 +33,9 @@ use Rattle.mc_parse.specs.Arity.{Following, following_of}
 pub data Ask : Type 0 where
   -- store a block: the verb, the key, the flags, and the bytes of the value
   stores : Verb → List ℕ → ℕ → ℕ → Ask
-  -- the same over an item: the key, the flags, the bytes, and the item's unique
+  -- store a block in place of an item: the key, the flags, the bytes, and the item's unique
   exchanges : List ℕ → ℕ → ℕ → ℕ → Ask
-  -- get the items of these keys, with their uniques or not
+  -- get the items of these keys, and whether with their uniques
   gets : List (List ℕ) → Bool → Ask
   -- remove the item of a key
   deletes : List ℕ → Ask
@@ -61,7 +61,7 @@ pub data Form : Type 0 where
   -- it asks for this, quietly or not
   asks : Ask → Bool → Form
 
--- what is asked for, unless it is a retrieval, with the parts of the line as texts
+-- a request that is no retrieval, with the parts of the line as texts
 abbrev pub ask_seen : SeenAsk → Ask
 ask_seen (Asked.Store verb key flags bytes) = stores verb key.now flags bytes
 ask_seen (Asked.Cas key flags bytes unique) = exchanges key.now flags bytes unique
@@ -75,18 +75,18 @@ ask_seen Asked.Quit = quits
 
 -- ---- what is asked for, as a command
 
--- a fault of a line by itself
+-- the fault of a line, which is answered
 abbrev pub fault : ErrorLine → Command
 fault line = Commands.Fault line false
 
--- what a meta line that needs nothing asks for; one that needs a block counts as unknown
+-- the command of a meta request without a block; one that needs a block counts as unknown
 abbrev pub alone_meta : MetaAsk → Command
 alone_meta noops = Commands.Meta MetaCommands.Noop
 alone_meta (meta_gets key flags) = Commands.Meta (MetaCommands.Get key flags)
 alone_meta (meta_deletes key flags) = Commands.Meta (MetaCommands.Delete key flags)
 alone_meta ask = fault Unknown
 
--- what a meta line asks for with a value; one that takes no value counts as unknown
+-- the command of a meta request with a value; one that takes no value counts as unknown
 abbrev pub value_meta : MetaAsk → List ℕ → Command
 value_meta (meta_stores verb key flags bytes marks) value =
     Commands.Meta (MetaCommands.Set key (stored_by verb key flags value) marks)
@@ -94,7 +94,7 @@ value_meta (meta_exchanges key flags bytes unique marks) value =
     Commands.Meta (MetaCommands.Set key (Calls.Cas flags key unique value) marks)
 value_meta ask value = fault Unknown
 
--- what a line that needs nothing asks for; a request that needs a block, or ends the connection,
+-- the command of a request without a block; a request that needs a block, or ends the connection,
 -- counts as unknown
 abbrev pub alone_command : Ask → Bool → Command
 alone_command (gets keys unique) quiet = Commands.Get keys unique
@@ -107,7 +107,7 @@ alone_command flushes quiet = Commands.Flush quiet
 alone_command (metas ask) quiet = alone_meta ask
 alone_command ask quiet = fault Unknown
 
--- what is asked for with a value; a request that takes no value counts as unknown
+-- the command of a request with a value; a request that takes no value counts as unknown
 abbrev pub value_command : Ask → Bool → List ℕ → Command
 value_command (stores verb key flags bytes) quiet value = Commands.Store verb key flags value quiet
 value_command (exchanges key flags bytes unique) quiet value = Commands.Cas key flags unique value quiet
@@ -116,12 +116,12 @@ value_command ask quiet value = fault Unknown
 
 -- ---- keys
 
--- the first word, where there is one
+-- the first word, if there is one
 abbrev pub first_word : List (List ℕ) → List (List ℕ)
 first_word [] = []
 first_word (word ∷ words) = word ∷ []
 
--- the words that are keys
+-- those of some words that are keys
 abbrev pub key_words : KeysAmong → List (List ℕ) → List (List ℕ)
 key_words no_word words = []
 key_words one_word words = first_word words
@@ -151,21 +151,21 @@ ask_keys ask = []
 
 -- ---- numbers, from left to right
 
--- flags and bytes that were found
+-- flags and bytes, if both are numbers
 abbrev pub sizes : Option ℕ → Option ℕ → Option Sizes
 sizes (Some flags) (Some bytes) = Some (record { flags = flags; bytes = bytes })
 sizes flags bytes = None
 
--- flags and bytes, where both are numbers below 2^32 and the word between them is an exptime
+-- flags and bytes; none unless both are numbers below 2^32 and the word between them is an exptime
 abbrev pub sizes_of : List ℕ → List ℕ → List ℕ → Option Sizes
 sizes_of flags exptime bytes =
     if is_exptime exptime then sizes (small_number_of flags) (small_number_of bytes) else None
 
--- storing under a key, with the sizes that were found
+-- the request to store under a key, with these sizes
 abbrev pub store_ask : Verb → List ℕ → Sizes → Ask
 store_ask verb key sizes = stores verb key sizes.flags sizes.bytes
 
--- the same over an item, with its unique
+-- the request to store in place of an item, with its unique
 abbrev pub cas_ask : List ℕ → Option Sizes → Option ℕ → Option Ask
 cas_ask key (Some sizes) (Some unique) = Some (exchanges key sizes.flags sizes.bytes unique)
 cas_ask key sizes unique = None
@@ -182,7 +182,7 @@ cas_words (key ∷ flags ∷ exptime ∷ bytes ∷ unique ∷ []) =
     cas_ask key (sizes_of flags exptime bytes) (number_of unique)
 cas_words words = None
 
--- this, where the word that may follow is a zero
+-- this request, if no word follows or a zero
 abbrev pub with_zero : Ask → List (List ℕ) → Option Ask
 with_zero ask [] = Some ask
 with_zero ask (zero ∷ []) = if is_zero zero then Some ask else None
@@ -202,7 +202,7 @@ abbrev pub key_number : (List ℕ → ℕ → Ask) → List (List ℕ) → Optio
 key_number ask (key ∷ number ∷ []) = option_map (ask key) (number_of number)
 key_number ask words = None
 
--- this count of a key by an amount
+-- the request to count a key up or down by an amount
 abbrev pub count_by : Bool → List ℕ → ℕ → Ask
 count_by up key amount = counts key up amount
 
@@ -215,7 +215,7 @@ abbrev pub verbosity_words : List (List ℕ) → Option Ask
 verbosity_words (number ∷ []) = option_map (λ _. sets_verbosity) (small_number_of number)
 verbosity_words words = None
 
--- what a name asks for with the words that follow, noreply left out; none where a number is bad
+-- what a name asks for with the words that follow, without noreply; none if a number is bad
 abbrev pub ask_of : Name → List (List ℕ) → Option Ask
 ask_of (Store verb) words = store_words verb words
 ask_of Cas words = cas_words words
@@ -245,14 +245,14 @@ abbrev pub find : {A : Type 0} → Option A → ErrorLine → (A → Form) → F
 find (Some found) fault form = form found
 find None fault form = faulty fault
 
--- a name with the words that follow: first the keys, then the numbers
+-- what a name says with the words that follow: first the keys are checked, then the numbers
 abbrev pub form_with : Name → Following → Form
 form_with name following =
     check (list_all is_key (keys_among name following.words)) BadLine (
     find (ask_of name following.words) (number_fault name) (λ ask.
     asks ask following.quiet))
 
--- what a name says with the words after it: first their number is checked, and noreply where it is
+-- what a name says with the words after it: first their number is checked, and noreply if it is
 -- required
 abbrev pub form_after : Name → List (List ℕ) → Form
 form_after name words =

@@ -31,7 +31,7 @@ abbrev pub IsLimited : Name → Type 0
 IsLimited (Names.Get unique) = ⊥
 IsLimited name = ⊤
 
--- no more than three words may follow a name
+-- at most three words may follow a name
 abbrev pub HasFew : Name → Type 0
 HasFew (Names.Get unique) = ⊥
 HasFew (Names.Store verb) = ⊥
@@ -40,11 +40,11 @@ HasFew name = ⊤
 
 -- ---- names
 
--- the spelling of a name has this length
+-- a name has this length
 abbrev pub has_length : ℕ → List ℕ × Name → Bool
 has_length count entry = length entry.0 == count
 
--- the names whose spelling has this length
+-- the names of this length
 abbrev pub names_of_length : ℕ → List (List ℕ × Name)
 names_of_length count = filter (has_length count) names
 
@@ -55,14 +55,14 @@ abbrev pub form_seen : Line → Form
 form_seen (Fault line) = faulty line
 form_seen (Asks ask quiet) = asks (ask_seen ask) quiet
 
--- what a line says that is read as a meta command
+-- what a line says when it is read as a meta command
 abbrev pub meta_seen : Result SeenMetaAsk ErrorLine → Form
 meta_seen (Ok ask) = asks (metas (meta_ask_seen ask)) false
 meta_seen (Err line) = faulty line
 
 -- ---- commands
 
--- a retrieval of these keys, if there is one
+-- a retrieval of these keys; a fault if there are none
 abbrev pub retrieval : List (List ℕ) → Bool → Command
 retrieval [] unique = fault Unknown
 retrieval (key ∷ keys) unique = Get (key ∷ keys) unique

@@ -50,7 +50,7 @@ block_command_for block (faulty line) = fault line
 block_command_for block (asks ask quiet) =
     if is_ended block then value_command ask quiet (value_of block) else Fault BadChunk quiet
 
--- a line with a block that is too large, whatever it is
+-- the command of a line with a block that is too large, by what the line says
 abbrev pub large_command_for : Form → Command
 large_command_for (faulty line) = fault line
 large_command_for (asks ask quiet) = Fault TooLarge quiet

@@ -13,12 +13,13 @@ pub data MetaAsk : Type 0 where
   meta_gets : List ℕ → List ℕ → MetaAsk
   -- store a block: the verb, the key, the flags of the item, the bytes of the value, and the marks
   meta_stores : Verb → List ℕ → ℕ → ℕ → List ℕ → MetaAsk
-  -- the same over an item: the key, the flags of the item, the bytes, the item's unique, and the marks
+  -- store a block in place of an item: the key, the flags of the item, the bytes, the item's unique,
+  -- and the marks
   meta_exchanges : List ℕ → ℕ → ℕ → ℕ → List ℕ → MetaAsk
   -- remove the item of a key: the key and the flags
   meta_deletes : List ℕ → List ℕ → MetaAsk
 
--- what is asked for, with the key of the line as a text
+-- a meta request, with the key of the line as a text
 abbrev pub meta_ask_seen : SeenMetaAsk → MetaAsk
 meta_ask_seen Asked.Noop = noops
 meta_ask_seen (Asked.Get key flags) = meta_gets key.now flags
@@ -35,7 +36,7 @@ verb_of mode =
     if mode == 82 then Replace else
     Set
 
--- what a storage line asks for: with a unique the same as `cas`, and else what its mode says
+-- what a storage line asks for: with a unique the same as `cas`, otherwise what its mode says
 abbrev pub storing_ask : List ℕ → ℕ → ℕ → Option ℕ → ℕ → List ℕ → MetaAsk
 storing_ask key bytes flags (Some unique) mode marks = meta_exchanges key flags bytes unique marks
 storing_ask key bytes flags None mode marks = meta_stores (verb_of mode) key flags bytes marks

@@ -8,7 +8,7 @@ use Rattle.mc_parse.specs.declared.name.Name.TheVariants.{Store, Cas, Get, Delet
 use Rattle.mc_parse.specs.declared.name.Name.TheVariants.{Verbosity, Flush, Quit, Stats}
 use Rattle.mc_parse.specs.Arity.{from_to, at_least, no_more}
 
--- the names, each with how it is written
+-- the names, each with its text
 abbrev pub names : List (List ℕ × Name)
 names =
     (codes "set", Store Set) ∷ (codes "add", Store Add) ∷ (codes "replace", Store Replace)

@@ -7,13 +7,13 @@ use Rattle.mc_parse.specs.declared.name.Name.TheVariants.{Store, Cas, Quit as Qu
 use Rattle.mc_parse.specs.MetaAsk.{MetaAsk, meta_stores, meta_exchanges}
 use Rattle.mc_parse.specs.Form.{Ask, stores, exchanges, quits, metas, Form, line_form, faulty, asks}
 
--- what must come with what a meta command asks for
+-- what must come with a meta request
 abbrev pub meta_need : MetaAsk → Need
 meta_need (meta_stores verb key flags bytes marks) = Block bytes
 meta_need (meta_exchanges key flags bytes unique marks) = Block bytes
 meta_need ask = Nothing
 
--- what must come with what is asked for
+-- what must come with a request
 abbrev pub ask_need : Ask → Need
 ask_need (stores verb key flags bytes) = Block bytes
 ask_need (exchanges key flags bytes unique) = Block bytes

@@ -8,6 +8,6 @@ abbrev pub is_nothing : Option ℕ → Bool
 is_nothing None = false
 is_nothing (Some number) = number == 0
 
--- a word spells the number 0
+-- a word is the number 0
 abbrev pub is_zero : List ℕ → Bool
 is_zero word = is_nothing (number_of word)

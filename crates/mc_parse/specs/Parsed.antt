@@ -17,7 +17,7 @@ nothing_parsed =
 
 -- ---- names
 
--- a line is read as a meta command, since it has no name
+-- a line has no name, and says what it says as a meta command
 abbrev pub IsUnnamed : List ℕ → Type 0
 IsUnnamed line = line_form line ≡ meta_form line (meta_line line)
 
@@ -37,7 +37,7 @@ stored_ask name key flags bytes unique = exchanges key flags bytes unique
 abbrev pub line_key : List ℕ → Parsed → List ℕ
 line_key line parsed = take (parsed.to - parsed.from) (drop parsed.from line)
 
--- a line asks to store in the way of this name, some number of bytes under the key at its place
+-- a line asks to store, as this name does, some number of bytes under the key at its place
 pub record IsStoring (line : List ℕ) (parsed : Parsed) (name : Name) : Type 0 where
   pub order : parsed.from ≤ parsed.to
   pub within : parsed.to ≤ length line
@@ -47,7 +47,7 @@ pub record IsStoring (line : List ℕ) (parsed : Parsed) (name : Name) : Type 0 
 
 -- ---- lines
 
--- this was read of a line with this need
+-- this is what may be read of a line with this need
 abbrev pub IsParsedBy : Need → List ℕ → Parsed → Type 0
 IsParsedBy Nothing line parsed = MatchOption parsed.name (IsUnnamed line) (IsNamed line parsed)
 IsParsedBy (Block bytes) line parsed = MatchOption parsed.name (IsUnnamed line) (IsStoring line parsed)

@@ -1,5 +1,5 @@
--- Which keys a command calls, and which commands are plain: they call keys alone, and show or
--- compare no unique.
+-- Which keys a command calls, and which commands are plain: their calls have keys, and they neither
+-- show nor compare a unique.
 use Rattle.std.specs.Prelude.{◌≡◌, ℕ, ◌<◌, true, false, List, [], ◌∷◌, flat_map, Option, None, Some}
 use Rattle.std.specs.List.{AllByRecursion, Contains}
 use Rattle.mc_calls.specs.Call.{key_of}
@@ -23,18 +23,18 @@ abbrev pub key_list : Option (List ℕ) → List (List ℕ)
 key_list None = []
 key_list (Some key) = key ∷ []
 
--- the keys of what is done on the shards
+-- the keys of a deed
 abbrev pub deed_keys : Deed → List (List ℕ)
 deed_keys does_nothing = []
 deed_keys (makes_one call) = key_list (key_of call)
 deed_keys (gets_each keys) = keys
 deed_keys (makes_on_all made) = []
 
--- the keys that a command calls
+-- the keys of a command's calls
 abbrev pub keys_of : Command → List (List ℕ)
 keys_of command = deed_keys (deed_of command)
 
--- the keys that commands call
+-- the keys of the calls of some commands
 abbrev pub all_keys_of : List Command → List (List ℕ)
 all_keys_of commands = flat_map keys_of commands
 
@@ -42,7 +42,7 @@ all_keys_of commands = flat_map keys_of commands
 abbrev pub unique_letter : ℕ
 unique_letter = 99
 
--- what is done on the shards calls keys alone, and neither compares a unique nor depends on other keys
+-- the calls of a deed have keys, compare no unique, and depend on no other keys
 abbrev pub IsSteadyDeed : Deed → Type 0
 IsSteadyDeed (makes_one call) = IsSteady call
 IsSteadyDeed (makes_on_all made) = ⊥
@@ -58,14 +58,14 @@ HidesUniques says = Unit {0}
 abbrev pub IsPlain : Command → Type 0
 IsPlain command = IsSteadyDeed (deed_of command) × HidesUniques (says_of command)
 
--- a command is plain, and each key that it calls has this property
+-- a command is plain, and the key of each of its calls has this property
 pub record IsOwnCommand (IsOwn : List ℕ → Type 0) (command : Command) : Type 0 where
   pub plain : IsPlain command
   pub keys : AllByRecursion IsOwn (keys_of command)
 
 -- ---- what lines say
 
--- what a meta command asks for is plain, and its key has this property
+-- a meta request is plain, and its key has this property
 abbrev pub IsOwnMeta : (List ℕ → Type 0) → MetaAsk → Type 0
 IsOwnMeta IsOwn (meta_gets key flags) = (is_among flags unique_letter ≡ false) × IsOwn key
 IsOwnMeta IsOwn (meta_stores verb key flags bytes marks) = IsOwn key
@@ -79,7 +79,7 @@ AreOwn IsOwn [] = Unit {0}
 AreOwn IsOwn (key ∷ []) = IsOwn key
 AreOwn IsOwn keys = AllByRecursion IsOwn keys
 
--- what is asked for is plain, and each of its keys has this property
+-- a request is plain, and each of its keys has this property
 abbrev pub IsOwnAsk : (List ℕ → Type 0) → Ask → Type 0
 IsOwnAsk IsOwn (exchanges key flags bytes unique) = ⊥
 IsOwnAsk IsOwn (gets keys unique) = (unique ≡ false) × AllByRecursion IsOwn keys

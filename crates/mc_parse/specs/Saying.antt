@@ -2,13 +2,13 @@
 use Rattle.std.specs.Prelude.{ℕ, Bool, List}
 use Rattle.mc_parse.specs.declared.error_line.ErrorLine.{ErrorLine}
 
--- a line that no reply changes
+-- a line that does not depend on a reply
 pub data Fixed : Type 0 where
   -- the version
   the_version : Fixed
-  -- that it is done
+  -- `OK`: the command was executed
   is_done : Fixed
-  -- that a meta command does nothing
+  -- `MN`: the answer to `mn`
   does_noop : Fixed
   -- a fault
   has_fault : ErrorLine → Fixed
@@ -26,11 +26,11 @@ pub data About : Type 0 where
 pub data Saying : Type 0 where
   -- the line of its one reply; nothing if it is quiet
   says_reply : Bool → Saying
-  -- the items of these keys, with their uniques or not
+  -- the items of these keys, and whether with their uniques
   says_items : List (List ℕ) → Bool → Saying
   -- the sums of the counts
   says_counts : Saying
-  -- a line that no reply changes; nothing if it is quiet
+  -- a line that does not depend on a reply; nothing if it is quiet
   says_line : Fixed → Bool → Saying
-  -- what its one reply is about, with the marks of these letters: the key, and the letters
+  -- what its one reply is about, the key, and the letters whose marks are shown
   says_marks : About → List ℕ → List ℕ → Saying

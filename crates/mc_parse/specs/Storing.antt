@@ -13,7 +13,7 @@ pub record Parts (text word rest : List ℕ) : Type 0 where
   pub front : List ℕ
   pub is : text ≡ front ++ (word ++ rest)
 
--- whether the words after the numbers ask for no answer; nothing where others follow
+-- whether the words after the numbers ask for no answer; nothing if others follow
 abbrev pub quiet_by : List (List ℕ) → Option Bool
 quiet_by [] = Some false
 quiet_by (word ∷ []) = if is_noreply word then Some true else None

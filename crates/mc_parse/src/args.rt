@@ -13,7 +13,7 @@ pub(crate) struct Args<'a> {
 }
 
 impl<'a> Args<'a> {
-    /// The words of a text; `None` exactly where it has more than three.
+    /// Returns the words of a text; `None` if and only if it has more than three.
     pub(crate) fn of(text: &'a [u8]) -> Option<Args<'a>>
         ensures within { IfSome result (λ args. args.count ≤ 3) }
         ensures value { MatchOption result (3 < length (words text.now)) (λ args. words_in args
@@ -33,7 +33,7 @@ impl<'a> Args<'a> {
         Some(Args { words, count })
     }
 
-    /// The words.
+    /// Returns the words.
     pub(crate) fn words(&self) -> &[&'a [u8]]
         requires within { self.now.count ≤ 3 }
         ensures value { texts result.now ≡ words_in self.now }

@@ -15,7 +15,7 @@ pub(crate) struct Arity {
 }
 
 impl Arity {
-    /// Whether this number of words may follow.
+    /// Checks whether this number of words may follow.
     pub(crate) fn has_count(&self, count: usize) -> bool
         ensures value { result ≡ has_count self.now count }
     {
@@ -26,14 +26,15 @@ impl Arity {
             }
     }
 
-    /// Whether the largest allowed number of words follows and the last is not noreply, as it must be.
+    /// Checks whether the largest allowed number of words follows and the last is not noreply, as
+    /// it must be.
     pub(crate) fn lacks_noreply(&self, words: &[&[u8]]) -> bool
         ensures value { result ≡ lacks_noreply self.now (texts words.now) }
     {
         self.noreply && self.most == Some(words.len()) && !ends_in_noreply(words)
     }
 
-    /// Whether more words follow than are required, and the last is noreply.
+    /// Checks whether more words follow than are required, and the last is noreply.
     pub(crate) fn asks_silence(&self, words: &[&[u8]]) -> bool
         ensures value { result ≡ asks_silence self.now (texts words.now) }
     {
@@ -41,7 +42,7 @@ impl Arity {
     }
 }
 
-// Whether the last word is noreply.
+// Checks whether the last word is noreply.
 fn ends_in_noreply(words: &[&[u8]]) -> bool
     ensures value { result ≡ ends_in_noreply (texts words.now) }
 {
@@ -51,7 +52,7 @@ fn ends_in_noreply(words: &[&[u8]]) -> bool
     }
 }
 
-/// Between `least` and `most` words; where there are `most`, the last must be noreply.
+/// Allows `least` to `most` words; if there are `most`, the last must be noreply.
 pub(crate) fn from_to(least: usize, most: usize) -> Arity
     ensures value { result ≡ from_to least most }
 {

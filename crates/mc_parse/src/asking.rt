@@ -13,7 +13,7 @@ use crate::verb::Verb;
 use mc_meta::{is_exptime, read_small_number};
 use zy_base::read_number;
 
-/// What a line asks for that is no retrieval. Its words are parts of the line.
+/// What a line that is no retrieval asks for. Its words are parts of the line.
 #[derive(Clone, Copy)]
 pub(crate) enum Ask<'a> {
     /// Store the block.
@@ -23,7 +23,7 @@ pub(crate) enum Ask<'a> {
         flags: u32,
         bytes: u32,
     },
-    /// Store the block where the item there has this unique.
+    /// Store the block if the item has this unique.
     Cas {
         key: &'a [u8],
         flags: u32,
@@ -52,7 +52,7 @@ pub(crate) enum Ask<'a> {
     Stats,
 }
 
-/// What a name asks for with the few words that follow; `None` where a number is bad.
+/// Reads what a name asks for with the few words that follow; `None` if a number is bad.
 pub(crate) fn read_ask<'a>(name: Name, words: &[&'a [u8]]) -> Option<Ask<'a>>
     requires few { HasFew name }
     ensures value { option_map ask_seen result ≡ ask_of name (texts words.now) }
@@ -69,7 +69,7 @@ pub(crate) fn read_ask<'a>(name: Name, words: &[&'a [u8]]) -> Option<Ask<'a>>
     }
 }
 
-/// The fault of a bad number.
+/// Returns the fault of a bad number.
 pub(crate) fn number_fault(name: Name) -> ErrorLine
     ensures value { result ≡ number_fault name }
 {
@@ -79,7 +79,7 @@ pub(crate) fn number_fault(name: Name) -> ErrorLine
     }
 }
 
-/// What a storage line asks for: a verb stores as it says, and any other name is `cas`.
+/// Returns what a storage line asks for: a verb stores as it says, and any other name is `cas`.
 pub(crate) fn stored_ask(name: Name, key: &[u8], flags: u32, bytes: u32, unique: u64) -> Ask<'_>
     ensures value { ask_seen result ≡ stored_ask name key.now flags bytes unique }
 {
@@ -99,7 +99,7 @@ pub(crate) fn stored_ask(name: Name, key: &[u8], flags: u32, bytes: u32, unique:
     }
 }
 
-/// Flags and bytes, where the word between them is an exptime.
+/// Reads flags and bytes, between which is an exptime.
 pub(crate) fn read_sizes(flags: &[u8], exptime: &[u8], bytes: &[u8]) -> Option<Sizes>
     ensures value { result ≡ sizes_of flags.now exptime.now bytes.now }
 {
@@ -112,7 +112,7 @@ pub(crate) fn read_sizes(flags: &[u8], exptime: &[u8], bytes: &[u8]) -> Option<S
     }
 }
 
-// A key, and a zero that may follow it.
+// Reads a key, and a zero that may follow it.
 fn read_delete<'a>(words: &[&'a [u8]]) -> Option<Ask<'a>>
     ensures value { option_map ask_seen result ≡ delete_words (texts words.now) }
 {
@@ -122,7 +122,7 @@ fn read_delete<'a>(words: &[&'a [u8]]) -> Option<Ask<'a>>
     }
 }
 
-// The ask, where the word that may follow is a zero.
+// Answers `ask` if no word follows, or a zero.
 fn read_zero<'a>(ask: Ask<'a>, words: &[&[u8]]) -> Option<Ask<'a>>
     ensures value { option_map ask_seen result ≡ with_zero (ask_seen ask.entry) (texts words.now) }
 {
@@ -133,7 +133,7 @@ fn read_zero<'a>(ask: Ask<'a>, words: &[&[u8]]) -> Option<Ask<'a>>
     }
 }
 
-// Key and amount.
+// Reads a key and an amount.
 fn read_count<'a>(up: bool, words: &[&'a [u8]]) -> Option<Ask<'a>>
     ensures value { option_map ask_seen result ≡ count_words up (texts words.now) }
 {
@@ -146,7 +146,7 @@ fn read_count<'a>(up: bool, words: &[&'a [u8]]) -> Option<Ask<'a>>
     }
 }
 
-// A number, which has no effect.
+// Reads a number, which has no effect.
 fn read_verbosity<'a>(words: &[&'a [u8]]) -> Option<Ask<'a>>
     ensures value { option_map ask_seen result ≡ verbosity_words (texts words.now) }
 {

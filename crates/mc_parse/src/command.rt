@@ -21,7 +21,7 @@ pub enum Command {
         value: Blob,
         quiet: bool,
     },
-    /// Stores the value where the item there has this unique.
+    /// Stores the value if the item has this unique.
     Cas {
         key: Blob,
         flags: u32,
@@ -29,7 +29,7 @@ pub enum Command {
         value: Blob,
         quiet: bool,
     },
-    /// Gets the items of the keys, with their uniques where these are asked for.
+    /// Gets the items of the keys, with their uniques if these are asked for.
     Get {
         keys: Keys,
         unique: bool,
@@ -70,7 +70,7 @@ pub enum Command {
 }
 
 impl Command {
-    /// Whether the command asks for no answer.
+    /// Checks whether the command asks for no answer.
     pub fn is_quiet(&self) -> bool
         ensures value { result ≡ is_unsaid (says_of self.now) }
     {

@@ -1,4 +1,4 @@
-//! From a line, with its block, to the command it means, and from the command to its calls.
+//! Reads a line, with its block, as a command, and lists the command's calls.
 #![tactic(auto)]
 
 mod args;

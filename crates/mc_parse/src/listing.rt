@@ -8,7 +8,7 @@ use crate::shard_call::{Calls, ShardCall};
 use std::alloc::Global;
 use zy_base::NoMemory;
 
-/// The calls of a command on `shards` shards, in their order.
+/// Returns the calls of a command on `shards` shards, in their order.
 pub fn calls(alloc: Global, command: &Command, shards: u32) -> Result<Calls, NoMemory>
     requires some { 1 ≤ shards }
     requires limit { shards ≤ 256 }

@@ -29,7 +29,7 @@ pub(crate) enum MetaAsk<'a> {
         bytes: u32,
         marks: Letters,
     },
-    /// Store the block where the item there has this unique.
+    /// Store the block if the item has this unique.
     Cas {
         key: &'a [u8],
         flags: u32,
@@ -44,7 +44,7 @@ pub(crate) enum MetaAsk<'a> {
     },
 }
 
-/// What a line asks for as a meta command, or its fault.
+/// Reads what a line asks for as a meta command, or its fault.
 #[inline(never)]
 pub(crate) fn read_meta_ask(line: &[u8]) -> Result<MetaAsk<'_>, ErrorLine>
     requires within { length line.now ≤ line_limit }
@@ -73,7 +73,7 @@ pub(crate) fn read_meta_ask(line: &[u8]) -> Result<MetaAsk<'_>, ErrorLine>
     }
 }
 
-// What a storage line asks for, by its unique and its mode.
+// Returns what a storage line asks for, by its unique and its mode.
 fn storing_ask(
     key: &[u8],
     bytes: u32,
@@ -102,7 +102,7 @@ fn storing_ask(
     }
 }
 
-// The verb of a mode, which is a capital.
+// Returns the verb of a mode, which is a capital.
 fn verb_of(mode: u8) -> Verb
     ensures value { result ≡ verb_of mode }
 {
@@ -115,7 +115,7 @@ fn verb_of(mode: u8) -> Verb
     }
 }
 
-// The bytes of a key in its line.
+// Returns the bytes of a key in its line.
 fn part(line: &[u8], key: Span) -> &[u8]
     requires within { IsKeyIn line.now key }
     ensures value { result.now ≡ bytes_in line.now key }

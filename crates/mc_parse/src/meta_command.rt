@@ -20,7 +20,7 @@ use mc_meta::Letters;
 use std::alloc::Global;
 use zy_base::{Blob, NoMemory};
 
-/// The command of a line that is read as a meta command.
+/// Returns the command of a line that is read as a meta command.
 pub(crate) fn meta_command(alloc: Global, line: &[u8]) -> Result<Command, NoMemory>
     requires within { length line.now ≤ line_limit }
     ensures value { IfOk result (λ command. command
@@ -32,7 +32,7 @@ pub(crate) fn meta_command(alloc: Global, line: &[u8]) -> Result<Command, NoMemo
     }
 }
 
-/// The command of a line that is read as a meta command, with its block.
+/// Returns the command of a line that is read as a meta command, with its block.
 pub(crate) fn meta_block_command(
     alloc: Global,
     line: &[u8],
@@ -52,7 +52,7 @@ pub(crate) fn meta_block_command(
     }
 }
 
-/// The command of a line that is read as a meta command, with a block that is too large.
+/// Returns the command of a line that is read as a meta command, with a block that is too large.
 pub(crate) fn meta_large_command(line: &[u8]) -> Command
     requires within { length line.now ≤ line_limit }
     ensures value { result ≡ large_command_for (meta_form line.now (meta_line line.now)) }
@@ -63,7 +63,7 @@ pub(crate) fn meta_large_command(line: &[u8]) -> Command
     }
 }
 
-// The meta command that asks for this, where no block comes with it.
+// Makes the meta command that asks for this, and has no block.
 fn alone_meta(alloc: Global, ask: MetaAsk<'_>) -> Result<Command, NoMemory>
     ensures value { IfOk result (λ command. command ≡ alone_meta (meta_ask_seen ask.entry)) }
 {
@@ -75,7 +75,7 @@ fn alone_meta(alloc: Global, ask: MetaAsk<'_>) -> Result<Command, NoMemory>
     }
 }
 
-// A retrieval.
+// Makes a retrieval.
 fn get_command(alloc: Global, key: &[u8], flags: Letters) -> Result<Command, NoMemory>
     ensures value { IfOk result (λ command. command ≡ Command.Meta (Meta.Get key.now flags)) }
 {
@@ -85,7 +85,7 @@ fn get_command(alloc: Global, key: &[u8], flags: Letters) -> Result<Command, NoM
     })
 }
 
-// A deletion.
+// Makes a deletion.
 fn delete_command(alloc: Global, key: &[u8], flags: Letters) -> Result<Command, NoMemory>
     ensures value { IfOk result (λ command. command ≡ Command.Meta (Meta.Delete key.now flags)) }
 {
@@ -95,7 +95,7 @@ fn delete_command(alloc: Global, key: &[u8], flags: Letters) -> Result<Command, 
     })
 }
 
-// The meta command that asks for this, with its block. Its faults are never quiet.
+// Makes the meta command that asks for this, with its block. Its faults are never quiet.
 fn meta_block(alloc: Global, ask: MetaAsk<'_>, mut block: Blob) -> Result<Command, (Blob, NoMemory)>
     ensures value { IfOk result (λ command. command
         ≡ block_command_for block (asks (metas (meta_ask_seen ask.entry)) false)) }
@@ -111,7 +111,7 @@ fn meta_block(alloc: Global, ask: MetaAsk<'_>, mut block: Blob) -> Result<Comman
     value_meta(alloc, ask, block)
 }
 
-// The meta command that asks for this with the value of a block.
+// Makes the meta command that asks for this, with the value of a block.
 fn value_meta(alloc: Global, ask: MetaAsk<'_>, block: Blob) -> Result<Command, (Blob, NoMemory)>
     ensures value { IfOk result (λ command. command
         ≡ value_meta (meta_ask_seen ask.entry) (value_of block)) }
@@ -156,7 +156,7 @@ fn value_meta(alloc: Global, ask: MetaAsk<'_>, block: Blob) -> Result<Command, (
     }
 }
 
-// A storage command.
+// Makes a storage command.
 fn set_command(key: Blob, call: Call, marks: Letters) -> Command
     ensures value { result ≡ Command.Meta (Meta.Set key call marks) }
 {
@@ -165,7 +165,7 @@ fn set_command(key: Blob, call: Call, marks: Letters) -> Command
     }
 }
 
-// Two copies of a key.
+// Makes two copies of a key.
 fn copies_of(alloc: Global, key: &[u8]) -> Result<(Blob, Blob), NoMemory>
     ensures value { IfOk result (λ both. both.0 ≡ key.now) }
     ensures again { IfOk result (λ both. both.1 ≡ key.now) }

@@ -14,7 +14,7 @@ pub enum Name {
     Store { verb: Verb },
     /// `cas`.
     Cas,
-    /// `get`, or `gets` where uniques are asked for.
+    /// `get`, or `gets` if uniques are asked for.
     Get { unique: bool },
     /// `delete`.
     Delete,
@@ -32,7 +32,7 @@ pub enum Name {
     Stats,
 }
 
-/// The name that a word is.
+/// Returns the name that a word is.
 #[inline(always)]
 pub(crate) fn name_of(word: &[u8]) -> Option<Name>
     ensures value { result ≡ name_of word.now }
@@ -48,7 +48,7 @@ pub(crate) fn name_of(word: &[u8]) -> Option<Name>
     }
 }
 
-/// How many words may follow a name.
+/// Returns how many words may follow a name.
 pub(crate) fn arity_of(name: Name) -> Arity
     ensures value { result ≡ arity_of name }
 {
@@ -72,7 +72,7 @@ pub(crate) fn arity_of(name: Name) -> Arity
     }
 }
 
-/// Whether the first word after a name is a key, and no other is.
+/// Checks whether the first word after a name is a key, and no other is.
 pub(crate) fn has_one_key(name: Name) -> bool
     ensures value { result ≡ is_one_word (which_keys name) }
 {
@@ -82,7 +82,7 @@ pub(crate) fn has_one_key(name: Name) -> bool
     }
 }
 
-// The name that a word of three bytes is.
+// Returns the name that a word of three bytes is.
 fn name_of_three(word: &[u8]) -> Option<Name>
     ensures value { result ≡ name_among word.now (names_of_length 3) }
 {
@@ -99,7 +99,7 @@ fn name_of_three(word: &[u8]) -> Option<Name>
     }
 }
 
-// The name that a word of four bytes is.
+// Returns the name that a word of four bytes is.
 fn name_of_four(word: &[u8]) -> Option<Name>
     ensures value { result ≡ name_among word.now (names_of_length 4) }
 {
@@ -116,7 +116,7 @@ fn name_of_four(word: &[u8]) -> Option<Name>
     }
 }
 
-// The name that a word of five bytes is.
+// Returns the name that a word of five bytes is.
 fn name_of_five(word: &[u8]) -> Option<Name>
     ensures value { result ≡ name_among word.now (names_of_length 5) }
 {
@@ -127,7 +127,7 @@ fn name_of_five(word: &[u8]) -> Option<Name>
     }
 }
 
-// The name that a word of six bytes is.
+// Returns the name that a word of six bytes is.
 fn name_of_six(word: &[u8]) -> Option<Name>
     ensures value { result ≡ name_among word.now (names_of_length 6) }
 {
@@ -140,7 +140,7 @@ fn name_of_six(word: &[u8]) -> Option<Name>
     }
 }
 
-// The name that a word of seven bytes is.
+// Returns the name that a word of seven bytes is.
 fn name_of_seven(word: &[u8]) -> Option<Name>
     ensures value { result ≡ name_among word.now (names_of_length 7) }
 {
@@ -159,7 +159,7 @@ fn name_of_seven(word: &[u8]) -> Option<Name>
     }
 }
 
-// The name that a word of nine bytes is.
+// Returns the name that a word of nine bytes is.
 fn name_of_nine(word: &[u8]) -> Option<Name>
     ensures value { result ≡ name_among word.now (names_of_length 9) }
 {
@@ -172,7 +172,7 @@ fn name_of_nine(word: &[u8]) -> Option<Name>
     }
 }
 
-// Whether a word is this text.
+// Checks whether a word is this text.
 fn is(word: &[u8], text: &[u8]) -> bool
     ensures value { result ≡ bytes_eq word.now text.now }
 {

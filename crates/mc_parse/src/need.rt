@@ -30,7 +30,7 @@ pub enum Need {
     Quit,
 }
 
-/// What a line needs. The line is given without the bytes that end it. Takes no memory.
+/// Returns what a line needs. The line is given without the bytes that end it. Takes no memory.
 pub fn need_of(line: &[u8]) -> Need
     requires within { length line.now ≤ line_limit }
     ensures value { result ≡ need line.now }
@@ -39,7 +39,8 @@ pub fn need_of(line: &[u8]) -> Need
     read_need(line, &mut parsed)
 }
 
-/// What a line needs. What was read of it is kept, so that it isn't read again. Takes no memory.
+/// Reads what a line needs. What was read of it is kept, so that it isn't read again. Takes no
+/// memory.
 #[tactic(auto, unfolding(crate::specs::Need::need, crate::specs::Parsed::IsParsed), using(crate::proofs::MetaLemmas::named_form, crate::proofs::MetaLemmas::wordless_form))]
 pub fn read_need(line: &[u8], parsed: &mut Parsed) -> Need
     requires within { length line.now ≤ line_limit }
@@ -59,7 +60,8 @@ pub fn read_need(line: &[u8], parsed: &mut Parsed) -> Need
     }
 }
 
-// What a line needs that begins with this name. After a name that takes nothing the line isn't read on.
+// Returns what a line with this name needs. If nothing can be needed, the line isn't read beyond
+// the name.
 fn named_need(line: &[u8], name: Name, first: Split<'_>, parsed: &mut Parsed) -> Need
     requires within { length line.now ≤ line_limit }
     requires says { line_form line.now ≡ form_after name (words first.rest.now) }
@@ -118,7 +120,7 @@ fn keep_storing(line: &[u8], name: Name, said: Storing<'_>, parsed: &mut Parsed)
     parsed.quiet = said.quiet;
 }
 
-// What a line needs whose first word is no name: a block if it is a meta command that stores.
+// Returns what a line without a name needs: a block if it is a meta command that stores.
 fn unnamed_need(line: &[u8], word: &[u8]) -> Need
     requires within { length line.now ≤ line_limit }
     ensures value { result ≡ (if bytes_eq word.now (codes "ms")
@@ -133,7 +135,7 @@ fn unnamed_need(line: &[u8], word: &[u8]) -> Need
     }
 }
 
-// What a line with this meaning needs.
+// Returns what a line with this meaning needs.
 fn need_for(line: Line<'_>) -> Need
     ensures value { result ≡ need_for (form_seen line.entry) }
 {
@@ -143,7 +145,7 @@ fn need_for(line: Line<'_>) -> Need
     }
 }
 
-// What must come with what is asked for.
+// Returns what must come with a request.
 fn ask_need(ask: Ask<'_>) -> Need
     ensures value { result ≡ ask_need (ask_seen ask.entry) }
 {
@@ -155,7 +157,7 @@ fn ask_need(ask: Ask<'_>) -> Need
     }
 }
 
-// What must come with what a meta command asks for.
+// Returns what must come with a meta request.
 fn meta_need(ask: MetaAsk<'_>) -> Need
     ensures value { result ≡ meta_need (meta_ask_seen ask.entry) }
 {

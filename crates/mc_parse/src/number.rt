@@ -4,7 +4,7 @@ ghost use Rattle.mc_parse.specs.Number.{is_zero};
 
 use zy_base::read_number;
 
-/// Whether a word spells the number 0.
+/// Checks whether a word is the number 0.
 pub(crate) fn is_zero(word: &[u8]) -> bool
     ensures value { result ≡ is_zero word.now }
 {

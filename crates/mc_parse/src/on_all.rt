@@ -14,7 +14,7 @@ pub(crate) enum OnAll {
 }
 
 impl OnAll {
-    // The call.
+    // Returns the call.
     pub(crate) fn call(self) -> Call
         ensures value { result ≡ made_by self }
     {

@@ -13,8 +13,8 @@ use crate::verb::Verb;
 use mc_calls::{Call, shard_of};
 use zy_base::{Blob, NoMemory};
 
-/// The call of a command on `shards` shards that has this number in the list `calls`; `None` exactly where
-/// the list has no such call. It has copies of key and value.
+/// Makes the call of a command on `shards` shards that has this number in the list `calls`; `None`
+/// if and only if the list has no such call. The call has copies of key and value.
 #[tactic(auto, using(crate::proofs::CallLemmas::once_later, crate::proofs::CallLemmas::meta_once))]
 pub fn call_at(command: &Command, part: usize, shards: u32) -> Result<Option<ShardCall>, NoMemory>
     requires some { 1 ≤ shards }
@@ -36,7 +36,7 @@ pub fn call_at(command: &Command, part: usize, shards: u32) -> Result<Option<Sha
     }
 }
 
-// The call of a command that makes one at most.
+// Makes the call of a command that has at most one.
 #[tactic(auto, using(crate::proofs::CallLemmas::stored_first, crate::proofs::CallLemmas::counted_first))]
 fn only_call(command: &Command, shards: u32) -> Result<Option<ShardCall>, NoMemory>
     requires some { 1 ≤ shards }
@@ -71,7 +71,7 @@ fn only_call(command: &Command, shards: u32) -> Result<Option<ShardCall>, NoMemo
     }
 }
 
-// The call of a meta command.
+// Makes the call of a meta command.
 #[inline(always)]
 fn meta_call(meta: &Meta, shards: u32) -> Result<Option<ShardCall>, NoMemory>
     requires some { 1 ≤ shards }
@@ -89,7 +89,7 @@ fn meta_call(meta: &Meta, shards: u32) -> Result<Option<ShardCall>, NoMemory>
     }
 }
 
-// The call that stores as a verb says.
+// Makes the call that stores as a verb says.
 #[inline(always)]
 fn stored_by(verb: Verb, key: &Blob, flags: u32, value: &Blob) -> Result<Call, NoMemory>
     ensures value { IfOk result (λ call. call ≡ stored_by verb key.now flags value.now) }
@@ -104,7 +104,7 @@ fn stored_by(verb: Verb, key: &Blob, flags: u32, value: &Blob) -> Result<Call, N
     }
 }
 
-/// The call that stores this value as a verb says.
+/// Makes the call that stores this value as a verb says.
 pub(crate) fn storing(verb: Verb, key: Blob, flags: u32, value: Blob) -> Call
     ensures value { result ≡ stored_by verb key flags value }
 {
@@ -117,7 +117,7 @@ pub(crate) fn storing(verb: Verb, key: Blob, flags: u32, value: Blob) -> Call
     }
 }
 
-// The call that stores where the item there has this unique.
+// Makes the call that stores if the item has this unique.
 #[inline(always)]
 fn exchanged(key: &Blob, flags: u32, unique: u64, value: &Blob) -> Result<Call, NoMemory>
     ensures value { IfOk result (λ call. call ≡ Call.Cas flags key.now unique value.now) }
@@ -137,7 +137,7 @@ fn exchanged(key: &Blob, flags: u32, unique: u64, value: &Blob) -> Result<Call, 
     }
 }
 
-// The call that gets the item.
+// Makes the call that gets the item.
 fn got(key: &Blob) -> Result<Call, NoMemory>
     ensures value { IfOk result (λ call. call ≡ Call.Get key.now) }
 {
@@ -145,7 +145,7 @@ fn got(key: &Blob) -> Result<Call, NoMemory>
     Ok(Call::Get { key })
 }
 
-// The call that removes the item.
+// Makes the call that removes the item.
 fn deleted(key: &Blob) -> Result<Call, NoMemory>
     ensures value { IfOk result (λ call. call ≡ Call.Delete key.now) }
 {
@@ -153,7 +153,7 @@ fn deleted(key: &Blob) -> Result<Call, NoMemory>
     Ok(Call::Delete { key })
 }
 
-// The call that counts up or down.
+// Makes the call that counts up or down.
 fn counted_by(up: bool, key: &Blob, amount: u64) -> Result<Call, NoMemory>
     ensures value { IfOk result (λ call. call ≡ counted_by up key.now amount) }
 {
@@ -165,7 +165,7 @@ fn counted_by(up: bool, key: &Blob, amount: u64) -> Result<Call, NoMemory>
     }
 }
 
-// The one call that was made, on the shard of its key.
+// Places the one call of a command on the shard of its key.
 fn placed(
     key: &Blob,
     made: Result<Call, NoMemory>,
@@ -185,7 +185,7 @@ fn placed(
     }
 }
 
-// The get of the key with this number.
+// Makes the get of the key with this number.
 #[inline(always)]
 #[tactic(auto, using(crate::proofs::CallLemmas::get_there))]
 fn get_at(keys: &[Blob], part: usize, shards: u32) -> Result<Option<ShardCall>, NoMemory>
@@ -204,7 +204,7 @@ fn get_at(keys: &[Blob], part: usize, shards: u32) -> Result<Option<ShardCall>, 
     }))
 }
 
-// The call that is made on all shards, on the shard with this number.
+// Makes the call that goes to all shards, for the shard with this number.
 #[tactic(auto, using(crate::proofs::CallLemmas::on_all_there, crate::proofs::CallLemmas::on_all_past))]
 fn on_all_at(made: OnAll, part: usize, shards: u32) -> Option<ShardCall>
     ensures value { result ≡ slice_get (calls_on_all (made_by made) shards) part }

@@ -29,8 +29,8 @@ use std::alloc::Global;
 use std::mem;
 use zy_base::{Blob, NoMemory};
 
-/// The command of a line that needs nothing. The line is given without the bytes that end it.
-/// A fault of the client is a command.
+/// Parses a line that needs nothing. The line is given without the bytes that end it. A faulty line
+/// is a command too.
 pub fn parse_line(alloc: Global, line: &Blob) -> Result<Command, NoMemory>
     requires within { length line.now ≤ line_limit }
     requires alone { need line.now ≡ Need.Nothing }
@@ -41,8 +41,8 @@ pub fn parse_line(alloc: Global, line: &Blob) -> Result<Command, NoMemory>
     parse_read(alloc, line, &parsed)
 }
 
-/// The command of a line that needs a block, with its block: the value, and the two bytes that must
-/// end it. The value is moved and not copied. After a refusal the block is handed back.
+/// Parses a line that needs a block, with its block: the value, and the two bytes that must end it.
+/// The value is moved. If allocation fails the block is handed back.
 pub fn parse_block(alloc: Global, line: &Blob, block: Blob) -> Result<Command, (Blob, NoMemory)>
     requires within { length line.now ≤ line_limit }
     requires fits { IsBlockFor (need line.now) block }
@@ -54,7 +54,8 @@ pub fn parse_block(alloc: Global, line: &Blob, block: Blob) -> Result<Command, (
     parse_read_block(alloc, line, &parsed, block)
 }
 
-/// The command of a line that needs nothing, of which this was read. The keys of a retrieval are parts of the line.
+/// Makes the command of a line that needs nothing, from what was read of it. The keys of a
+/// retrieval are parts of the line.
 pub fn parse_read(alloc: Global, line: &Blob, parsed: &Parsed) -> Result<Command, NoMemory>
     requires within { length line.now ≤ line_limit }
     requires parsed { IsParsed line.now parsed.now }
@@ -67,7 +68,7 @@ pub fn parse_read(alloc: Global, line: &Blob, parsed: &Parsed) -> Result<Command
     command
 }
 
-/// The same; a retrieval takes this room for the list of its keys.
+/// Makes the same command as `parse_read`; a retrieval takes this room for the list of its keys.
 #[tactic(auto, unfolding(crate::specs::Meaning::line_command, crate::specs::Parsed::IsParsed), using(zy_base::proofs::RestLemmas::rest_after))]
 pub fn parse_read_in(
     alloc: Global,
@@ -88,8 +89,8 @@ pub fn parse_read_in(
     }
 }
 
-/// The command of a line that needs a block, of which this was read, with its block. The key is a part of the line.
-/// After a refusal the block is handed back.
+/// Makes the command of a line with its block, from what was read of the line. The key is a part of
+/// the line. If allocation fails the block is handed back.
 #[tactic(auto, unfolding(crate::specs::Meaning::block_command, crate::specs::Parsed::IsParsed))]
 pub fn parse_read_block(
     alloc: Global,
@@ -109,8 +110,8 @@ pub fn parse_read_block(
     }
 }
 
-/// The command of a line that needs a block whose value is over the limit, whatever the block
-/// contains. Takes no memory.
+/// Parses a line that needs a block whose value is over the limit, whatever the block contains.
+/// Takes no memory.
 #[tactic(auto, unfolding(crate::specs::Meaning::large_command))]
 pub fn parse_large(line: &[u8]) -> Command
     requires within { length line.now ≤ line_limit }
@@ -123,7 +124,7 @@ pub fn parse_large(line: &[u8]) -> Command
     }
 }
 
-// The command of a name with the text after it, with which its line ends.
+// Makes the command of a name and the text after it, which ends the line.
 fn named_command(
     alloc: Global,
     name: Name,
@@ -142,7 +143,7 @@ fn named_command(
     }
 }
 
-// The command of a parsed line.
+// Makes the command of a parsed line.
 fn command_for(alloc: Global, line: Line<'_>) -> Result<Command, NoMemory>
     ensures value { IfOk result (λ command. command ≡ command_for (form_seen line.entry)) }
 {
@@ -152,7 +153,7 @@ fn command_for(alloc: Global, line: Line<'_>) -> Result<Command, NoMemory>
     }
 }
 
-// The command that asks for this, where no block comes with it.
+// Makes the command that asks for this, and has no block.
 fn alone_command(alloc: Global, ask: Ask<'_>, quiet: bool) -> Result<Command, NoMemory>
     ensures value { IfOk result (λ command. command ≡ alone_command (ask_seen ask.entry) quiet) }
 {
@@ -167,8 +168,8 @@ fn alone_command(alloc: Global, ask: Ask<'_>, quiet: bool) -> Result<Command, No
     }
 }
 
-// A retrieval, whose keys are the words of a text with which its line ends, one at least. A word that is too long for
-// a key is found while the words are taken.
+// Makes a retrieval of the words of the text that ends the line, at least one. A
+// word that is too long for a key is found while the words are taken.
 #[tactic(auto, using(crate::proofs::GetLemmas::gets_keys, crate::proofs::GetLemmas::gets_long))]
 fn get_command(
     alloc: Global,
@@ -197,7 +198,7 @@ fn get_command(
     }
 }
 
-// A retrieval of these keys, if there is one.
+// Makes a retrieval of these keys, of which there must be one.
 #[tactic(auto, using(crate::proofs::GetLemmas::retrieval_none, crate::proofs::GetLemmas::retrieval_some))]
 fn retrieval(keys: Keys, unique: bool) -> Command
     ensures value { result ≡ retrieval keys unique }
@@ -210,7 +211,7 @@ fn retrieval(keys: Keys, unique: bool) -> Command
     }
 }
 
-// A deletion.
+// Makes a deletion.
 fn delete_command(alloc: Global, key: &[u8], quiet: bool) -> Result<Command, NoMemory>
     ensures value { IfOk result (λ command. command ≡ Command.Delete key.now quiet) }
 {
@@ -218,7 +219,7 @@ fn delete_command(alloc: Global, key: &[u8], quiet: bool) -> Result<Command, NoM
     Ok(Command::Delete { key, quiet })
 }
 
-// A count by an amount.
+// Makes a count by an amount.
 fn count_command(
     alloc: Global,
     key: &[u8],
@@ -237,8 +238,8 @@ fn count_command(
     })
 }
 
-// The storage command of a line, of which this was read, with its block. The copies of the value share the block's
-// bytes.
+// Makes a storage command from what was read of its line, with its block. The copies of the
+// value share the block's bytes.
 fn storage_command(
     name: Name,
     line: &Blob,
@@ -262,7 +263,7 @@ fn storage_command(
     }
 }
 
-// The storage command that this was read of, with its key and its value.
+// Makes the storage command of which this was read, with its key and its value.
 fn stored_command(name: Name, parsed: &Parsed, key: Blob, value: Blob) -> Command
     ensures value { (bytes : ℕ) → result ≡ value_command
         (stored_ask name key parsed.now.flags bytes parsed.now.unique) parsed.now.quiet value }
@@ -285,7 +286,7 @@ fn stored_command(name: Name, parsed: &Parsed, key: Blob, value: Blob) -> Comman
     }
 }
 
-// The command of a parsed line with a block that is too large.
+// Makes the command of a parsed line with a block that is too large.
 fn large_command_for(line: Line<'_>) -> Command
     ensures value { result ≡ large_command_for (form_seen line.entry) }
 {
@@ -295,21 +296,21 @@ fn large_command_for(line: Line<'_>) -> Command
     }
 }
 
-// A fault of a line or of a meta command, which is never quiet.
+// Makes the fault of a line or of a meta command, which is never quiet.
 pub(crate) fn fault(line: ErrorLine) -> Command
     ensures value { result ≡ fault line }
 {
     Command::Fault { line, quiet: false }
 }
 
-// A fault of a block, which is quiet if its line is.
+// Makes the fault of a block, which is quiet if its line is.
 fn block_fault(line: ErrorLine, quiet: bool) -> Command
     ensures value { result ≡ Command.Fault line quiet }
 {
     Command::Fault { line, quiet }
 }
 
-// Whether a block ends in the two bytes that must end it.
+// Checks whether a block ends in the two bytes that must end it.
 pub(crate) fn is_ended(block: &Blob) -> bool
     ensures value { result ≡ is_ended block.now }
 {
@@ -317,7 +318,7 @@ pub(crate) fn is_ended(block: &Blob) -> bool
     &bytes[bytes.len().saturating_sub(2)..] == b"\r\n".as_slice()
 }
 
-// The value in a block, moved out of it.
+// Returns the value in a block, moved out of it.
 pub(crate) fn value_of(mut block: Blob) -> Blob
     ensures value { result ≡ value_of block }
 {
@@ -326,7 +327,8 @@ pub(crate) fn value_of(mut block: Blob) -> Blob
     block
 }
 
-// Appends the words of a text with which a line ends, up to one that is too long for a key; `false` if there is one.
+// Appends the words of the text that ends a line as keys, up to one that is too long for a key;
+// `false` if there is one.
 fn take_keys(line: &Blob, keys: &mut Keys, text: &[u8]) -> Result<bool, NoMemory>
     requires rest { IsRestOf text.now line.now }
     ensures value { IfOk result (λ are. are ≡ list_all is_key (words text.now)) }

@@ -5,25 +5,25 @@ ghost use Rattle.mc_parse.specs.Parsed.{line_key, nothing_parsed};
 use crate::name::Name;
 use zy_base::{Blob, NoMemory};
 
-/// What was read of a line when its need was asked for, so that it isn't read again. Of a storage line with its
-/// block it is what the line says, with the place of the key; of any other line it is the name with the place of
-/// the text after it. A meta command has no name here.
+/// What `read_need` read of a line, so that it isn't read again. For a storage line this is what
+/// the line says, with the place of the key; for any other line, the name with the place of the
+/// text after it. A meta command has no name here.
 #[derive(Clone, Copy)]
 pub struct Parsed {
-    // 0 where the line has none.
+    // 0 if the line has none.
     pub(crate) unique: u64,
     pub(crate) flags: u32,
     // The place of the first byte of the key, and the place after its last byte; or the place of the text after
     // the name.
     pub(crate) from: u32,
     pub(crate) to: u32,
-    // None where the line is read as a meta command.
+    // None if the line is read as a meta command.
     pub(crate) name: Option<Name>,
     pub(crate) quiet: bool,
 }
 
 impl Parsed {
-    /// Nothing yet.
+    /// Begins with nothing read.
     pub fn nothing() -> Parsed
         ensures value { result ≡ nothing_parsed }
     {
@@ -37,7 +37,7 @@ impl Parsed {
         }
     }
 
-    // The key of a storage line, which is a part of the line.
+    // Returns the key of a storage line, which is a part of the line.
     pub(crate) fn key(&self, line: &Blob) -> Result<Blob, NoMemory>
         requires order { self.now.from ≤ self.now.to }
         requires within { self.now.to ≤ length line.now }
@@ -46,7 +46,7 @@ impl Parsed {
         line.part(self.from as usize, self.to as usize)
     }
 
-    // The text after the name, with which the line ends.
+    // Returns the text after the name, which ends the line.
     pub(crate) fn text<'a>(&self, line: &'a [u8]) -> &'a [u8]
         requires within { self.now.from ≤ length line.now }
         ensures value { result.now ≡ drop self.now.from line.now }

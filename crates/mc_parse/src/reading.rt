@@ -23,7 +23,8 @@ pub(crate) struct Named<'a> {
     pub(crate) rest: &'a [u8],
 }
 
-/// The name that a line begins with; `None` where it begins with none, and is read as a meta command.
+/// Returns the name that a line begins with; `None` if it begins with none: it is read as a meta
+/// command.
 #[tactic(auto, using(crate::proofs::MetaLemmas::named_form, crate::proofs::MetaLemmas::wordless_form))]
 pub(crate) fn name_in(line: &[u8]) -> Option<Named<'_>>
     ensures some { IfSome result (λ found. line_form line.now
@@ -42,7 +43,7 @@ pub(crate) fn name_in(line: &[u8]) -> Option<Named<'_>>
     }
 }
 
-/// What the text after a name says that is no retrieval.
+/// Reads what the text after a name says; the name is not that of a retrieval.
 pub(crate) fn read_after(name: Name, text: &[u8]) -> Line<'_>
     requires limited { IsLimited name }
     ensures value { form_seen result ≡ form_after name (words text.now) }
@@ -54,7 +55,7 @@ pub(crate) fn read_after(name: Name, text: &[u8]) -> Line<'_>
     }
 }
 
-// What a storage line says.
+// Returns what a storage line says.
 fn storing_line(name: Name, said: Result<Storing<'_>, ErrorLine>) -> Line<'_>
     ensures value { form_seen result ≡ storing_seen name said.entry }
 {
@@ -67,7 +68,7 @@ fn storing_line(name: Name, said: Result<Storing<'_>, ErrorLine>) -> Line<'_>
     }
 }
 
-// What the text after a name says, after which few words may follow.
+// Reads what the text after a name says; at most three words may follow the name.
 fn read_few(name: Name, text: &[u8]) -> Line<'_>
     requires few { HasFew name }
     ensures value { form_seen result ≡ form_after name (words text.now) }
@@ -87,7 +88,7 @@ fn read_few(name: Name, text: &[u8]) -> Line<'_>
     }
 }
 
-// A number of words that may follow the name, with noreply left out.
+// Reads the words after a name, without noreply; their number is allowed.
 fn read_with<'a>(name: Name, words: &[&'a [u8]], quiet: bool) -> Line<'a>
     requires few { HasFew name }
     ensures value { form_seen result
@@ -102,7 +103,7 @@ fn read_with<'a>(name: Name, words: &[&'a [u8]], quiet: bool) -> Line<'a>
     }
 }
 
-// Whether a key among the words is too long.
+// Checks whether a key among the words is too long.
 fn has_long_key(name: Name, words: &[&[u8]]) -> bool
     requires few { HasFew name }
     ensures value { result ≡ not (list_all is_key (keys_among name (texts words.now))) }

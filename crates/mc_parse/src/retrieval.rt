@@ -6,7 +6,8 @@ ghost use Rattle.mc_parse.specs.Calls.{calls_of, get_calls};
 use crate::command::Command;
 use zy_base::Blob;
 
-/// The keys of a `get` or a `gets`, whose calls are the gets of these keys; `None` for any other command.
+/// Returns the keys of a `get` or a `gets`, whose calls are the gets of these keys; `None` for any
+/// other command.
 pub fn got_keys(command: &Command) -> Option<&[Blob]>
     ensures some { IfSome result (λ keys. (shards : ℕ) → calls_of shards command.now ≡ get_calls shards keys.now) }
     ensures none { IfNone result ((keys : List (List ℕ)) (unique : Bool) → command.now ≢ Get keys unique) }

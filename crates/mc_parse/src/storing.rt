@@ -21,7 +21,7 @@ pub(crate) struct Storing<'a> {
     pub(crate) after: &'a [u8],
     pub(crate) flags: u32,
     pub(crate) bytes: u32,
-    /// 0 where the line has none.
+    /// 0 if the line has none.
     pub(crate) unique: u64,
     pub(crate) quiet: bool,
 }
@@ -37,7 +37,7 @@ struct FourWords<'a> {
     rest: &'a [u8],
 }
 
-/// What the text after a verb says, or its fault.
+/// Reads what the text after a verb says, or its fault.
 #[tactic(auto, using(crate::proofs::StoringLemmas::store_few, crate::proofs::StoringLemmas::store_says))]
 pub(crate) fn read_store(verb: Verb, text: &[u8]) -> Result<Storing<'_>, ErrorLine>
     ensures value { storing_seen (Names.Store verb) result ≡ form_after (Names.Store verb) (words text.now) }
@@ -65,7 +65,7 @@ pub(crate) fn read_store(verb: Verb, text: &[u8]) -> Result<Storing<'_>, ErrorLi
     }
 }
 
-/// What the text after `cas` says, or its fault.
+/// Reads what the text after `cas` says, or its fault.
 #[tactic(auto, using(crate::proofs::StoringLemmas::cas_few, crate::proofs::StoringLemmas::cas_says))]
 pub(crate) fn read_cas(text: &[u8]) -> Result<Storing<'_>, ErrorLine>
     ensures value { storing_seen Names.Cas result ≡ form_after Names.Cas (words text.now) }
@@ -99,7 +99,7 @@ pub(crate) fn read_cas(text: &[u8]) -> Result<Storing<'_>, ErrorLine>
     }
 }
 
-// The first four words of a text; `None` where it has fewer.
+// Returns the first four words of a text; `None` if it has fewer.
 #[inline(always)]
 fn four_words(text: &[u8]) -> Option<FourWords<'_>>
     ensures some { IfSome result (λ four. words text.now
@@ -129,7 +129,8 @@ fn four_words(text: &[u8]) -> Option<FourWords<'_>>
     })
 }
 
-// Whether the words of a text, which may be the word noreply alone, ask for no answer; `None` where there are others.
+// Checks whether the text is the word noreply, which asks for no answer, or no word; `None` if it
+// has other words.
 fn quiet_by(text: &[u8]) -> Option<bool>
     ensures value { result ≡ quiet_by (words text.now) }
 {

@@ -5,12 +5,12 @@
 pub enum Verb {
     /// Stores an item.
     Set,
-    /// Stores an item where the key has none.
+    /// Stores an item if the key has none.
     Add,
-    /// Stores an item where the key has one.
+    /// Stores an item if the key has one.
     Replace,
-    /// Appends the value to the one there.
+    /// Appends the value to the item's.
     Append,
-    /// Prepends the value to the one there.
+    /// Puts the value before the item's.
     Prepend,
 }

@@ -12,7 +12,7 @@ pub(crate) struct Split<'a> {
     pub(crate) rest: &'a [u8],
 }
 
-/// The first word of a text, and the text after it.
+/// Returns the first word of a text, and the text after it.
 #[tactic(auto, using(crate::proofs::WordLemmas::words_none))]
 pub(crate) fn next_word(text: &[u8]) -> Option<Split<'_>>
     ensures found { IfSome result (λ s. words text.now ≡ s.word.now ∷ words s.rest.now) }
@@ -29,7 +29,7 @@ pub(crate) fn next_word(text: &[u8]) -> Option<Split<'_>>
     Some(Split { word, rest })
 }
 
-/// Whether a word is the one that asks for no answer.
+/// Checks whether a word is the one that asks for no answer.
 pub(crate) fn is_noreply(word: &[u8]) -> bool
     ensures value { result ≡ is_noreply word.now }
 {
