@@ -1,4 +1,4 @@
--- The texts of further commands, and of further entries.
+-- The texts of more commands, and of more entries.
 use Rattle.std.proofs.Common.{◌≡◌, ◌≢◌, ℕ, zero, suc, ◌+◌, ◌≤◌, List, [], ◌∷◌, ◌++◌, length, take, refl, ap, ◌∙◌, arith}
 use Rattle.mc_calls.specs.declared.call_reply.CallReply.{CallReply}
 use Rattle.mc_calls.specs.declared.entry.Entry.{Entry}

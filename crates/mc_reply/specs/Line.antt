@@ -9,7 +9,7 @@ line_end = codes "\r\n"
 abbrev pub line : List ℕ → List ℕ
 line text = text ++ line_end
 
--- an object that is too large, as one value or joined from two
+-- the answer to a value that is too large, given or joined
 abbrev pub too_large : List ℕ
 too_large = codes "SERVER_ERROR object too large for cache"
 

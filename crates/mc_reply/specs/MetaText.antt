@@ -10,7 +10,7 @@ use Rattle.mc_reply.specs.Line.{line, too_large, unless}
 
 -- ---- letters
 
--- `q`: some answers are not given
+-- `q`: some answers are not sent
 abbrev pub quiet_letter : ℕ
 quiet_letter = 113
 
@@ -62,7 +62,7 @@ hit_text key flags found value = if is_among flags value_letter
     then marked (codes "VA " ++ decimal found.bytes) key (Some found) flags ++ line value
     else marked (codes "HD") key (Some found) flags
 
--- the text of a retrieval; a miss is shown without marks, and not if the line has `q`
+-- the text of a retrieval; a miss is shown without marks, or not at all if the line has `q`
 abbrev pub get_text : List ℕ → List ℕ → CallReply → List ℕ
 get_text key flags (Hit item_flags unique value) =
     hit_text key flags (found_of item_flags unique value) value

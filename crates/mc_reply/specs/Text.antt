@@ -24,14 +24,14 @@ error_line Errors.LongLine = line (codes "CLIENT_ERROR line too long")
 error_line Errors.BadChunk = line (codes "CLIENT_ERROR bad data chunk")
 error_line Errors.TooLarge = line too_large
 
--- the line that no reply changes
+-- a line that does not depend on a reply
 abbrev pub fixed_line : Fixed → List ℕ
 fixed_line the_version = line (codes "VERSION zygos-1.0")
 fixed_line is_done = line (codes "OK")
 fixed_line does_noop = line (codes "MN")
 fixed_line (has_fault fault) = error_line fault
 
--- the line of a reply; a retrieval and flush_all have lines of their own
+-- the line of a reply; those of retrievals and of `flush_all` are defined elsewhere
 abbrev pub reply_line : CallReply → List ℕ
 reply_line Stored = line (codes "STORED")
 reply_line NotStored = line (codes "NOT_STORED")

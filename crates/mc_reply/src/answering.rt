@@ -8,14 +8,14 @@ use crate::lines;
 use mc_calls::CallReply;
 use mc_parse::ErrorLine;
 
-/// Nothing, if no answer is requested.
+/// Returns the answer, or nothing if no answer is requested.
 pub(crate) fn unless(quiet: bool, answer: Answer) -> Answer
     ensures value { answer_text result ≡ unless quiet (answer_text answer) }
 {
     if quiet { Answer::Nothing } else { answer }
 }
 
-/// The answer of the only reply.
+/// Returns the answer of the only reply.
 pub(crate) fn only_answer(replies: &[CallReply]) -> Answer
     ensures value { answer_text result ≡ only_line replies.now }
 {
@@ -25,7 +25,7 @@ pub(crate) fn only_answer(replies: &[CallReply]) -> Answer
     }
 }
 
-// The answer of a reply.
+// Returns the answer of a reply.
 fn reply_answer(reply: &CallReply) -> Answer
     ensures value { answer_text result ≡ reply_line reply.now }
 {
@@ -43,7 +43,7 @@ fn reply_answer(reply: &CallReply) -> Answer
     }
 }
 
-/// The answer of a fault.
+/// Returns the answer of a fault.
 pub(crate) fn fault_answer(line: ErrorLine) -> Answer
     ensures value { answer_text result ≡ error_line line }
 {

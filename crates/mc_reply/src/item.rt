@@ -31,8 +31,9 @@ pub(crate) fn put_item(out: &mut Reserved, asked: bool, key: &Blob, reply: &Call
     }
 }
 
-// Appends what is after the key in its line: the flags, the length of the value, the CAS value if it was
-// asked for, and the end of the line. They are put together first, from the end, and appended once.
+// Appends what is after the key in its line: the flags, the length of the value, the CAS value if
+// it was asked for, and the end of the line. They are written into a buffer first, from its end,
+// and appended at once.
 fn put_numbers(out: &mut Reserved, asked: bool, flags: u32, count: usize, unique: u64)
     requires fits { length (numbers_text asked flags count unique) ≤ out.old.room }
     ensures value { out.new.bytes ≡ out.old.bytes ++ numbers_text asked flags count unique }

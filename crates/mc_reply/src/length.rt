@@ -5,7 +5,8 @@ ghost use Rattle.mc_reply.specs.Text.{item_text, items_text};
 use mc_calls::CallReply;
 use zy_base::Blob;
 
-/// A number of bytes that the texts of the keys do not exceed; `None` if it does not fit in a `usize`.
+/// Returns a number of bytes that the texts of the keys do not exceed; `None` if it does not fit in
+/// a `usize`.
 pub(crate) fn items_room(keys: &[Blob], replies: &[CallReply]) -> Option<usize>
     requires same { length keys.now ≡ length replies.now }
     ensures value { IfSome result (λ n. (asked : Bool) → length (items_text asked keys.now replies.now) ≤ n) }
@@ -23,8 +24,8 @@ pub(crate) fn items_room(keys: &[Blob], replies: &[CallReply]) -> Option<usize>
     Some(total)
 }
 
-// A number of bytes that the text of a key does not exceed: its bytes, those of its value, and 73 for
-// three numbers of up to 20 digits and what is around them.
+// Returns a number of bytes that the text of a key does not exceed: its bytes, those of its value,
+// and 73 for three numbers of up to 20 digits and what is around them.
 fn item_room(key: &Blob, reply: &CallReply) -> Option<usize>
     ensures value { IfSome result (λ n. (asked : Bool) → length (item_text asked key.now reply.now) ≤ n) }
 {

@@ -13,7 +13,7 @@ pub(crate) struct Found {
     pub(crate) bytes: usize,
 }
 
-/// The number of bytes in the marks of letters; `None` if it does not fit in a `usize`.
+/// Returns the number of bytes in the marks of letters; `None` if it does not fit in a `usize`.
 pub(crate) fn marks_length(key: &[u8], found: Option<Found>, letters: &[u8]) -> Option<usize>
     ensures value { IfSome result (λ n. n ≡ length (marks_text key.now found letters.now)) }
 {
@@ -30,7 +30,7 @@ pub(crate) fn marks_length(key: &[u8], found: Option<Found>, letters: &[u8]) -> 
     Some(total)
 }
 
-// The number of bytes in the mark of a letter.
+// Returns the number of bytes in the mark of a letter.
 fn mark_length(key: &[u8], found: Option<Found>, letter: u8) -> Option<usize>
     ensures value { IfSome result (λ n. n ≡ length (mark_text key.now found letter)) }
 {
@@ -43,7 +43,7 @@ fn mark_length(key: &[u8], found: Option<Found>, letter: u8) -> Option<usize>
     }
 }
 
-// The number of bytes in the mark of an item.
+// Returns the number of bytes in the mark of an item.
 fn item_mark_length(found: Found, letter: u8) -> usize
     ensures value { result ≡ length (item_mark found letter) }
 {

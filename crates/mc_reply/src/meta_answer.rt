@@ -1,4 +1,4 @@
-//! Appends the text that answers a meta command.
+//! The text that answers a meta command.
 ghost use Rattle.std.specs.Prelude.{◌≡◌, ◌++◌, [], length, codes, decimal, None, Some, OnOk, OnErr};
 ghost use Rattle.mc_parse.specs.Deed.{meta_says};
 ghost use Rattle.mc_reply.specs.Line.{line, unless};
@@ -31,7 +31,7 @@ pub(crate) fn append_meta(
     }
 }
 
-// The answer to a retrieval.
+// Appends the answer to a retrieval.
 fn append_get(
     out: &mut Blob,
     key: &[u8],
@@ -65,7 +65,7 @@ fn append_get(
     }
 }
 
-// The answer of an item that was found.
+// Appends the answer of an item that was found.
 fn append_hit(
     out: &mut Blob,
     key: &[u8],
@@ -83,7 +83,7 @@ fn append_hit(
     }
 }
 
-// The answer to a storage command.
+// Appends the answer to a storage command.
 fn append_set(
     out: &mut Blob,
     key: &[u8],
@@ -103,7 +103,7 @@ fn append_set(
     }
 }
 
-// The answer to a deletion.
+// Appends the answer to a deletion.
 fn append_delete(
     out: &mut Blob,
     key: &[u8],

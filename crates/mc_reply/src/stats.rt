@@ -22,7 +22,7 @@ pub enum Stat {
     Hits,
     /// The gets that found none.
     Misses,
-    /// The items that there are.
+    /// The current items.
     Items,
 }
 
@@ -73,7 +73,7 @@ fn put_line(out: &mut Reserved, stat: Stat, number: u128)
     out.append(LINE_END);
 }
 
-// The name of a number.
+// Returns the name of a number.
 fn stat_name(stat: Stat) -> &'static [u8]
     ensures value { result.now ≡ stat_name stat }
     ensures short { length result.now ≤ 10 }
@@ -87,7 +87,7 @@ fn stat_name(stat: Stat) -> &'static [u8]
     }
 }
 
-// The sum over replies.
+// Returns the sum over replies.
 fn sum_of(replies: &[CallReply], stat: Stat) -> u128
     ensures value { result ≡ sum_in stat replies.now }
 {
@@ -98,7 +98,7 @@ fn sum_of(replies: &[CallReply], stat: Stat) -> u128
     sum
 }
 
-// The number in a reply, 0 where it is no tally.
+// Returns the number in a tally, and 0 for any other reply.
 fn stat_in(reply: &CallReply, stat: Stat) -> u64
     ensures value { result ≡ stat_in stat reply.now }
 {

@@ -1,4 +1,4 @@
-//! Appends the text that answers a command.
+//! The text that answers a command.
 ghost use Rattle.std.specs.Prelude.{◌≡◌, ◌≤◌, ◌+◌, ◌++◌, length, codes, decimal, OnOk, OnErr};
 ghost use Rattle.mc_reply.specs.Text.{text, line, items_text};
 ghost use Rattle.mc_reply.specs.Answers.{AnswerCommand};
@@ -16,8 +16,8 @@ use mc_parse::Command;
 use std::mem;
 use zy_base::{Blob, NoMemory, Reserved, number_text};
 
-/// Appends the text that answers a command with these replies: nothing if it asks for no answer.
-/// May answer `NoMemory`.
+/// Appends the text that answers a command with these replies: nothing if the command asks for no
+/// answer. May answer `NoMemory`.
 #[tactic(auto, unfolding(crate::specs::Text::text))]
 pub fn reply_text(out: &mut Blob, command: &Command, replies: &Replies) -> Result<(), NoMemory>
     requires answers { AnswerCommand command.now replies.now }
