@@ -32,7 +32,7 @@ entries_among (bucket ∷ buckets) = bucket ++ entries_among buckets
 abbrev pub items_among : List Keyed → Items
 items_among buckets = items_in (entries_among buckets)
 
--- where keys are numbered, the bucket with the number `at` has no key of another number
+-- the bucket with the number `at` has no key to which `number` gives another one
 abbrev pub HasOwnKeys : (List ℕ → ℕ) → ℕ → Keyed → Type 0
 HasOwnKeys number at bucket = (key : List ℕ) → number key ≢ at → item_in bucket key ≡ None
 
@@ -67,13 +67,13 @@ IsFirstAt [] key at = ⊥
 IsFirstAt (entry ∷ entries) key zero = is_at (hashed_cmp key) entry.0 ≡ true
 IsFirstAt (entry ∷ entries) key (suc at) = (is_at (hashed_cmp key) entry.0 ≡ false) × IsFirstAt entries key at
 
--- the first entries, of this number, are at other keys
+-- this many of the first entries are at other keys
 abbrev pub NoneBefore : Keyed → List ℕ → ℕ → Type 0
 NoneBefore entries key zero = ⊤
 NoneBefore [] key (suc at) = ⊤
 NoneBefore (entry ∷ entries) key (suc at) = (is_at (hashed_cmp key) entry.0 ≡ false) × NoneBefore entries key at
 
--- the items are the same but at the key, which now has this one or none
+-- the items are the same except at the key, which now has this item or none
 abbrev pub IsWith : Keyed → List ℕ → Option Item → Keyed → Type 0
 IsWith old key item new =
     (q : List ℕ) → item_in new q ≡ cond (is_at (hashed_cmp key) q) item (item_in old q)

@@ -36,7 +36,7 @@ abbrev pub entry_of : Tag → ℕ → Call → CallReply → ℕ → Entry
 entry_of tag number call reply stamp =
     record { tag = tag; shard = number; call = call; reply = reply; stamp = stamp }
 
--- the shard with one further entry in its history
+-- the shard with one more entry in its history
 abbrev pub with_entry : Kept → Entry → Kept
 with_entry shard entry = kept shard.number shard.shards (shard.history ++ entry ∷ [])
 

@@ -14,12 +14,12 @@ use std::alloc::Global;
 use std::marker::Model;
 use zy_base::NoMemory;
 
-/// Items by their keys. Contracts see them as a list of keys with their items, where the first entry
-/// of a key counts.
+/// Items by their keys. Contracts see them as a list of keys with their items, of which the first
+/// entry of a key counts.
 ///
-/// Up to 16 items are in a row, which takes little memory; further ones are in parts, into which the
-/// row is then moved, one item at each insertion. So a key is found in at most 16 steps and those in
-/// its part, whatever the keys are.
+/// Up to 16 items are in a row, which takes little memory. More are in parts, into which the row is
+/// then moved, one item at each insertion. So a key is found in at most 16 steps and those in its
+/// part, whatever the keys are.
 #[derive(Drop)]
 pub(crate) struct Bucket {
     row: Row,
@@ -36,7 +36,7 @@ impl Model for Bucket {
 }
 
 impl Bucket {
-    /// No items. Takes no memory.
+    /// Begins without items. Takes no memory.
     pub(crate) fn new(alloc: Global) -> Bucket
         ensures value { result ≡ [] }
     {
@@ -46,7 +46,7 @@ impl Bucket {
         }
     }
 
-    /// The item of a key.
+    /// Returns the item of a key.
     #[inline(always)]
     pub(crate) fn get(&self, key: &Hashed) -> Option<&Item>
         ensures value { option_copied result ≡ item_in self.now key.now }
@@ -57,7 +57,7 @@ impl Bucket {
         }
     }
 
-    /// Puts an item at a key, and answers the one that was there.
+    /// Puts an item at a key, and answers the one that it had.
     pub(crate) fn insert(&mut self, key: Hashed, item: Item) -> Result<Option<Item>, NoMemory>
         ensures old { IfOk result (λ old. old ≡ item_in self.old key) }
         ensures ok { OnOk result (IsWith self.old key (Some item) self.new) }

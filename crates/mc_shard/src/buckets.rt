@@ -16,7 +16,7 @@ const BUCKETS: usize = 256;
 
 /// Items by their keys. Contracts see them as a finite map.
 ///
-/// Each key is in the bucket that the first eight bits of its hash number, so that buckets are small.
+/// The number of a key's bucket is the first eight bits of its hash, so that buckets are small.
 /// There are no buckets before the first item.
 #[derive(Drop)]
 pub struct Buckets {
@@ -39,7 +39,7 @@ impl Model for Buckets {
 }
 
 impl Buckets {
-    /// No items. Takes no memory.
+    /// Begins without items. Takes no memory.
     pub fn new(alloc: Global) -> Buckets
         ensures value { result ≡ empty }
     {
@@ -48,7 +48,7 @@ impl Buckets {
         }
     }
 
-    /// The item of a key.
+    /// Returns the item of a key.
     #[inline(always)]
     pub fn get(&self, key: &Hashed) -> Option<&Item>
         ensures value { option_copied result ≡ get self.now key.now }
@@ -59,7 +59,7 @@ impl Buckets {
         }
     }
 
-    /// Puts an item at a key, and answers the one that was there.
+    /// Puts an item at a key, and answers the one that it had.
     pub fn insert(&mut self, key: Hashed, item: Item) -> Result<Option<Item>, NoMemory>
         ensures old { IfOk result (λ old. old ≡ get self.old key) }
         ensures ok { OnOk result (self.new ≡ insert self.old key item) }
@@ -96,7 +96,7 @@ impl Buckets {
     }
 }
 
-// Makes the buckets where there are none.
+// Makes the buckets if there are none.
 fn make_buckets(buckets: &mut Vec<Bucket>) -> Result<(), NoMemory>
     requires buckets { AreBuckets bucket_of 256 buckets.old.items }
     ensures buckets { AreBuckets bucket_of 256 buckets.new.items }
@@ -111,7 +111,7 @@ fn make_buckets(buckets: &mut Vec<Bucket>) -> Result<(), NoMemory>
     Ok(())
 }
 
-// Buckets without an item.
+// Makes buckets without an item.
 fn new_buckets(alloc: Global) -> Result<Vec<Bucket>, NoMemory>
     ensures buckets { IfOk result (λ buckets. AreBuckets bucket_of 256 buckets.items) }
     ensures none { IfOk result (λ buckets. items_among buckets.items ≡ empty) }

@@ -1,4 +1,4 @@
-//! The reply to a call and the change that it makes, before the change is made.
+//! The reply to a call, and its change of the items before that is made.
 use mc_calls::CallReply;
 use zy_base::Blob;
 

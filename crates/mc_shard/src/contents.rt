@@ -42,7 +42,7 @@ impl Model for Contents {
 }
 
 impl Contents {
-    /// Contents in which no item was ever stored. Takes no memory.
+    /// Begins without items, and with all counts 0. Takes no memory.
     pub fn new(alloc: Global) -> Contents
         ensures value { result ≡ empty_state }
     {
@@ -53,14 +53,14 @@ impl Contents {
         }
     }
 
-    /// How many items were ever stored.
+    /// Returns how many items were ever stored.
     pub fn count(&self) -> u64
         ensures value { result ≡ self.now.count }
     {
         self.count
     }
 
-    /// What the shard counts.
+    /// Returns what the shard counts.
     pub fn tallied(&self) -> Tallied
         ensures value { result ≡ tallied self.now }
     {
@@ -87,7 +87,7 @@ impl Contents {
         }
     }
 
-    /// The item of a key, where a call has one.
+    /// Returns the item of a call's key, if the call has a key.
     #[inline(always)]
     pub fn found(&self, key: &Option<Hashed>) -> Option<&Item>
         ensures value { option_copied result ≡ item_at self.now.items key.now }
@@ -98,7 +98,7 @@ impl Contents {
         }
     }
 
-    /// The item of this key.
+    /// Returns the item of this key.
     #[inline(always)]
     pub fn found_at(&self, key: &Hashed) -> Option<&Item>
         ensures value { option_copied result ≡ get self.now.items key.now }
@@ -106,7 +106,8 @@ impl Contents {
         self.items.get(key)
     }
 
-    /// The item that decides what a call answers and does: that of its key, which a `set` has no need of.
+    /// Returns the item that decides what a call answers and does: that of its key, but none for a
+    /// `set`, whose outcome depends on no item.
     pub fn found_for(&self, call: &Call, key: &Option<Hashed>) -> Option<&Item>
         ensures value { (counts : Tallied) → outcome_of counts call.now (option_copied result)
             ≡ outcome_of counts call.now (item_at self.now.items key.now) }
@@ -117,7 +118,7 @@ impl Contents {
         }
     }
 
-    /// Makes the change of a call on this key, on shard `number` of `shards`.
+    /// Makes the change of a call with this key, on shard `number` of `shards`.
     #[inline(always)]
     pub fn carry_out(
         &mut self,
@@ -214,7 +215,7 @@ impl Contents {
     }
 }
 
-// The unique of the next item that is stored.
+// Returns the unique of the next item that is stored.
 fn unique(number: u32, shards: u32, count: u64) -> u64
     requires within { number < shards }
     requires few { shards ≤ 256 }

@@ -31,7 +31,7 @@ impl Model for Hashed {
 }
 
 impl Hashed {
-    /// A copy of the key of a call, with its hash; a flush and a tally have none.
+    /// Copies the key of a call, with its hash; a flush and a tally have none.
     #[inline(always)]
     pub fn of_call(call: &Call) -> Result<Option<Hashed>, NoMemory>
         ensures value { IfOk result (λ key. key ≡ key_of call.now) }
@@ -42,7 +42,7 @@ impl Hashed {
         }
     }
 
-    /// The number of its bucket: the first eight bits of the hash.
+    /// Returns the number of its bucket: the first eight bits of the hash.
     pub fn bucket(&self) -> usize
         ensures value { result ≡ bucket_of self.now }
         ensures within { result < 256 }
@@ -50,7 +50,7 @@ impl Hashed {
         (self.hash / 16_777_216) as usize
     }
 
-    /// The number of its part: the next five bits of the hash.
+    /// Returns the number of its part: the next five bits of the hash.
     pub fn part(&self) -> usize
         ensures value { result ≡ part_of self.now }
         ensures within { result < 32 }
@@ -58,14 +58,14 @@ impl Hashed {
         (self.hash / 524_288 % 32) as usize
     }
 
-    /// Its fingerprint: the third eight bits of the hash.
+    /// Returns its fingerprint: the third eight bits of the hash.
     pub fn fingerprint(&self) -> u8
         ensures value { result ≡ fingerprint_of self.now }
     {
         (self.hash / 256 % 256) as u8
     }
 
-    /// A copy of a key that has this hash.
+    /// Makes a copy of a key that has this hash.
     #[inline(always)]
     pub fn with_hash(key: &Blob, hash: u32) -> Result<Hashed, NoMemory>
         requires hash { hash ≡ hash_of key.now }
@@ -75,7 +75,7 @@ impl Hashed {
         Ok(Hashed { hash, key })
     }
 
-    /// The key.
+    /// Returns the key.
     #[inline(always)]
     pub fn into_key(self) -> Blob
         ensures value { result ≡ self }
@@ -84,7 +84,7 @@ impl Hashed {
         key
     }
 
-    // A copy of a key, with its hash.
+    // Copies a key, with its hash.
     #[inline(always)]
     fn copy_of(key: &Blob) -> Result<Hashed, NoMemory>
         ensures value { IfOk result (λ hashed. hashed ≡ key.now) }
@@ -118,7 +118,7 @@ impl PartialOrd for Hashed {
     }
 }
 
-// By their hashes, and keys with the same hash in the order of a dictionary.
+// Keys are ordered by their hashes, and those with the same hash as in a dictionary.
 impl Ord for Hashed {
     ghost cmp = { hashed_cmp };
 

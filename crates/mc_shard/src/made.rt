@@ -1,7 +1,7 @@
-//! What a call that was made answers.
+//! The answer to a call that was made.
 use mc_calls::CallReply;
 
-/// What a shard answers to a call that it was given by value: the reply, and the stamp of the entry.
+/// The answer of a shard to a call that was given by value: the reply, and the stamp of its entry.
 #[derive(Drop)]
 pub struct Made {
     pub reply: CallReply,

@@ -12,10 +12,10 @@ use std::alloc::Global;
 use std::marker::Model;
 use zy_base::NoMemory;
 
-// A shard stores fewer items than this, ever.
+// A shard never stores more items than this.
 const ITEM_LIMIT: u64 = 1 << 52;
 
-// There are fewer gets than this, and fewer calls that store a value.
+// A shard never answers more gets than this, nor more calls that store a value.
 const CALL_LIMIT: u64 = 1 << 60;
 
 /// A shard of the store without a history, on which calls are made again. Contracts see it as its
@@ -44,7 +44,7 @@ impl Model for Replay {
 }
 
 impl Replay {
-    /// Shard `number` of `shards`, before any call. Takes no memory.
+    /// Makes shard `number` of `shards`, before any call. Takes no memory.
     pub fn new(alloc: Global, number: u32, shards: u32) -> Replay
         requires within { number < shards }
         requires few { shards ≤ 256 }
@@ -58,8 +58,8 @@ impl Replay {
         }
     }
 
-    /// Makes a call and returns its reply. May answer `NoMemory`, and does once 2^52 items were
-    /// stored, or 2^60 calls of a kind that is counted were made; after that the shard is as it was.
+    /// Makes a call and returns its reply. May answer `NoMemory`, and does so once 2^52 items were
+    /// stored, or 2^60 calls of a counted kind were made; then the shard is as it was.
     pub fn answer(&mut self, call: &Call) -> Result<CallReply, NoMemory>
         ensures reply { IfOk result (λ reply. reply ≡ reply_to self.old.state call.now) }
         ensures ok { OnOk result (self.new ≡ state_replayed self.old call.now) }
@@ -103,7 +103,7 @@ impl Replay {
     }
 }
 
-// Has the copies of a step's value share its bytes.
+// Lets the copies of a step's value share its bytes.
 fn share(step: &mut Step) -> Result<(), NoMemory>
     ensures value { step.new ≡ step.old }
 {

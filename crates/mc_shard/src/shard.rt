@@ -40,7 +40,7 @@ impl Model for Shard {
 }
 
 impl Shard {
-    /// Shard `number` of `shards`, before any call. Takes no memory.
+    /// Makes shard `number` of `shards`, before any call. Takes no memory.
     pub fn new(alloc: Global, number: u32, shards: u32) -> Shard
         requires within { number < shards }
         requires few { shards ≤ 256 }
@@ -55,14 +55,14 @@ impl Shard {
         }
     }
 
-    /// The stamp of the last entry, 0 without entries.
+    /// Returns the stamp of the last entry, 0 without entries.
     pub fn last(&self) -> u64
         ensures value { result ≡ last_of self.now }
     {
         self.last
     }
 
-    /// The entries of all calls, the oldest first.
+    /// Returns the entries of all calls, the oldest first.
     pub fn history(&self) -> &[Entry]
         ensures value { result.now ≡ self.now.history }
         ensures sound { IsHistory self.now.shards self.now.number self.now.history }
@@ -71,7 +71,7 @@ impl Shard {
         self.history.as_slice()
     }
 
-    /// The list of its entries, moved and not copied. Takes no memory.
+    /// Returns the list of its entries, which is moved. Takes no memory.
     pub fn into_history(self) -> Entries
         ensures value { result ≡ self.history }
         ensures sound { IsHistory self.shards self.number result }
@@ -123,9 +123,9 @@ impl Shard {
         }
     }
 
-    /// Makes a call, with a stamp above all that the caller has seen. It is moved into its entry, which
-    /// is appended to the history, and answered are its reply and the stamp alone. All memory is taken
-    /// first: after a refusal the shard is as it was, and the call is handed back.
+    /// Makes a call, with a stamp above all that the caller has seen. It is moved into its entry,
+    /// which is appended to the history; the answer has only its reply and the stamp. All memory is
+    /// taken first: if allocation fails, the shard is as it was, and the call is handed back.
     pub fn make(&mut self, tag: Tag, mut call: Call, seen: u64) -> Result<Made, (Call, NoMemory)>
         requires last { last_of self.old < 2 ^ 60 }
         requires seen { seen < 2 ^ 60 }
@@ -151,7 +151,7 @@ impl Shard {
         }
     }
 
-    // The same for a call whose bytes are shared, so that no copy here allocates.
+    // Makes a call as `make` does, whose bytes are shared, so that no copy here allocates.
     fn make_shared(
         &mut self,
         tag: Tag,
@@ -228,7 +228,7 @@ impl Shard {
     }
 }
 
-// Lets the copies of a call share its bytes, and gives its key with the hash.
+// Lets the copies of a call share its bytes, and returns its key with the hash.
 fn shared(call: &mut Call) -> Result<Option<Hashed>, NoMemory>
     ensures call { call.new ≡ call.old }
     ensures key { IfOk result (λ key. key ≡ key_of call.old) }
@@ -237,7 +237,7 @@ fn shared(call: &mut Call) -> Result<Option<Hashed>, NoMemory>
     Hashed::of_call(call)
 }
 
-// Lets the copies of a call share its bytes, and gives one.
+// Lets the copies of a call share its bytes, and returns one.
 fn shared_copy(call: &mut Call) -> Result<Call, NoMemory>
     ensures call { call.new ≡ call.old }
     ensures copy { IfOk result (λ copy. copy ≡ call.old) }

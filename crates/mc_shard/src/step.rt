@@ -12,8 +12,8 @@ use mc_calls::{Call, CallReply, Item, Tallied};
 use std::alloc::Global;
 use zy_base::{Blob, NoMemory, VALUE_LIMIT, number_text, read_number};
 
-/// The reply and the change of a call, on a shard that counts this, where the call's key has this item
-/// or none.
+/// Returns the reply and the change of a call, on a shard with these counts, by the item of the
+/// call's key.
 #[inline(always)]
 pub fn step_of(
     alloc: Global,
@@ -30,7 +30,7 @@ pub fn step_of(
     }
 }
 
-// The reply and the change of a call whose key has no item.
+// Returns the reply and the change of a call whose key has no item.
 #[inline(always)]
 fn step_without(call: &Call, counts: Tallied) -> Result<Step, NoMemory>
     ensures value { Gives (key_of call.now) result (table.outcome_of counts call.now None) }
@@ -51,7 +51,7 @@ fn step_without(call: &Call, counts: Tallied) -> Result<Step, NoMemory>
     }
 }
 
-// The reply and the change of a call whose key has this item.
+// Returns the reply and the change of a call whose key has this item.
 #[inline(always)]
 fn step_with(alloc: Global, call: &Call, counts: Tallied, item: &Item) -> Result<Step, NoMemory>
     ensures value { Gives (key_of call.now) result (table.outcome_of counts call.now (Some item.now)) }
@@ -77,7 +77,7 @@ fn step_with(alloc: Global, call: &Call, counts: Tallied, item: &Item) -> Result
     }
 }
 
-// A reply, and no change.
+// Makes a step with this reply, and no change.
 fn reply_alone(reply: CallReply) -> Step
     ensures value { result ≡ record { reply = reply; change = Change.Nothing } }
 {
@@ -87,7 +87,7 @@ fn reply_alone(reply: CallReply) -> Step
     }
 }
 
-// The reply is the item.
+// Replies with the item.
 fn hit(item: &Item) -> Result<Step, NoMemory>
     ensures value { (key : List ℕ) → Gives (Some key) result
         (table.answers (Hit item.now.flags item.now.unique item.now.value)) }
@@ -100,7 +100,7 @@ fn hit(item: &Item) -> Result<Step, NoMemory>
     }))
 }
 
-// An item is put at the key.
+// Puts an item at the key.
 fn put(flags: u32, value: &Blob) -> Result<Step, NoMemory>
     ensures value { (key : List ℕ) → Gives (Some key) result (table.stored key flags value.now) }
 {
@@ -111,7 +111,7 @@ fn put(flags: u32, value: &Blob) -> Result<Step, NoMemory>
     })
 }
 
-// The value joined from two values is put with the item's flags, unless it is too large.
+// Puts the joined value, with the item's flags, unless it is too large.
 fn join(item: &Item, front: &Blob, back: &Blob) -> Result<Step, NoMemory>
     ensures value { (key : List ℕ) → Gives (Some key) result (table.joined key item.now (front.now ++ back.now)) }
 {
@@ -140,7 +140,7 @@ fn lengthen(value: &mut Blob, back: &Blob) -> Result<(), NoMemory>
     value.share()
 }
 
-// The item is replaced if it has the unique that the caller saw.
+// Replaces the item if it has the unique that the caller saw.
 fn exchange(item: &Item, flags: u32, unique: u64, value: &Blob) -> Result<Step, NoMemory>
     ensures value { (key : List ℕ) → Gives (Some key) result (table.exchanged key item.now flags unique value.now) }
 {
@@ -151,7 +151,7 @@ fn exchange(item: &Item, flags: u32, unique: u64, value: &Blob) -> Result<Step, 
     }
 }
 
-// A value that is a number is counted up, modulo 2^64.
+// Counts a value that is a number up, modulo 2^64.
 fn count_up(alloc: Global, item: &Item, amount: u64) -> Result<Step, NoMemory>
     ensures value { (key : List ℕ) → Gives (Some key) result
         (table.counted_up key item.now amount (number_of item.now.value)) }
@@ -162,7 +162,7 @@ fn count_up(alloc: Global, item: &Item, amount: u64) -> Result<Step, NoMemory>
     }
 }
 
-// A value that is a number is counted down, and not below 0.
+// Counts a value that is a number down, and not below 0.
 fn count_down(alloc: Global, item: &Item, amount: u64) -> Result<Step, NoMemory>
     ensures value { (key : List ℕ) → Gives (Some key) result
         (table.counted_down key item.now amount (number_of item.now.value)) }
@@ -173,7 +173,7 @@ fn count_down(alloc: Global, item: &Item, amount: u64) -> Result<Step, NoMemory>
     }
 }
 
-// The number is put as digits with the item's flags.
+// Puts the number as digits, with the item's flags.
 fn put_number(alloc: Global, item: &Item, number: u64) -> Result<Step, NoMemory>
     ensures value { (key : List ℕ) → Gives (Some key) result (table.renumbered key item.now number) }
 {
@@ -199,7 +199,7 @@ fn write_digits(value: &mut Blob, number: u64) -> Result<(), NoMemory>
     value.share()
 }
 
-// The item of the key is removed.
+// Removes the item of the key.
 fn remove() -> Step
     ensures value { result ≡ record { reply = CallReply.Deleted; change = Change.Remove } }
 {
@@ -209,7 +209,7 @@ fn remove() -> Step
     }
 }
 
-// All items are removed.
+// Removes all items.
 fn clear() -> Step
     ensures value { result ≡ record { reply = CallReply.Flushed; change = Change.Clear } }
 {
@@ -219,7 +219,7 @@ fn clear() -> Step
     }
 }
 
-// The reply is what the shard counts.
+// Replies with what the shard counts.
 fn tallied(counts: Tallied) -> Step
     ensures value { result ≡ record { reply = tally counts; change = Change.Nothing } }
 {

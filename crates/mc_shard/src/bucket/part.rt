@@ -9,11 +9,11 @@ use std::alloc::Global;
 use std::collections::BTreeMap;
 use std::marker::Model;
 
-/// Items by their keys. Contracts see them as a list of keys with their items, where the first entry
-/// of a key counts.
+/// Items by their keys. Contracts see them as a list of keys with their items, of which the first
+/// entry of a key counts.
 ///
-/// Up to 16 items are in a row, which takes little memory; further ones are in a tree, into which the
-/// row is then moved, one item at each insertion. So a key is found in at most 16 steps and those in
+/// Up to 16 items are in a row, which takes little memory. More are in a tree, into which the row
+/// is then moved, one item at each insertion. So a key is found in at most 16 steps and those in
 /// the tree, whatever the keys are.
 #[derive(Drop)]
 pub struct Part {
@@ -31,7 +31,7 @@ impl Model for Part {
 }
 
 impl Part {
-    /// No items. Takes no memory.
+    /// Begins without items. Takes no memory.
     pub fn new(alloc: Global) -> Part
         ensures value { result ≡ [] }
     {
@@ -41,7 +41,7 @@ impl Part {
         }
     }
 
-    /// The item of a key.
+    /// Returns the item of a key.
     #[inline(always)]
     pub fn get(&self, key: &Hashed) -> Option<&Item>
         ensures value { option_copied result ≡ item_in self.now key.now }
@@ -52,7 +52,8 @@ impl Part {
         }
     }
 
-    /// Puts an item at a key, and answers the one that was there. After a refusal both are handed back.
+    /// Puts an item at a key, and answers the one that it had. If allocation fails, key and item
+    /// are handed back.
     pub fn insert(&mut self, key: Hashed, item: Item) -> Result<Option<Item>, (Hashed, Item)>
         ensures old { IfOk result (λ old. old ≡ item_in self.old key) }
         ensures ok { OnOk result (IsWith self.old key (Some item) self.new) }

@@ -13,11 +13,11 @@ use zy_base::NoMemory;
 // The number of parts.
 const PARTS: usize = 32;
 
-/// Items by their keys. Contracts see them as a list of keys with their items, where the first entry
-/// of a key counts.
+/// Items by their keys. Contracts see them as a list of keys with their items, of which the first
+/// entry of a key counts.
 ///
-/// Each key is in the part that the next five bits of its hash number, after those that number its
-/// bucket. There are no parts before the first item.
+/// The number of a key's part is five bits of its hash, those after the bits of its bucket. There
+/// are no parts before the first item.
 #[derive(Drop)]
 pub struct Parts {
     parts: Vec<Part>,
@@ -34,7 +34,7 @@ impl Model for Parts {
 }
 
 impl Parts {
-    /// No items. Takes no memory.
+    /// Begins without items. Takes no memory.
     pub fn new(alloc: Global) -> Parts
         ensures value { result ≡ [] }
     {
@@ -43,14 +43,14 @@ impl Parts {
         }
     }
 
-    /// Whether there are no parts: then there is no item.
+    /// Checks whether there are no parts: then there is no item.
     pub fn is_empty(&self) -> bool
         ensures none { result ≡ true → self.now ≡ [] }
     {
         self.parts.is_empty()
     }
 
-    /// The item of a key.
+    /// Returns the item of a key.
     #[inline(always)]
     pub fn get(&self, key: &Hashed) -> Option<&Item>
         ensures value { option_copied result ≡ item_in self.now key.now }
@@ -61,7 +61,8 @@ impl Parts {
         }
     }
 
-    /// Puts an item at a key, and answers the one that was there. After a refusal both are handed back.
+    /// Puts an item at a key, and answers the one that it had. If allocation fails, key and item
+    /// are handed back.
     pub fn insert(&mut self, key: Hashed, item: Item) -> Result<Option<Item>, (Hashed, Item)>
         ensures old { IfOk result (λ old. old ≡ item_in self.old key) }
         ensures ok { OnOk result (IsWith self.old key (Some item) self.new) }
@@ -85,7 +86,7 @@ impl Parts {
     }
 }
 
-// Makes the parts where there are none.
+// Makes the parts if there are none.
 fn make_parts(parts: &mut Vec<Part>) -> Result<(), NoMemory>
     requires parts { AreBuckets part_of 32 parts.old.items }
     ensures parts { AreBuckets part_of 32 parts.new.items }
@@ -100,7 +101,7 @@ fn make_parts(parts: &mut Vec<Part>) -> Result<(), NoMemory>
     Ok(())
 }
 
-// Parts without an item.
+// Makes parts without an item.
 fn new_parts(alloc: Global) -> Result<Vec<Part>, NoMemory>
     ensures parts { IfOk result (λ parts. AreBuckets part_of 32 parts.items) }
     ensures none { IfOk result (λ parts. entries_among parts.items ≡ []) }

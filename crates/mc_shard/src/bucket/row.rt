@@ -14,11 +14,11 @@ use std::mem;
 // The most items that are kept in a row.
 const FEW: usize = 16;
 
-/// Up to 16 items by their keys. Contracts see them as a list of keys with their items, where the first
-/// entry of a key counts.
+/// Up to 16 items by their keys. Contracts see them as a list of keys with their items, of which
+/// the first entry of a key counts.
 ///
-/// Each entry has a fingerprint, eight bits of the hash of its key. The fingerprints are in one place,
-/// so that a lookup reads them and then the entries alone that have the one it looks for.
+/// Each entry has a fingerprint, eight bits of the hash of its key. The fingerprints are side by
+/// side, so that a lookup reads them, and then only the entries that have the right one.
 #[derive(Drop)]
 pub(crate) struct Row {
     fingerprints: [u8; 16],
@@ -36,7 +36,7 @@ impl Model for Row {
 }
 
 impl Row {
-    /// No items. Takes no memory.
+    /// Begins without items. Takes no memory.
     pub(crate) fn new(alloc: Global) -> Row
         ensures value { result ≡ [] }
     {
@@ -46,14 +46,14 @@ impl Row {
         }
     }
 
-    /// Whether there is room for one more item.
+    /// Checks whether there is room for one more item.
     pub(crate) fn has_room(&self) -> bool
         ensures value { (result ≡ true) ↔ (length self.now < 16) }
     {
         self.entries.len() < FEW
     }
 
-    /// The place of the first entry with a key.
+    /// Returns the place of the first entry with a key.
     #[inline(always)]
     pub(crate) fn place_of(&self, key: &Hashed) -> Option<usize>
         ensures some { IfSome result (IsFirstAt self.now key.now) }
@@ -69,7 +69,7 @@ impl Row {
         None
     }
 
-    /// The item of a key.
+    /// Returns the item of a key.
     #[inline(always)]
     pub(crate) fn get(&self, key: &Hashed) -> Option<&Item>
         ensures value { option_copied result ≡ item_in self.now key.now }
@@ -80,7 +80,7 @@ impl Row {
         }
     }
 
-    /// Puts an item in the place of another, which is answered.
+    /// Puts an item in the place of another, and answers that one.
     pub(crate) fn replace(&mut self, at: usize, item: Item) -> Item
         requires within { at < length self.old }
         ensures old { (key : List ℕ) → IsFirstAt self.old key at → item_in self.old key ≡ Some result }
@@ -89,7 +89,7 @@ impl Row {
         mem::replace(&mut self.entries[at].1, item)
     }
 
-    /// Puts an item after the others. After a refusal key and item are handed back.
+    /// Puts an item after the others. If allocation fails, key and item are handed back.
     pub(crate) fn push(&mut self, key: Hashed, item: Item) -> Result<(), (Hashed, Item)>
         requires room { length self.old < 16 }
         ensures ok { OnOk result (self.new ≡ self.old ++ (key, item) ∷ []) }

@@ -14,9 +14,9 @@ use mc_calls::{Call, CallReply, Entry, Item, Tag, numbers_fit};
 use zy_base::{Blob, NoMemory};
 
 impl Shard {
-    /// Gets the item of a key, as `make` does by `Call::Get`. The key is lent, with its hash. The reply is
-    /// appended to `replies`, and answered is the stamp of the entry. All memory is taken first: after a
-    /// refusal the shard and the replies are as they were.
+    /// Gets the item of a key, as `make` does by `Call::Get`. The key is lent, with its hash. The
+    /// reply is appended to `replies`; the answer is the stamp of the entry. All memory is taken
+    /// first: if allocation fails, the shard and the replies are as they were.
     pub fn fetch(
         &mut self,
         tag: Tag,
@@ -75,7 +75,7 @@ impl Shard {
     }
 }
 
-// The reply to a get of a key that has this item or none, and a copy of it.
+// Returns the reply to a get of a key that has this item or none, and a copy of it.
 #[inline(always)]
 fn reply_twice(found: Option<&Item>) -> Result<(CallReply, CallReply), NoMemory>
     ensures reply { (counts : Tallied) (key : List ℕ) → IfOk result
@@ -88,7 +88,7 @@ fn reply_twice(found: Option<&Item>) -> Result<(CallReply, CallReply), NoMemory>
     }
 }
 
-// The reply that is this item, and a copy of it.
+// Returns the reply that is this item, and a copy of it.
 #[inline(always)]
 fn hit_twice(item: &Item) -> Result<(CallReply, CallReply), NoMemory>
     ensures reply { IfOk result (λ both. both.0 ≡ Hit item.now.flags item.now.unique item.now.value) }
