@@ -1,4 +1,4 @@
--- A shard that a pass has taken is given back, with one further entry or as it was.
+-- A shard that a pass has taken is given back, with one more entry or as it was.
 use Rattle.std.proofs.Common.{◌≡◌, ℕ, ◌+◌, ◌*◌, ◌^◌, ◌<◌, ◌≤◌, List, [], ◌∷◌, ◌++◌, length, get_or, set, refl, sym, ap, ◌∙◌, subst, arith, length-set, length-append, get_or-set_same}
 use Rattle.std.specs.Prelude as std
 use mathlib.Core.Option.{some}

@@ -1,4 +1,4 @@
--- The number of entries that all words show, where one word is changed.
+-- The number of entries that all words show, after a change of one word.
 use Rattle.std.proofs.Common.{◌≡◌, ℕ, zero, suc, ◌+◌, ◌/◌, ◌<◌, ◌≤◌, List, [], ◌∷◌, length, get_or, set, arith}
 use Rattle.mc_store.specs.StoreRule.{halves}
 

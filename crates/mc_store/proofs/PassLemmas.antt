@@ -1,4 +1,4 @@
--- The root gives a pass, and takes it in again.
+-- The root gives a pass, and takes it back.
 use Rattle.std.proofs.Common.{◌≡◌, ◌≢◌, ℕ, suc, ◌<◌, List, [], ◌∷◌, length, set, Bool, true, false, refl, sym, ap, ◌∙◌, subst, ⊎_elim, arith, length-set}
 use Rattle.std.specs.Prelude as std
 use mathlib.Core.Option.{Option, some}

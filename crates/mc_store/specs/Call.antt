@@ -30,25 +30,26 @@ IfBusy (Ok (Reply entry)) holds = ⊤
 IfBusy (Ok (Busy shard loaded found)) holds = holds shard loaded found
 IfBusy (Err e) holds = ⊤
 
--- of the reply and the stamp, where a call that was given by value was made
+-- a fact about the reply and the stamp, if a call that was given by value was made
 abbrev pub IfMade : {E : Type 0} → Result Tried E → (CallReply → ℕ → Type 0) → Type 0
 IfMade (Ok (Made reply stamp)) holds = holds reply stamp
 IfMade (Ok (Taken call shard loaded found)) holds = ⊤
 IfMade (Err e) holds = ⊤
 
--- of the call that is handed back, the shard, the word loaded and the word found, where another pass had the shard
+-- a fact about the call that is handed back, the shard, the word loaded and the word found, if another pass had
+-- the shard
 abbrev pub IfTaken : {E : Type 0} → Result Tried E → (Call → ℕ → ℕ → ℕ → Type 0) → Type 0
 IfTaken (Ok (Made reply stamp)) holds = ⊤
 IfTaken (Ok (Taken call shard loaded found)) holds = holds call shard loaded found
 IfTaken (Err e) holds = ⊤
 
--- of the stamp, where a get was made
+-- a fact about the stamp, if a get was made
 abbrev pub IfFetched : {E : Type 0} → Result Fetched E → (ℕ → Type 0) → Type 0
 IfFetched (Ok (Fetches.Made stamp)) holds = holds stamp
 IfFetched (Ok (Fetches.Busy shard loaded found)) holds = ⊤
 IfFetched (Err e) holds = ⊤
 
--- of the shard, the word loaded and the word found, where a get was not made since another pass had the shard
+-- a fact about the shard, the word loaded and the word found, if another pass had the shard of a get
 abbrev pub IfUnfetched : {E : Type 0} → Result Fetched E → (ℕ → ℕ → ℕ → Type 0) → Type 0
 IfUnfetched (Ok (Fetches.Made stamp)) holds = ⊤
 IfUnfetched (Ok (Fetches.Busy shard loaded found)) holds = holds shard loaded found
@@ -94,7 +95,7 @@ abbrev pub WasTaken : ℕ → ℕ → ℕ → Trace → Type 0
 WasTaken shard loaded found after =
     ((loaded % 2 ≡ 1) × (found ≡ loaded)) ⊎ ((loaded % 2 ≡ 0) × (found ≢ loaded) × Exchanged shard found after)
 
--- the shard that was asked for was busy in this try, by these words
+-- the requested shard was busy in this try, as these words show
 pub record WasBusy (asked : ℕ) (before after : Trace) (shard loaded found : ℕ) : Type 0 where
   pub shard_is : shard ≡ asked
   pub loaded_is : Loaded asked loaded before after

@@ -1,4 +1,4 @@
--- The passes of connections that a root gave and took in again.
+-- The passes of connections that a root gave and took back.
 use Rattle.std.specs.Prelude.{ℕ, List, [], ◌∷◌, Bool, false, ◌||◌, ◌&&◌, not, ◌==◌, cond}
 use Rattle.mc_calls.specs.declared.entry.Entry.{Entry}
 use Rattle.zy_table.specs.Member.{is_in}

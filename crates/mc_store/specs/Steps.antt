@@ -34,15 +34,15 @@ IsIdle conn me = me ≡ (passing conn (mine_at me) (trace_at me), [])
 
 -- ---- traces
 
--- after a load
+-- the trace after a load
 abbrev pub loads : ℕ → ℕ → Trace → Trace
 loads word found t = record { steps = t.steps + 1; load = sight word found (t.steps + 1); exchange = t.exchange }
 
--- after an exchange
+-- the trace after an exchange
 abbrev pub exchanges : ℕ → ℕ → Trace → Trace
 exchanges word found t = record { steps = t.steps + 1; load = t.load; exchange = sight word found (t.steps + 1) }
 
--- after a store
+-- the trace after a store
 abbrev pub stores : Trace → Trace
 stores t = record { steps = t.steps + 1; load = t.load; exchange = t.exchange }
 
@@ -64,7 +64,7 @@ holding shard history (Pass conn mine taken trace) = Pass conn mine (Some (shard
 holding shard history (Root given joined) = Root given joined
 holding shard history Spent = Spent
 
--- a further call can be made on a shard, by a pass with these calls
+-- one more call can be made on a shard, by a pass with these calls
 pub record IsReady (shard : Kept) (mine : List Entry) : Type 0 where
   pub short : length shard.history < 2 ^ 52
   pub last : last_stamp 0 shard.history < 2 ^ 60
@@ -97,12 +97,12 @@ HasTaken conn shard shards even me =
     × (me ≡ (Pass conn (mine_at me) (Some (shard, history)) (trace_at me), (shard, kept shard shards history) ∷ []))
     × IsReady (kept shard shards history) (mine_at me)
 
--- of the even word, where a shard was taken
+-- a fact about the even word, if a shard was taken
 abbrev pub IfFree : Taking → (ℕ → Type 0) → Type 0
 IfFree (Free even) holds = holds even
 IfFree (Held loaded found) holds = ⊤
 
--- of the word loaded and the word found, where another pass had it
+-- a fact about the word loaded and the word found, if another pass had the shard
 abbrev pub IfHeld : Taking → (ℕ → ℕ → Type 0) → Type 0
 IfHeld (Free even) holds = ⊤
 IfHeld (Held loaded found) holds = holds loaded found
@@ -153,6 +153,6 @@ gave conn (Root given joined) = Root (conn ∷ given) joined
 gave conn (Pass other mine taken trace) = Pass other mine taken trace
 gave conn Spent = Spent
 
--- that pass, which has no calls
+-- the view of that new pass, which has no calls
 abbrev pub newcomer : ℕ → View → View
 newcomer conn view = passing conn [] untraced

@@ -53,7 +53,7 @@ pub record ShardIs (shards : ℕ) (words : List ℕ) (slots : List (Option Kept)
 
 -- ---- a connection
 
--- one connection, with its calls, where all histories together have `entries` entries
+-- one connection, with its calls, when all histories together have `entries` entries
 pub record ConnectionIs (entries : ℕ) (histories : ℕ → List Entry) (conn : ℕ) (mine : List Entry) : Type 0 where
   -- its entries in each history are its calls at that shard, in their order
   pub own_at : (shard : ℕ) → of_connection conn (histories shard) ≡ at_shard shard mine
@@ -91,7 +91,7 @@ pub record StoreRule (s : State Kept View) : Type 0 where
   -- the history of each shard, and where it is
   pub histories : ℕ → List Entry
   pub places : ℕ → Place
-  -- the calls of each connection, and one more than the seat of its pass, or 0 where its pass is not out
+  -- the calls of each connection, and one more than the seat of its pass, or 0 if its pass is not out
   pub calls : ℕ → List Entry
   pub seats : ℕ → ℕ
   -- there is a word for each shard, and beyond them there is nothing

@@ -1,5 +1,5 @@
 -- What the views of the table's seats say: the connections of a root, and the calls and the steps of a pass.
--- No public clause cites this module but for `untraced`.
+-- Public clauses cite only `untraced` of this module.
 use Rattle.std.specs.Prelude.{◌≡◌, ℕ, List, [], ◌∷◌, length, None}
 use Rattle.mc_calls.specs.declared.entry.Entry.{Entry}
 use Rattle.mc_calls.specs.Order.{last_stamp}

@@ -29,14 +29,14 @@ impl Model for Pass {
 }
 
 impl Pass {
-    /// The connection.
+    /// Returns the connection.
     pub fn conn(&self) -> u32
         ensures value { result ≡ self.now.conn }
     {
         self.conn
     }
 
-    /// The number of its calls.
+    /// Returns the number of its calls.
     pub fn count(&self) -> u64
         ensures value { result ≡ length self.now.calls }
     {

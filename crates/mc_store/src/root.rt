@@ -1,4 +1,4 @@
-//! The root of a store: it gives the passes, and takes them in again.
+//! The root of a store, which gives the passes and takes them back.
 use crate::store::view::View;
 use atomic_table::Badge;
 use std::marker::Model;

@@ -1,6 +1,6 @@
 //! The store: the shards in the slots of one table, with a word for each.
 //!
-//! Word `s` is `2k` where shard `s` is free and has had `k` calls, and `2k + 1` where a pass has it. Slot
+//! Word `s` is `2k` if shard `s` is free and has had `k` calls, and `2k + 1` if a pass has it. Slot
 //! `s` has shard `s` while it is free. A call loads the word, exchanges the even word with the odd one
 //! above it, calls the shard in its slot, and stores an even word again.
 ghost use Rattle.std.specs.Prelude.{◌≡◌, ◌<◌, ◌≤◌, ◌^◌, ℕ, [], ◌∷◌, ◌++◌, length, true, false, IfOk, OnOk, OnErr, IfErr};
@@ -60,8 +60,8 @@ impl Model for StoreTable {
 }
 
 impl StoreTable {
-    /// A store of `shards` empty shards, 1 to 256, and its root. After a refusal there is nothing
-    /// to hand back.
+    /// Makes a store of `shards` empty shards, 1 to 256, and its root. If allocation fails, there
+    /// is nothing to hand back.
     pub fn new(alloc: Global, shards: u32) -> Result<(StoreTable, Root), NoMemory>
         requires some { 1 ≤ shards }
         requires few { shards ≤ 256 }
@@ -98,7 +98,7 @@ impl StoreTable {
         }
     }
 
-    /// The number of shards, which is the number of the table's slots.
+    /// Returns the number of shards, which is the number of the table's slots.
     pub fn shards(&self) -> u32
         ensures value { result ≡ self.now.shards }
         ensures slots { result ≡ self.now.id.slots }
@@ -108,8 +108,8 @@ impl StoreTable {
         self.shards
     }
 
-    /// The pass of a connection below 4,096 to which this root gave none before. The pass has no
-    /// calls. After a refusal it counts as not given.
+    /// Makes the pass of a connection below 4,096 to which this root gave none before. The pass has
+    /// no calls. If allocation fails, none counts as given.
     pub fn split(&self, root: &mut Root, conn: u32) -> Result<Pass, NoMemory>
         requires table { root.old.table ≡ self.now.id }
         requires within { conn < 4096 }
@@ -141,11 +141,11 @@ impl StoreTable {
     }
 
     /// Tries once to make a call on a shard, for the pass's connection: one load of the shard's word
-    /// and, where it was even, one exchange. The call happens at the store that makes the word even
+    /// and, if it was even, one exchange. The call happens at the store that makes the word even
     /// again. Its stamp is above all that the pass and the shard have seen.
     ///
-    /// The entry that is answered is a copy. After a refusal no call was made, and the shard is free
-    /// again, as it was. The program calls `make_call`.
+    /// The entry in the answer is a copy. If allocation fails, no call was made, and the shard is
+    /// free again, as it was. The program calls `make_call`.
     pub fn try_call(
         &self,
         pass: &mut Pass,
@@ -215,8 +215,8 @@ impl StoreTable {
         }
     }
 
-    /// Tries once to make a call on a shard, as `try_call` does. The call is moved into its entry, and
-    /// answered are its reply and the stamp alone. Where it was not made it is handed back.
+    /// Tries once to make a call on a shard, as `try_call` does. The call is moved into its entry;
+    /// the answer has only its reply and the stamp. If it was not made it is handed back.
     pub fn make_call(
         &self,
         pass: &mut Pass,
@@ -260,9 +260,9 @@ impl StoreTable {
         }
     }
 
-    /// Tries once to get the item of a key from a shard, as `make_call` does by `Call::Get`. The key is
-    /// lent, with its hash. The reply is appended to `replies`, and answered is the stamp alone. Where the
-    /// get was not made, the replies are as they were.
+    /// Tries once to get the item of a key from a shard, as `make_call` does by `Call::Get`. The
+    /// key is lent, with its hash. The reply is appended to `replies`; the answer has only the
+    /// stamp. If the get was not made, the replies are as they were.
     pub fn fetch(
         &self,
         pass: &mut Pass,
@@ -308,7 +308,7 @@ impl StoreTable {
         }
     }
 
-    /// Joins a pass: takes it in again, with its calls.
+    /// Joins a pass: takes it back, with its calls.
     pub fn join(&self, root: &mut Root, pass: Pass)
         requires table { root.old.table ≡ self.now.id }
         requires pass { pass.table ≡ root.old.table }
@@ -327,8 +327,8 @@ impl StoreTable {
         root.badge = seat.into_badge();
     }
 
-    /// The histories of the shards, once every pass that was given was joined. They are moved, and
-    /// not copied. After a refusal store and root are handed back.
+    /// Returns the histories of the shards, once every pass that was given was joined. They are
+    /// moved. If allocation fails, store and root are handed back.
     pub fn close(self, root: Root) -> Result<Histories, (StoreTable, Root)>
         requires table { root.table ≡ self.id }
         requires all { (conn : ℕ) → is_in conn root.given ≡ true → is_joined conn root.joined ≡ true }
@@ -356,7 +356,7 @@ impl StoreTable {
     }
 }
 
-// The shards below `shards`, on which no call was made.
+// Makes the shards below `shards`, on which no call was made.
 fn empty_shards(alloc: Global, shards: u32) -> Result<Vec<Shard>, NoMemory>
     requires few { shards ≤ 256 }
     ensures value { IfOk result (λ made. made.items ≡ empties shards shards) }

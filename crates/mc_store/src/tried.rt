@@ -1,7 +1,7 @@
 //! The result of `make_call`.
 use mc_calls::{Call, CallReply};
 
-/// What one try of a call that was given by value gave.
+/// The result of one try of a call that was given by value.
 #[derive(Drop)]
 pub enum Tried {
     /// The call was made. This is its reply, and the stamp of its entry, which the pass and the shard's
@@ -10,8 +10,9 @@ pub enum Tried {
         reply: CallReply,
         stamp: u64,
     },
-    /// The call was not made, and is handed back: another pass had the shard. The word of the shard that
-    /// was loaded, and the one that was found in its place; where the loaded one was odd, it is both.
+    /// The call was not made, since another pass had the shard, and is handed back. The other two
+    /// are the word of the shard that was loaded, and the one that the exchange found; if the
+    /// loaded one was odd, both are that word.
     Busy {
         call: Call,
         shard: u32,

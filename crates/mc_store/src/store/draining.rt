@@ -8,7 +8,7 @@ use mc_calls::Entries;
 use mc_shard::Shard;
 use std::alloc::Global;
 
-// The history of each shard, in their order. The lists have room for all.
+// Returns the history of each shard, in their order. The lists have room for all.
 pub(crate) fn drain(mut closed: Closed<Shard, Global>, mut lists: Vec<Entries>) -> Vec<Entries>
     requires full { IsFull closed.slots }
     requires room { slots_len closed.slots ≤ vec_capacity lists }

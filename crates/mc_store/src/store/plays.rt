@@ -1,4 +1,4 @@
-//! What a seat learns from each step on the table. These types are for the proofs alone.
+//! What a seat learns from each step on the table. These types are for proofs only.
 ghost use Rattle.mc_store.specs.Steps.{has_looked, has_tried, has_put_back, taken_in, gave, newcomer};
 ghost use Rattle.mc_store.specs.declared.store.view.View.TheVariants.{Spent};
 

@@ -9,18 +9,19 @@ use crate::store::view::View;
 use atomic_table::Seat;
 use mc_shard::Shard;
 
-/// What came of taking a shard.
+/// The result of trying to take a shard.
 #[derive(Drop)]
 pub(crate) enum Taking {
-    /// It is taken: the even word that it had.
+    /// It is taken. This is the even word that it had.
     Free { even: u64 },
-    /// Another pass has it: the word that was loaded, and the one that was found in its place.
+    /// Another pass has it. These are the word that was loaded, and the one that the exchange
+    /// found.
     Held { loaded: u64, found: u64 },
 }
 
 impl StoreTable {
-    // A load of the shard's word and, if it was even, an exchange, which takes the shard if it finds the
-    // same word. The pass is that of this connection.
+    // Loads the shard's word and, if it was even, makes an exchange, which takes the shard if it
+    // finds the same word. The pass is that of this connection.
     #[inline(always)]
     pub(crate) fn take(&self, seat: &mut Seat<Shard, View>, conn: u32, shard: u32) -> Taking
         requires table { seat.old.table_id ≡ self.now.id }

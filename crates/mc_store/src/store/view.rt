@@ -1,4 +1,4 @@
-//! What a seat of the table knows. No value of these types is made: they are for the proofs alone.
+//! What a seat of the table knows. No value of these types is made: they are for proofs only.
 use atomic_table::TableRule;
 use mc_calls::Entry;
 use mc_shard::Shard;
