@@ -28,7 +28,7 @@ pub record Piece : Type 0 where
   pub text : List ℕ
   pub rest : List ℕ
 
--- the line, its line feed and the bytes that belong to its frame, if all of them have come
+-- a line, its line feed and the bytes that belong to its frame, if all of them have come
 abbrev pub piece_with : List ℕ → Option ℕ → List ℕ → Option Piece
 piece_with line None after = None
 piece_with line (Some tail) after = if nat_le tail (length after)
@@ -60,8 +60,8 @@ abbrev pub cut_within : ℕ → List ℕ → Cut
 cut_within zero stream = record { pieces = []; rest = stream }
 cut_within (suc count) stream = cut_after (cut_within count) stream (first_piece stream)
 
--- frame texts are cut off while the stream begins with one: each takes a byte, so no more than the
--- stream has bytes
+-- frame texts are cut off while the stream begins with one; each has a byte, so there are at most
+-- as many as bytes
 unfoldable pub cut_of : List ℕ → Cut
 cut_of stream = cut_within (length stream) stream
 
@@ -75,7 +75,7 @@ frames_of stream = map frame_of (cut_of stream).pieces
 abbrev pub commands_of : List ℕ → List Command
 commands_of stream = map command_of (frames_of stream)
 
--- whether the line has ended and has no frame, as a quit line alone
+-- whether the line has ended and has no frame, as only a quit line has none
 abbrev pub quits_in : Option Ended → Bool
 quits_in None = false
 quits_in (Some ended) = is_none (tail_length ended.line)

@@ -24,12 +24,12 @@ tail_by Needs.Nothing = Some 0
 tail_by (Needs.Block bytes) = Some (bytes + 2)
 tail_by Needs.Quit = None
 
--- how many bytes after its line feed belong to a line's frame: none to that of a line that is too
--- long, and a quit line has no frame
+-- how many bytes after its line feed belong to a line's frame; none if the line is too long; a quit
+-- line has no frame
 abbrev pub tail_length : List ℕ → Option ℕ
 tail_length line = if nat_lt line_limit (length line) then Some 0 else tail_by (need (chomped line))
 
--- a first line, its line feed, and after it exactly the bytes that belong to the line's frame
+-- a line, its line feed, and then exactly the bytes that belong to the line's frame
 abbrev pub IsFrameText : List ℕ → Type 0
 IsFrameText text =
     MatchOption (first_line text) ⊥ (λ ended. tail_length ended.line ≡ Some (length ended.after))
@@ -65,7 +65,7 @@ pub record IsFrame (kind : FrameKind) : Type 0 where
   pub is_text : IsFrameText text
   pub of_text : kind ≡ frame_of text
 
--- this was read of the line of a frame, if the frame has its line and any block of it
+-- this was read of the line of a frame; nothing is said of a frame without its line or its block
 abbrev pub IsParsedIn : FrameKind → Parsed → Type 0
 IsParsedIn (Line line) parsed = IsParsed line parsed
 IsParsedIn (Block line block) parsed = IsParsed line parsed

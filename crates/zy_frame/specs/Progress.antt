@@ -31,7 +31,7 @@ pub data Progress : Type 0 where
   in_large_block : Awaited → Progress
   -- what follows a quit line
   behind_quit : Progress
-  -- what follows after a refused allocation
+  -- what follows after a failed allocation
   without_memory : Progress
 
 -- the line takes a block of this size, of which some bytes are still to come
@@ -52,7 +52,7 @@ pub record IsLargeBlock (awaited : Awaited) : Type 0 where
   pub awaits : IsAwaited awaited
   pub large : value_limit < awaited.size
 
--- what is true of each framer
+-- what holds of each framer
 abbrev pub Keeps : Progress → Type 0
 Keeps (in_line kept) = IsShort kept
 Keeps (in_block awaited block) = IsKeptBlock awaited block
@@ -75,7 +75,7 @@ is_quit progress = false
 abbrev pub IsQuit : Progress → Type 0
 IsQuit framer = framer ≡ behind_quit
 
--- an allocation was refused
+-- an allocation failed
 abbrev pub IsRefused : Progress → Type 0
 IsRefused framer = framer ≡ without_memory
 
@@ -94,18 +94,18 @@ outcome_of stream = record { frames = frames_of stream; quit = meets_quit stream
 abbrev pub no_outcome : Outcome
 no_outcome = record { frames = []; quit = false }
 
--- frames come before
+-- an outcome with these frames before its own
 abbrev pub with_frames : List FrameKind → Outcome → Outcome
 with_frames frames outcome = record { frames = frames ++ outcome.frames; quit = outcome.quit }
 
 -- ---- what a framer gives for the bytes that follow
 
--- in a line that is too long, by where its line feed comes
+-- what a framer gives in a line that is too long, by where its line feed comes
 abbrev pub ends_long : Option Ended → Outcome
 ends_long None = no_outcome
 ends_long (Some ended) = with_frames (Kinds.Long ∷ []) (outcome_of ended.after)
 
--- in a frame that lacks `left` bytes
+-- what a framer gives in a frame that lacks `left` bytes
 abbrev pub ends_frame : ℕ → (List ℕ → FrameKind) → List ℕ → Outcome
 ends_frame left kind bytes = if nat_lt (length bytes) left
     then no_outcome

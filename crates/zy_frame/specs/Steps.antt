@@ -31,7 +31,7 @@ progress_of (Large wanted) = in_large_block (awaited wanted)
 progress_of Quit = behind_quit
 progress_of Refused = without_memory
 
--- at the start of the block of a storage line
+-- the state at the start of the block of a storage line
 abbrev pub waiting : List ℕ → ℕ → State
 waiting line size = let wanted : Wanted = record { line = line; size = size; left = size + 2 } in
     if nat_lt value_limit size then Large wanted else Block wanted []

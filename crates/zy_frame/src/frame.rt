@@ -27,7 +27,7 @@ impl Model for Frame {
 }
 
 impl Frame {
-    /// The same frame.
+    /// Copies the frame.
     pub fn copy(&self) -> Result<Frame, NoMemory>
         ensures value { IfOk result (λ copy. copy ≡ self.now) }
     {

@@ -8,7 +8,8 @@ use mc_parse::{Command, ErrorLine, parse_large, parse_read_block, parse_read_in}
 use std::alloc::Global;
 use zy_base::{Blob, NoMemory};
 
-/// The command of a frame. A block is moved and not copied. If allocation fails, the frame is handed back.
+/// Returns the command of a frame. A block is moved. If allocation fails, the frame
+/// is handed back.
 pub fn meaning(alloc: Global, frame: Frame) -> Result<Command, (Frame, NoMemory)>
     ensures value { IfOk result (λ command. command ≡ command_of frame) }
     ensures returned { IfErr result (λ e. e.0 ≡ frame) }
@@ -19,7 +20,7 @@ pub fn meaning(alloc: Global, frame: Frame) -> Result<Command, (Frame, NoMemory)
     command
 }
 
-/// The same; a retrieval takes this room for the list of its keys.
+/// Returns the same command as `meaning`; a retrieval takes this room for the list of its keys.
 pub fn meaning_in(
     alloc: Global,
     frame: Frame,

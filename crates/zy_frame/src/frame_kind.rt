@@ -18,7 +18,7 @@ pub enum FrameKind {
 }
 
 impl FrameKind {
-    // The same kind.
+    // Copies the kind.
     pub(crate) fn copy(&self) -> Result<FrameKind, NoMemory>
         ensures value { IfOk result (λ copy. copy ≡ self.now) }
     {

@@ -35,7 +35,7 @@ impl Model for Framer {
 }
 
 impl Framer {
-    /// At the start of a stream. Takes no memory.
+    /// Begins at the start of a stream. Takes no memory.
     pub fn new(alloc: Global) -> Framer
         ensures empty { StandsFor result [] }
         ensures kept { kept_by result ≡ 0 }
@@ -50,9 +50,9 @@ impl Framer {
     }
 
     /// Takes the next piece of the stream, and appends the frames by which the stream has grown.
-    /// May answer `NoMemory`. Then the first of those frames were appended, and every later call
-    /// answers `NoMemory` too and appends nothing.
-    /// The bytes of frames that lie whole in the piece share its bytes, if it shares them.
+    /// May answer `NoMemory`. Then some of those frames were appended, the first ones, and every
+    /// later call answers `NoMemory` too and appends nothing. Frames that are whole in the piece
+    /// share its bytes, if the piece shares them.
     pub fn feed(&mut self, piece: &Blob, frames: &mut Frames) -> Result<(), NoMemory>
         // For every stream that may have brought the framer here.
         ensures fed { OnOk result ((fed : List ℕ) → StandsFor self.old fed
@@ -65,7 +65,7 @@ impl Framer {
         ensures lasts { IsQuit self.old → IsQuit self.new }
         ensures none { IsQuit self.old → frames.new ≡ frames.old }
 
-        // At a refused allocation, and after it.
+        // If an allocation fails, and after that.
         ensures first { OnErr result ((fed : List ℕ) → StandsFor self.old fed
             → AppendsFirst fed piece.now frames.old frames.new) }
         ensures refused { OnErr result (IsRefused self.new) }
@@ -87,7 +87,8 @@ impl Framer {
         Ok(())
     }
 
-    // Takes some bytes of a piece from a place on, at least one. If allocation fails, every later call is refused.
+    // Takes some bytes of a piece from a place on, at least one. If allocation fails, every later
+    // call fails too.
     fn advance(&mut self, piece: &Blob, at: usize, frames: &mut Frames) -> Result<usize, NoMemory>
         requires some { at < length piece.now }
         ensures value { Advances self.old self.new frames.old frames.new (drop at piece.now) result }
@@ -109,7 +110,7 @@ impl Framer {
         }
     }
 
-    /// Whether a quit line was met: then no further frame comes.
+    /// Checks whether a quit line was met: then no other frame comes.
     pub fn is_quit(&self) -> bool
         ensures value { result ≡ is_quit self.now }
         ensures exact { (fed : List ℕ) → StandsFor self.now fed → result ≡ meets_quit fed }
@@ -117,7 +118,7 @@ impl Framer {
         matches!(self.state, State::Quit)
     }
 
-    /// The number of bytes that are kept: at most 1,114,114, whatever was fed.
+    /// Returns the number of bytes that are kept: at most 1,114,114, whatever was fed.
     pub fn kept(&self) -> usize
         ensures value { result ≡ kept_by self.now }
         ensures limit { result ≤ 1114114 }

@@ -7,10 +7,10 @@ use crate::frame_kind::FrameKind;
 use mc_parse::Parsed;
 use zy_base::{NoMemory, Queue};
 
-/// A queue of frames. Contracts see it as the list of its frames, the first one to come first.
+/// A queue of frames. Contracts see it as the list of its frames, first come, first.
 pub type Frames = Queue<Frame>;
 
-// Puts a frame at the end of whose line this was read; if allocation fails, nothing has changed.
+// Appends a frame, with what was read of its line. If allocation fails, nothing has changed.
 #[inline(always)]
 pub(crate) fn append(frames: &mut Frames, kind: FrameKind, parsed: &Parsed) -> Result<(), NoMemory>
     requires frame { IsFrame kind }

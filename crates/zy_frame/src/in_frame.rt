@@ -1,4 +1,4 @@
-//! In blocks.
+//! Taking the bytes of blocks.
 ghost use Rattle.std.specs.Prelude.{◌≡◌, ◌<◌, ◌++◌, length, IfOk, OnOk, OnErr};
 ghost use Rattle.zy_base.specs.Rest.{IsRestOf};
 ghost use Rattle.zy_frame.specs.declared.state.State.TheVariants.{Block, Large};
@@ -20,7 +20,7 @@ use zy_base::{Blob, NoMemory};
 // The most room that is taken for a block before its bytes have come.
 const BLOCK_ROOM: usize = 1_024;
 
-// Takes bytes of a block, with which a piece ends. Its frame is appended once none is still to come.
+// Takes bytes of a block from the end of a piece. Its frame is appended once no byte is missing.
 pub(crate) fn take_block(
     alloc: Global,
     wanted: &mut Wanted,
@@ -53,8 +53,8 @@ pub(crate) fn take_block(
     Ok(left)
 }
 
-// Bytes of a block have come, of which `left` were still to come. The first take room for the others, or
-// for some of them if a client announces many.
+// Appends bytes of a block, of which `left` were still to come. The first ones take room for the
+// others, or for some of them if a client announces many.
 pub(crate) fn grow_block(block: &mut Blob, left: usize, bytes: &[u8]) -> Result<(), NoMemory>
     ensures ok { OnOk result (block.new ≡ block.old ++ bytes.now) }
     ensures err { OnErr result (block.new ≡ block.old) }

@@ -1,4 +1,4 @@
-//! In a line.
+//! Taking the bytes of lines.
 ghost use Rattle.std.specs.Prelude.{◌≡◌, ◌<◌, ◌≤◌, ◌++◌, None, [], length, take, IfOk, OnErr};
 ghost use Rattle.zy_base.specs.Rest.{IsRestOf};
 ghost use Rattle.zy_frame.specs.declared.state.State.TheVariants.{Line};
@@ -14,7 +14,8 @@ use std::alloc::Global;
 use std::mem;
 use zy_base::{Blob, LINE_LIMIT, NoMemory};
 
-// The line goes on after these bytes. Returns whether it is too long: then they are not kept.
+// Appends bytes of a line that goes on after them. Returns whether it is too long: then they are
+// not kept.
 pub(crate) fn grow_line(kept: &mut Blob, bytes: &[u8]) -> Result<bool, NoMemory>
     requires short { IsShort kept.old }
     requires some { 0 < length bytes.now }
@@ -29,8 +30,8 @@ pub(crate) fn grow_line(kept: &mut Blob, bytes: &[u8]) -> Result<bool, NoMemory>
     Ok(false)
 }
 
-// The line ends at this place of the bytes with which a piece ends, where its line feed is. Returns what it needs; if
-// that is nothing, its frame is appended.
+// Ends the line at this place, where its line feed is, of the bytes that end a piece. Returns what
+// the line needs; if that is nothing, its frame is appended.
 pub(crate) fn end_line(
     alloc: Global,
     kept: &mut Blob,
@@ -58,7 +59,7 @@ pub(crate) fn end_line(
     close_line(alloc, kept, parsed, frames)
 }
 
-// The same for all bytes of a line that is not too long.
+// Ends a line, which is not too long, with all of its bytes.
 fn close_line(
     alloc: Global,
     kept: &mut Blob,

@@ -4,8 +4,8 @@ ghost use Rattle.zy_base.specs.Rest.{IsRestOf};
 
 use zy_base::{Blob, NoMemory};
 
-// Appends the first `len` of the bytes with which a piece ends. They share the piece's bytes, if no others come
-// before them and the piece shares its bytes.
+// Appends the first `len` of the bytes that end a piece. They share the piece's bytes, if nothing
+// was kept before and the piece shares its bytes.
 #[tactic(auto, using(zy_base::proofs::RestLemmas::rest_length, zy_base::proofs::RestLemmas::rest_first))]
 pub(crate) fn keep(kept: &mut Blob, piece: &Blob, bytes: &[u8], len: usize) -> Result<(), NoMemory>
     requires within { len ≤ length bytes.now }

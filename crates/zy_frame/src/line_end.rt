@@ -5,7 +5,7 @@ ghost use Rattle.zy_frame.specs.Line.{first_line, chomped};
 use memchr::memchr;
 use zy_base::Blob;
 
-// The place of the first line feed.
+// Returns the place of the first line feed.
 pub(crate) fn line_end(bytes: &[u8]) -> Option<usize>
     ensures value { MatchOption result (first_line bytes.now ≡ None) (λ at. (at < length bytes.now)
         × (first_line bytes.now ≡ Some (record { line = take at bytes.now; after = drop (at + 1) bytes.now }))) }
@@ -13,7 +13,7 @@ pub(crate) fn line_end(bytes: &[u8]) -> Option<usize>
     memchr(b'\n', bytes)
 }
 
-// The line without one carriage return at its end.
+// Returns the line without one carriage return at its end.
 pub(crate) fn chomp(line: &[u8]) -> &[u8]
     ensures value { result.now ≡ chomped line.now }
 {
@@ -27,7 +27,7 @@ pub(crate) fn chomp(line: &[u8]) -> &[u8]
     &line[..last]
 }
 
-// The same for a line that is moved. Takes no memory.
+// Returns such a line, which is moved. Takes no memory.
 pub(crate) fn chomp_kept(mut line: Blob) -> Blob
     ensures value { result ≡ chomped line }
 {

@@ -23,7 +23,7 @@ pub(crate) enum State {
     Large { wanted: Wanted },
     // What follows a quit line.
     Quit,
-    // What follows after a refused allocation.
+    // What follows after a failed allocation.
     Refused,
 }
 
@@ -46,7 +46,8 @@ pub(crate) fn begin_line(alloc: Global, state: &mut State)
     );
 }
 
-// A line has ended that needs this: what follows it is a line, what comes after quit, or its block.
+// Goes on after a line with this need: with the next line, with what comes after quit, or with its
+// block.
 pub(crate) fn take_line(alloc: Global, state: &mut State, need: Need)
     ensures value { state.new ≡ after_line need state.old }
 {
@@ -62,7 +63,7 @@ pub(crate) fn take_line(alloc: Global, state: &mut State, need: Need)
     }
 }
 
-// A storage line has ended.
+// Makes the state after a storage line.
 fn wait_for_block(alloc: Global, line: Blob, size: u32) -> State
     ensures value { result ≡ waiting line size }
 {
@@ -80,7 +81,7 @@ fn wait_for_block(alloc: Global, line: Blob, size: u32) -> State
     }
 }
 
-// Begins a line where a block has come whole.
+// Begins a line, if the block has come whole.
 pub(crate) fn end_block(alloc: Global, state: &mut State)
     ensures value { state.new ≡ after_block state.old }
 {

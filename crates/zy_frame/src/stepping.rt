@@ -14,8 +14,8 @@ use mc_parse::Parsed;
 use std::alloc::Global;
 use zy_base::{Blob, NoMemory};
 
-// Takes some first bytes of those with which a piece ends, at least one, and appends the frame that they end. If
-// allocation fails, the state may be any.
+// Takes some of the bytes that end a piece, at least the first one, and appends the frame that they
+// end. If allocation fails, the state may be any.
 pub(crate) fn step(
     alloc: Global,
     state: &mut State,
