@@ -19,7 +19,7 @@ shards_in (e ∷ es) = max (e.shard + 1) (shards_in es)
 abbrev pub counts_by_shard : List Entry → List Tallied
 counts_by_shard es = map (λ shard. counted (at_shard shard es)) (range_with_len 0 (shards_in es))
 
--- no count is other than 0
+-- all counts are 0
 abbrev pub counts_nothing : Tallied → Bool
 counts_nothing counts =
     (counts.gets == 0) && (counts.sets == 0) && (counts.hits == 0) && (counts.misses == 0) && (counts.items == 0)
@@ -36,11 +36,11 @@ sums counts = record {
 
 -- ---- lines
 
--- a text at the right of this many places; a longer one takes more
+-- a text after spaces that fill up this many places; a longer text takes more
 abbrev pub right : ℕ → List ℕ → List ℕ
 right places text = replicate (places - length text) 32 ++ text
 
--- a number at the right of 12 places
+-- a number, after spaces that fill up 12 places
 abbrev pub count_text : ℕ → List ℕ
 count_text number = right 12 (decimal number)
 

@@ -1,4 +1,4 @@
--- Of which entries of a shard some counts are. No public clause cites this module.
+-- The entries of a shard that counts belong to. No public clause cites this module.
 use Rattle.std.specs.Prelude.{◌≡◌, ℕ, ◌-◌, ◌^◌, ◌<◌, List, [], length, get_or, count_by}
 use Rattle.std.specs.List.{list_any}
 use Rattle.std.specs.Ordering.{nat_cmp}
@@ -23,7 +23,7 @@ calls_kept kept = record {
   misses = kept.calls.misses;
 }
 
--- those of these entries
+-- the counts of calls of these entries
 abbrev pub calls_counted : List Entry → CallCounts
 calls_counted es = record {
   gets = count_by (λ (e : Entry). is_get e.call) es;
@@ -55,7 +55,7 @@ pub record CanCount (kept : Counting) : Type 0 where
 abbrev pub none_kept : Counting
 none_kept = record { calls = no_counts; keys = [] }
 
--- what is kept of a shard; of one past the last nothing is counted
+-- what is kept of a shard; nothing is counted of one past the last
 abbrev pub kept_at : List Counting → ℕ → Counting
 kept_at kept shard = get_or kept shard none_kept
 

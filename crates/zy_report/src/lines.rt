@@ -29,7 +29,7 @@ fn append_count(text: &mut Blob, count: u64) -> Result<(), NoMemory>
     append_right(text, 12, buffer.format(count).as_bytes())
 }
 
-// Appends some bytes at the right of this many places.
+// Appends some bytes, after spaces that fill up this many places.
 fn append_right(text: &mut Blob, places: usize, bytes: &[u8]) -> Result<(), NoMemory>
     requires few { places ≤ 12 }
     ensures ok { OnOk result (text.new ≡ text.old ++ right places bytes.now) }

@@ -8,8 +8,8 @@ use std::alloc::Global;
 use zy_base::{Blob, NoMemory};
 use zy_journal::Journal;
 
-/// The table of what the entries of a journal count: a line for each shard of which a count is not 0,
-/// by rising shard, and then a line of the sums.
+/// Returns the table of what the entries of a journal count: a line for each shard of which a count
+/// is not 0, by rising shard, and then a line of the sums.
 pub fn report(alloc: Global, journal: &Journal) -> Result<Blob, NoMemory>
     ensures value { IfOk result (λ text. text ≡ report_of journal.now.entries) }
 {

@@ -8,7 +8,7 @@ use mc_calls::Tallied;
 use std::alloc::Global;
 use zy_base::{Blob, NoMemory};
 
-/// The lines of all shards, from shard 0 on, and the line of their sums.
+/// Returns the lines of all shards, from shard 0 on, and the line of their sums.
 pub(crate) fn table(alloc: Global, counts: &[Tallied]) -> Result<Blob, NoMemory>
     ensures value { IfOk result (λ text. text ≡ table counts.now) }
 {
@@ -55,7 +55,7 @@ fn append_shard(text: &mut Blob, shard: u64, counts: Tallied) -> Result<(), NoMe
     append_line(text, buffer.format(shard).as_bytes(), counts)
 }
 
-// No count is other than 0.
+// Checks whether all counts are 0.
 fn counts_nothing(counts: Tallied) -> bool
     ensures value { result ≡ counts_nothing counts }
 {
@@ -66,7 +66,7 @@ fn counts_nothing(counts: Tallied) -> bool
         && counts.items == 0
 }
 
-// The sums; `None` if one of them does not fit in 64 bits.
+// Returns the sums; `None` if one of them does not fit in 64 bits.
 fn sums(counts: &[Tallied]) -> Option<Tallied>
     ensures value { IfSome result (λ all. all ≡ sums counts.now) }
 {
@@ -86,7 +86,7 @@ fn sums(counts: &[Tallied]) -> Option<Tallied>
     Some(all)
 }
 
-// The sums of two.
+// Adds the counts of two shards.
 fn sum(one: Tallied, other: Tallied) -> Option<Tallied>
     ensures value { IfSome result (λ both. both ≡ record {
       gets = one.gets + other.gets;

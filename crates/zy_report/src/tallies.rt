@@ -10,7 +10,7 @@ use std::alloc::Global;
 use zy_base::NoMemory;
 use zy_journal::{Journal, Walk};
 
-/// What is counted of each shard, from shard 0 up to the last one that an entry names.
+/// Returns what is counted of each shard, from shard 0 up to the last one that an entry names.
 pub(crate) fn counts_by_shard(alloc: Global, journal: &Journal) -> Result<Vec<Tallied>, NoMemory>
     ensures value { IfOk result (λ counts. counts.items ≡ counts_by_shard journal.now.entries) }
 {
@@ -20,7 +20,7 @@ pub(crate) fn counts_by_shard(alloc: Global, journal: &Journal) -> Result<Vec<Ta
     counts
 }
 
-// The tallies of all shards.
+// Returns the tallies of all shards.
 fn tallies_of<'j>(alloc: Global, journal: &'j Journal) -> Result<Vec<Tally<'j>>, NoMemory>
     ensures value { IfOk result (λ tallies. CountsAll tallies.items journal.now.entries) }
 {
@@ -81,7 +81,7 @@ fn make_up_to<'j>(alloc: Global, tallies: &mut Vec<Tally<'j>>, shard: usize) -> 
     Ok(())
 }
 
-// The counts of the tallies.
+// Returns the counts of the tallies.
 fn counts_of(alloc: Global, tallies: &[Tally<'_>]) -> Result<Vec<Tallied>, NoMemory>
     ensures value { IfOk result (λ counts. (es : List Entry) → CountsAll tallies.now es
         → counts.items ≡ counts_by_shard es) }

@@ -17,7 +17,7 @@ use zy_base::{Blob, NoMemory};
 #[derive(Drop)]
 pub(crate) struct Tally<'j> {
     calls: Counts,
-    // Taken from the entries, and not copied.
+    // Borrowed from the entries.
     keys: BTreeSet<&'j Blob>,
 }
 
@@ -31,7 +31,7 @@ impl<'j> Model for Tally<'j> {
 }
 
 impl<'j> Tally<'j> {
-    /// No entry is counted. Takes no memory.
+    /// Begins with no entry counted. Takes no memory.
     pub(crate) fn new(alloc: Global) -> Tally<'j>
         ensures value { result ≡ none_kept }
     {
@@ -120,7 +120,7 @@ impl<'j> Tally<'j> {
         self.keys.remove(&key);
     }
 
-    /// The counts.
+    /// Returns the counts.
     pub(crate) fn counted(&self) -> Tallied
         ensures value { (es : List Entry) → CountsEntries self.now es → result ≡ counted es }
     {
