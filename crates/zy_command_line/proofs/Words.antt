@@ -1,4 +1,4 @@
--- A word is an option exactly where the parser takes it for one, with the same name and value.
+-- A word is an option if and only if the parser takes it for one, with the same name and value.
 use Rattle.std.proofs.Common.{◌≡◌, ◌==◌, ◌+◌, ℕ, suc, arith, [], ◌∷◌, take, drop, refl, sym, ◌∙◌, ap, Bool, true, false}
 use Rattle.std.specs.Prelude.{Option, Some, None, ◌&&◌, if◌then◌else◌, option_and_then}
 use Rattle.std.specs.List.{position_or_len}

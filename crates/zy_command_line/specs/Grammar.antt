@@ -1,4 +1,4 @@
--- The words after a command's name: which options they spell.
+-- The words after a command's name, as options.
 use Rattle.std.specs.Prelude.{ℕ, Bool, true, false, ◌&&◌, ◌||◌, ◌==◌, not, nat_lt, List, [], ◌∷◌, Option, None, Some}
 use Rattle.std.specs.Prelude.{is_some, if◌then◌else◌, option_map, option_and_then}
 use Rattle.std.specs.Str.{bytes_eq}
@@ -8,7 +8,7 @@ use Rattle.std.specs.List.{list_any, list_all}
 abbrev pub Word : Type 0
 Word = List ℕ
 
--- the options that words spell, each with its value
+-- options, each with its value
 abbrev pub Options : Type 0
 Options = List (Word × Word)
 
@@ -64,7 +64,7 @@ abbrev pub option_then : Word → Option Word → Option Options → Option Opti
 option_then name (Some value) others waiting = with_first name value others
 option_then name None others waiting = waiting
 
--- the options that the words spell, where these names are allowed, these were used, and this one
+-- the options that the words spell, if these names are allowed, these were used, and this one
 -- waits for its value
 unfoldable pub options_from : List Word → List Word → Option Word → List Word → Option Options
 options_from names used None [] = Some []

@@ -1,4 +1,4 @@
--- What lawful words ask for: a command, and the values of its options, if they are in their ranges.
+-- What valid words ask for: a command, and the values of its options, which are in their ranges.
 use Rattle.std.specs.Prelude.{ℕ, ◌&&◌, ◌==◌, ◌*◌, nat_le, min, List, [], ◌∷◌, length, codes, Option, None, Some}
 use Rattle.std.specs.Prelude.{if◌then◌else◌, option_and_then, option_map}
 use Rattle.std.specs.Str.{bytes_eq}
@@ -38,12 +38,12 @@ cores_of options = number_or 1 64 4 (value_of (codes "cores") options)
 abbrev pub threads_of : ℕ → Options → Option ℕ
 threads_of cores options = option_map (min cores) (number_or 1 64 cores (value_of (codes "threads") options))
 
--- the order of turns is drawn by a number, which only one thread can follow
+-- the order of turns is generated from a number, and only one thread can follow it
 abbrev pub order_by : ℕ → Option ℕ → Option (Option ℕ)
 order_by threads None = None
 order_by threads (Some number) = if threads == 1 then Some (Some number) else None
 
--- the number that draws the order of turns, if one is given
+-- the number from which the order of turns is generated, if one is given
 abbrev pub order_from : ℕ → Option Word → Option (Option ℕ)
 order_from threads None = Some None
 order_from threads (Some word) = order_by threads (number_in 0 4294967295 word)
@@ -55,7 +55,8 @@ order_of threads options = order_from threads (value_of (codes "order") options)
 abbrev pub shards_of : Options → Option ℕ
 shards_of options = number_or 1 256 16 (value_of (codes "shards") options)
 
--- the turns in a row without work after which an idle core rests, 0 to 1,000,000; with 0 none rests
+-- the number of turns in a row without work after which a core rests, 0 to 1,000,000; with 0 none
+-- rests
 abbrev pub idle_turns_of : Options → Option ℕ
 idle_turns_of options = number_or 0 1000000 0 (value_of (codes "rest") options)
 
@@ -113,7 +114,7 @@ traffic_of options = option_and_then (λ number. option_and_then (λ conns. opti
 
 -- ---- commands
 
--- the command that a word names, of those that read recorded packets or a journal
+-- the command that a word names, among those that read recorded packets or a journal
 abbrev pub reader_named : Word → Option Verb
 reader_named word = if bytes_eq word (codes "pcap") then Some Verbs.Pcap
     else (if bytes_eq word (codes "report") then Some Verbs.Report else None)
@@ -153,7 +154,7 @@ asked_by Verbs.SelfTest options = self_by options
 asked_by Verbs.Pcap options = option_map Requests.Pcap (port_of options)
 asked_by Verbs.Report options = Some Requests.Report
 
--- what a command asks for with the options that the words after it spell
+-- what a command asks for with the options in the words after it
 abbrev pub asked_with : List Word → Verb → Option Request
 asked_with words verb = option_and_then (asked_by verb) (options_of (names_of verb) words)
 
@@ -162,7 +163,7 @@ abbrev pub shards_asked : List Word → Option ℕ
 shards_asked words = option_and_then shards_of (options_of (names_of Verbs.Check) words)
 
 -- what the words ask for: the first is the command, the others are its options; `None` if they are
--- not lawful
+-- not valid
 abbrev pub request_of : List Word → Option Request
 request_of [] = None
 request_of (word ∷ words) = option_and_then (asked_with words) (verb_named word)

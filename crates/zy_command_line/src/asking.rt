@@ -14,7 +14,7 @@ use clap::ArgMatches;
 use std::alloc::Global;
 use zy_base::{Blob, NoMemory};
 
-/// What the words after the program's name ask for; `None` if they are not lawful.
+/// Returns what the words after the program's name ask for; `None` if they are not valid.
 pub fn request_of(alloc: Global, words: &[Blob]) -> Result<Option<Request>, NoMemory>
     ensures value { IfOk result (λ request. request ≡ request_of words.now) }
 {
@@ -27,7 +27,8 @@ pub fn request_of(alloc: Global, words: &[Blob]) -> Result<Option<Request>, NoMe
     }
 }
 
-/// The number of shards that the words ask for, if they are the options of a check; `None` if they are not.
+/// Returns the number of shards that the words ask for, if they are the options of a check; `None`
+/// if they are not.
 pub fn shards_asked(alloc: Global, words: &[Blob]) -> Result<Option<u32>, NoMemory>
     ensures value { IfOk result (λ shards. shards ≡ shards_asked words.now) }
 {
@@ -37,7 +38,7 @@ pub fn shards_asked(alloc: Global, words: &[Blob]) -> Result<Option<u32>, NoMemo
     }
 }
 
-// What a command asks for with the options that the words spell.
+// Returns what a command asks for with the options in the words.
 fn asked_with(alloc: Global, words: &[Blob], verb: Verb) -> Result<Option<Request>, NoMemory>
     ensures value { IfOk result (λ request. request ≡ asked_with words.now verb) }
 {
@@ -50,7 +51,7 @@ fn asked_with(alloc: Global, words: &[Blob], verb: Verb) -> Result<Option<Reques
     }
 }
 
-// What a command with its options asks for.
+// Returns what a command with its options asks for.
 fn asked_by(verb: Verb, given: &ArgMatches<'_>) -> Option<Request>
     ensures value { (options : Options) → HasOptions options given.now → result ≡ asked_by verb options }
 {
@@ -89,7 +90,7 @@ fn self_by(given: &ArgMatches<'_>) -> Option<Request>
     Some(Request::SelfTest { traffic, run })
 }
 
-// The words as texts; `None` if one of them is not plain.
+// Returns the words as texts; `None` if one of them is not plain.
 #[tactic(auto, using(crate::proofs::Taken::joined_more, crate::proofs::Taken::plain_more, crate::proofs::Taken::not_plain))]
 fn texts<'a>(alloc: Global, words: &'a [Blob]) -> Result<Option<Vec<&'a str>>, NoMemory>
     ensures some { IfOk result (λ o. MatchOption o (list_all is_plain words.now ≡ false)

@@ -12,14 +12,14 @@ use crate::splitting::value;
 use clap::ArgMatches;
 use zy_base::{CONNECTION_LIMIT, CORE_LIMIT, SHARD_LIMIT};
 
-/// The number of shards.
+/// Returns the number of shards.
 pub(crate) fn shards(given: &ArgMatches<'_>) -> Option<u32>
     ensures value { (options : Options) → HasOptions options given.now → result ≡ shards_of options }
 {
     number_or(1, SHARD_LIMIT, 16, value(given, "shards"))
 }
 
-/// The port.
+/// Returns the port.
 pub(crate) fn port(given: &ArgMatches<'_>) -> Option<u16>
     ensures value { (options : Options) → HasOptions options given.now → result ≡ port_of options }
 {
@@ -29,7 +29,7 @@ pub(crate) fn port(given: &ArgMatches<'_>) -> Option<u16>
     }
 }
 
-/// What is written.
+/// Returns what is written.
 pub(crate) fn out(given: &ArgMatches<'_>) -> Option<Out>
     ensures value { (options : Options) → HasOptions options given.now → result ≡ out_of options }
 {
@@ -47,7 +47,7 @@ fn out_from(word: Option<&str>) -> Option<Out>
     }
 }
 
-/// How a capture is served.
+/// Returns how a capture is served.
 pub(crate) fn run(given: &ArgMatches<'_>) -> Option<Run>
     ensures value { (options : Options) → HasOptions options given.now → result ≡ run_of options }
 {
@@ -86,7 +86,7 @@ fn order(given: &ArgMatches<'_>, threads: u32) -> Option<Option<u32>>
     order_from(threads, value(given, "order"))
 }
 
-// Only one thread can follow an order of turns.
+// Returns the number of an order of turns, which only one thread can follow.
 fn order_from(threads: u32, word: Option<&str>) -> Option<Option<u32>>
     ensures value { result ≡ order_from threads (option_map (λ s. s.now) word.entry) }
 {
@@ -105,7 +105,7 @@ fn rest(given: &ArgMatches<'_>) -> Option<u32>
     number_or(0, 1_000_000, 0, value(given, "rest"))
 }
 
-/// The traffic to make.
+/// Returns the traffic to make.
 pub(crate) fn traffic(given: &ArgMatches<'_>) -> Option<Traffic>
     ensures value { (options : Options) → HasOptions options given.now → result ≡ traffic_of options }
 {

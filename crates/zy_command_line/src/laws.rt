@@ -8,10 +8,9 @@ ghost use Rattle.zy_command_line.specs.declared.request.Out.{Out};
 ghost use Rattle.zy_command_line.specs.Request.{request_of, shards_asked};
 ghost use Rattle.zy_command_line.specs.declared.request.Request.TheVariants as Requests;
 
-/// A lawful run has 1 to 64 cores, 1 to as many threads, 1 to 256 shards, and rests after at most
-/// 1,000,000 idle turns; a check has 1 to 256
-/// shards; made traffic has 1 to 4,096 connections and at most 1,000,000 commands; a port is 1
-/// to 65,535.
+/// A valid run has 1 to 64 cores, at least one and at most that many threads, 1 to 256 shards, and
+/// rests after at most 1,000,000 idle turns; a check has 1 to 256 shards; made traffic has 1 to
+/// 4,096 connections and at most 1,000,000 commands; a port is 1 to 65,535.
 pub fn requests_are_in_their_ranges()
     ensures run { (words : List Word) (run : Run) (out : Out)
         → request_of words ≡ Some (Requests.Run run out) → IsRunnable run }

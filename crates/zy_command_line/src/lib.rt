@@ -1,4 +1,4 @@
-//! The words after the program's name: which are lawful, and what they ask for.
+//! The words after the program's name: which are valid, and what they ask for.
 #![tactic(auto)]
 
 mod asking;

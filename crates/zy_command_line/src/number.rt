@@ -4,7 +4,7 @@ ghost use Rattle.zy_command_line.specs.Request.{number_in, number_or};
 
 use zy_base::read_number;
 
-/// A number of at most ten digits, from `low` to `high`.
+/// Returns a number of at most ten digits, from `low` to `high`.
 pub(crate) fn number_in(low: u32, high: u32, word: &str) -> Option<u32>
     ensures value { result ≡ number_in low high word.now }
 {
@@ -17,7 +17,7 @@ pub(crate) fn number_in(low: u32, high: u32, word: &str) -> Option<u32>
     }
 }
 
-/// The number, or its default if the option is not given.
+/// Returns the number, or its default if the option is not given.
 pub(crate) fn number_or(low: u32, high: u32, default: u32, word: Option<&str>) -> Option<u32>
     ensures value { result ≡ number_or low high default (option_map (λ s. s.now) word.entry) }
 {

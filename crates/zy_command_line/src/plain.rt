@@ -4,7 +4,7 @@ ghost use Rattle.zy_command_line.specs.Grammar.{is_ascii, is_option, has_hyphen,
 
 use std::str;
 
-/// The word as text, if it is plain.
+/// Returns the word as text, if it is plain.
 #[tactic(auto, using(crate::proofs::Ascii::ascii_is_text))]
 pub(crate) fn plain_text(word: &[u8]) -> Option<&str>
     ensures value { MatchOption result (is_plain word.now ≡ false) (λ text. (text.now ≡ word.now)
@@ -37,7 +37,7 @@ fn is_ascii(word: &[u8]) -> bool
     true
 }
 
-// The word has a byte after two hyphens.
+// Checks whether the word has a byte after two hyphens.
 fn is_option(word: &[u8]) -> bool
     ensures value { result ≡ is_option word.now }
 {

@@ -1,4 +1,4 @@
-//! What lawful words ask for.
+//! What valid words ask for.
 
 /// What the words ask for: a command with its options.
 #[derive(Clone, Copy, PartialEq, Eq)]
@@ -24,11 +24,13 @@ pub struct Run {
     pub cores: u32,
     /// The number of threads, 1 to the number of cores.
     pub threads: u32,
-    /// The number that draws the order of turns; without it, cores take turns by their numbers.
+    /// The number from which the order of turns is generated; without it, cores take turns by their
+    /// numbers.
     pub order: Option<u32>,
     /// The number of shards, 1 to 256.
     pub shards: u32,
-    /// The turns in a row without work after which an idle core rests, 0 to 1,000,000; with 0 none rests.
+    /// The number of turns in a row without work after which a core rests, 0 to 1,000,000; with 0
+    /// none rests.
     pub rest: u32,
 }
 

@@ -1,4 +1,4 @@
-//! The words of options, split by `clap`.
+//! Splitting the words of options, by `clap`.
 ghost use Rattle.std.specs.Prelude.{◌≡◌, true, false, [], map, option_map, take, IfOk};
 ghost use Rattle.std.specs.List.{list_all};
 ghost use Rattle.clap.specs.Words.{app_of, rule_of};
@@ -10,7 +10,7 @@ use clap::{Arg, ArgAction, ArgMatches, Command};
 use std::alloc::Global;
 use zy_base::NoMemory;
 
-/// The options, with these names, that the words spell; `None` if they spell none.
+/// Splits the words into options with these names; `None` if they are not such options.
 pub(crate) fn split<'a>(
     alloc: Global,
     command: &'a str,
@@ -30,7 +30,7 @@ pub(crate) fn split<'a>(
     }
 }
 
-// A command with these options, each with one value.
+// Makes a command with these options, each with one value.
 fn command_with<'a>(
     alloc: Global,
     name: &'a str,
@@ -48,7 +48,7 @@ fn command_with<'a>(
     Ok(command)
 }
 
-// A command without options, that expects no word for its own name, and has none for help or a version.
+// Makes a command without options, even for help or a version. It expects no word for its own name.
 fn plain_command<'a>(alloc: Global, name: &'a str) -> Command<'a>
     ensures value { app_of result ≡ app_with name.now [] }
 {
@@ -58,7 +58,7 @@ fn plain_command<'a>(alloc: Global, name: &'a str) -> Command<'a>
         .disable_version_flag(true)
 }
 
-// An option with one value.
+// Makes an option with one value.
 fn option_with<'a>(alloc: Global, name: &'a str) -> Arg<'a>
     ensures value { rule_of result ≡ option_rule name.now }
     ensures local { result.global ≡ false }
@@ -66,7 +66,7 @@ fn option_with<'a>(alloc: Global, name: &'a str) -> Arg<'a>
     Arg::new(alloc, name).long(name).action(ArgAction::Set)
 }
 
-/// The value of an option, if it was given.
+/// Returns the value of an option, if it was given.
 #[tactic(auto, using(crate::proofs::Split::value_found))]
 pub(crate) fn value<'a>(matches: &ArgMatches<'a>, name: &str) -> Option<&'a str>
     ensures value { (options : Options) → HasOptions options matches.now

@@ -13,7 +13,7 @@ pub(crate) enum Verb {
     Report,
 }
 
-/// The command that a word names.
+/// Returns the command that a word names.
 pub(crate) fn verb_named(word: &[u8]) -> Option<Verb>
     ensures value { result ≡ verb_named word.now }
 {
@@ -26,7 +26,7 @@ pub(crate) fn verb_named(word: &[u8]) -> Option<Verb>
     }
 }
 
-// The command that a word names, of those that read recorded packets or a journal.
+// Returns the command that a word names, among those that read recorded packets or a journal.
 fn reader_named(word: &[u8]) -> Option<Verb>
     ensures value { result ≡ reader_named word.now }
 {
@@ -39,7 +39,7 @@ fn reader_named(word: &[u8]) -> Option<Verb>
     }
 }
 
-/// The names of the options that a command takes.
+/// Returns the names of the options that a command takes.
 pub(crate) fn names_of(verb: Verb) -> &'static [&'static str]
     ensures value { map (λ name. name.now) result.now ≡ names_of verb }
 {
