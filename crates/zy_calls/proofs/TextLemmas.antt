@@ -1,4 +1,4 @@
--- Texts one after another in one row of bytes: all of them joined, the first of them, and further ones.
+-- Texts one after another in one row of bytes: all of them joined, the first of them, and more of them.
 use Rattle.std.proofs.Common.{◌≡◌, ℕ, zero, suc, ◌+◌, ◌-◌, ◌<◌, ◌≤◌, List, [], ◌∷◌, ◌++◌, length, take, drop, get_or, refl, sym, ap, ◌∙◌, subst, arith, length-append}
 use Rattle.std.specs.List.{concat}
 use Rattle.std.proofs.lemmas.List.{append-nil, take-append-drop, take-append-le, drop-append-le, drop-drop, drop_all, take_all, length-drop}

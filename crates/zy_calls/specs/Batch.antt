@@ -1,4 +1,4 @@
--- The system calls of one hold.
+-- The texts that one hold sends.
 use Rattle.std.specs.Prelude.{ℕ, List, [], ◌∷◌, ◌++◌}
 
 -- the texts to send, in order, and the number of finished commands of the connection
@@ -6,14 +6,14 @@ pub record Batch : Type 0 where
   pub texts : List (List ℕ)
   pub finished : ℕ
 
--- no text yet
+-- a batch without a text
 abbrev pub no_text : ℕ → Batch
 no_text finished = record { texts = []; finished = finished }
 
--- with one further text
+-- the batch with one more text
 abbrev pub with_text : Batch → List ℕ → Batch
 with_text batch text = record { texts = batch.texts ++ text ∷ []; finished = batch.finished }
 
--- with another number of finished commands
+-- the batch with another number of finished commands
 abbrev pub with_finished : Batch → ℕ → Batch
 with_finished batch finished = record { texts = batch.texts; finished = finished }

@@ -1,4 +1,4 @@
--- The output of a connection: the texts of the batches that were carried out.
+-- The output of a connection: the texts of all its batches.
 use Rattle.std.specs.Prelude.{ℕ, List, [], ◌++◌, take}
 use Rattle.std.specs.List.{concat}
 use Rattle.zy_calls.specs.Batch.{Batch}

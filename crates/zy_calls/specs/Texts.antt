@@ -12,10 +12,10 @@ abbrev pub Rise : ℕ → List ℕ → ℕ → Type 0
 Rise start [] last = start ≡ last
 Rise start (end ∷ ends) last = (start ≤ end) × Rise end ends last
 
--- the places, each greater by `count`
+-- the places, each increased by `count`
 abbrev pub further : ℕ → List ℕ → List ℕ
 further count ends = map (λ end. count + end) ends
 
--- each place, greater by `count`, fits in 64 bits
+-- each place, increased by `count`, fits in 64 bits
 abbrev pub AreWithin : ℕ → List ℕ → Type 0
 AreWithin count ends = (at : ℕ) → at < length ends → count + get_or ends at 0 < 2 ^ 64

@@ -26,7 +26,7 @@ impl Model for Batch {
 }
 
 impl Batch {
-    /// A batch without a text. Takes no memory.
+    /// Makes a batch without a text. Takes no memory.
     pub fn new(alloc: Global, finished: u64) -> Batch
         ensures value { result ≡ no_text finished }
     {
@@ -36,7 +36,7 @@ impl Batch {
         }
     }
 
-    /// Appends a text; after a refusal it is handed back.
+    /// Appends a text; if allocation fails it is handed back.
     pub fn send(&mut self, text: Blob) -> Result<(), (Blob, NoMemory)>
         ensures ok { OnOk result (self.new ≡ with_text self.old text) }
         ensures err { OnErr result (self.new ≡ self.old) }
@@ -59,7 +59,7 @@ impl Batch {
         self.texts.push(text)
     }
 
-    /// Appends the text that is written, which is not copied.
+    /// Appends the text that a writer writes, without a copy.
     pub fn send_by<W: Writes>(&mut self, writer: &W) -> Result<(), NoMemory>
         requires ready { W.ready writer.now }
         ensures ok { OnOk result (self.new ≡ with_text self.old (W.text writer.now)) }
@@ -83,7 +83,7 @@ impl Batch {
         self.texts.take_room(&mut room.texts);
     }
 
-    /// Gives its room back, if it has no text and there is none yet.
+    /// Gives its room back, if it has no text and `room` is empty.
     pub fn give_room(&mut self, room: &mut Room)
         ensures same { self.new ≡ self.old }
         ensures room { room.new ≡ room.old }
@@ -91,14 +91,14 @@ impl Batch {
         room.texts.take_room(&mut self.texts);
     }
 
-    /// The number of texts.
+    /// Returns the number of texts.
     pub fn count(&self) -> u64
         ensures value { result ≡ length self.now.texts }
     {
         self.texts.count() as u64
     }
 
-    /// The number of finished commands.
+    /// Returns the number of finished commands.
     pub fn finished(&self) -> u64
         ensures value { result ≡ self.now.finished }
     {

@@ -1,4 +1,4 @@
-//! Batches of system calls, and the outputs of connections.
+//! Batches of texts to send, and the outputs of connections.
 #![tactic(auto)]
 
 mod batch;

@@ -28,7 +28,7 @@ impl Model for Output {
 }
 
 impl Output {
-    /// The output of a connection to which nothing was sent. Takes no memory.
+    /// Makes the output of a connection to which nothing was sent. Takes no memory.
     pub fn new(alloc: Global, conn: u32) -> Output
         ensures value { result ≡ nothing_sent conn }
     {
@@ -39,8 +39,8 @@ impl Output {
         }
     }
 
-    /// Appends the texts of a batch, and sets the number of finished commands to the batch's. After
-    /// a refusal the batch is handed back. The first batch is moved and not copied. The program calls
+    /// Appends the texts of a batch, and sets the number of finished commands to the batch's. If
+    /// allocation fails, the batch is handed back. The first batch is moved. The program calls
     /// `take_texts`.
     pub fn carry_out(&mut self, batch: Batch) -> Result<(), (Batch, NoMemory)>
         ensures ok { OnOk result (self.new ≡ with_batch self.old batch) }
@@ -57,9 +57,9 @@ impl Output {
         }
     }
 
-    /// Takes the texts of a batch, and sets the number of finished commands to the batch's. The batch
-    /// is left without texts, and keeps its room for further ones, up to 64 KiB. After a refusal both are
-    /// as they were. A larger first batch is moved and not copied.
+    /// Moves the texts of a batch to the end, and sets the number of finished commands to the
+    /// batch's. The batch is left without texts, and keeps its room for more, up to 64 KiB. If
+    /// allocation fails, both are as they were. A larger first batch is moved.
     pub fn take_texts(&mut self, batch: &mut Batch) -> Result<(), NoMemory>
         ensures ok { OnOk result (self.new ≡ with_batch self.old batch.old) }
         ensures batch { OnOk result (batch.new ≡ no_text batch.old.finished) }
@@ -70,35 +70,35 @@ impl Output {
         Ok(())
     }
 
-    /// The connection.
+    /// Returns the connection.
     pub fn conn(&self) -> u32
         ensures value { result ≡ self.now.conn }
     {
         self.conn
     }
 
-    /// The number of texts.
+    /// Returns the number of texts.
     pub fn count(&self) -> u64
         ensures value { result ≡ length self.now.texts }
     {
         self.texts.count() as u64
     }
 
-    /// The number of finished commands.
+    /// Returns the number of finished commands.
     pub fn finished(&self) -> u64
         ensures value { result ≡ self.now.finished }
     {
         self.finished
     }
 
-    /// The texts, joined.
+    /// Returns the texts, joined.
     pub fn bytes(&self) -> &[u8]
         ensures value { result.now ≡ concat self.now.texts }
     {
         self.texts.bytes()
     }
 
-    /// The first `count` texts, joined. Takes no memory.
+    /// Returns the first `count` texts, joined. Takes no memory.
     pub fn upto(&self, count: u64) -> &[u8]
         requires within { count ≤ length self.now.texts }
         ensures value { result.now ≡ bytes_upto self.now count }
@@ -106,7 +106,7 @@ impl Output {
         self.texts.upto(count as usize)
     }
 
-    /// The texts, joined. Takes no memory.
+    /// Returns the texts, joined. Takes no memory.
     pub fn into_bytes(self) -> Blob
         ensures value { result ≡ concat self.texts }
     {

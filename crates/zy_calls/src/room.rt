@@ -5,8 +5,9 @@ use crate::texts::Texts;
 use std::alloc::Global;
 use std::marker::Model;
 
-/// Room for texts, which holds none. A core lends it to the blocks that it holds, one after another, so that texts
-/// are written where others were just read. Contracts see it as the list of its texts.
+/// Room for texts, without a text. A core lends it to the blocks that it holds, one after another,
+/// so that texts are written where others were just read. Contracts see it as the list of its
+/// texts.
 #[derive(Drop)]
 pub struct Room {
     pub(crate) texts: Texts,
@@ -21,7 +22,7 @@ impl Model for Room {
 }
 
 impl Room {
-    /// No room yet. Takes no memory.
+    /// Begins without room. Takes no memory.
     pub fn new(alloc: Global) -> Room
         ensures value { result ≡ [] }
     {

@@ -10,7 +10,7 @@ use std::marker::Model;
 use std::mem;
 use zy_base::{Blob, NoMemory};
 
-// The most bytes of texts whose room is kept for further texts.
+// The most bytes of texts whose room is kept for more texts.
 const ROOM_LIMIT: usize = 65_536;
 
 /// A list of texts, kept as their bytes and the place where each ends. Contracts see it as the list.
@@ -32,7 +32,7 @@ impl Model for Texts {
 }
 
 impl Texts {
-    /// The list without a text. Takes no memory.
+    /// Makes the list without a text. Takes no memory.
     pub(crate) fn new(alloc: Global) -> Texts
         ensures value { result ≡ [] }
     {
@@ -42,7 +42,7 @@ impl Texts {
         }
     }
 
-    /// The number of texts.
+    /// Returns the number of texts.
     pub(crate) fn count(&self) -> usize
         ensures value { result ≡ length self.now }
     {
@@ -62,7 +62,7 @@ impl Texts {
         Ok(())
     }
 
-    /// Appends the text that is written.
+    /// Appends the text that a writer writes.
     pub(crate) fn push_by<W: Writes>(&mut self, writer: &W) -> Result<(), NoMemory>
         requires ready { W.ready writer.now }
         ensures ok { OnOk result (self.new ≡ self.old ++ W.text writer.now ∷ []) }
@@ -76,7 +76,7 @@ impl Texts {
         Ok(())
     }
 
-    /// Appends the texts of another list; after a refusal it is handed back.
+    /// Appends the texts of another list; if allocation fails it is handed back.
     pub(crate) fn append(&mut self, other: Texts) -> Result<(), (Texts, NoMemory)>
         ensures ok { OnOk result (self.new ≡ self.old ++ other) }
         ensures err { OnErr result (self.new ≡ self.old) }
@@ -95,8 +95,8 @@ impl Texts {
         }
     }
 
-    /// Moves the texts of another list to the end of its own. The other list keeps its room for further
-    /// texts, but not room for many bytes: these are not copied if the list has no texts of its own.
+    /// Moves the texts of another list to the end of its own. The other list keeps its room for
+    /// more texts, but not room for many bytes: those are moved, if this list has no texts.
     pub(crate) fn take_all(&mut self, other: &mut Texts) -> Result<(), NoMemory>
         ensures ok { OnOk result (self.new ≡ self.old ++ other.old) }
         ensures other { OnOk result (other.new ≡ []) }
@@ -139,7 +139,7 @@ impl Texts {
         Ok(())
     }
 
-    // Whether the texts have more bytes than whose room is kept.
+    // Checks whether the texts have too many bytes for their room to be kept.
     fn is_large(&self) -> bool {
         self.bytes.bytes().len() > ROOM_LIMIT
     }
@@ -157,14 +157,14 @@ impl Texts {
         self.ends.clear();
     }
 
-    /// The bytes of all texts.
+    /// Returns the bytes of all texts.
     pub(crate) fn bytes(&self) -> &[u8]
         ensures value { result.now ≡ concat self.now }
     {
         self.bytes.bytes()
     }
 
-    /// The bytes of the first `count` texts.
+    /// Returns the bytes of the first `count` texts.
     pub(crate) fn upto(&self, count: usize) -> &[u8]
         requires within { count ≤ length self.now }
         ensures value { result.now ≡ concat (take count self.now) }
@@ -175,7 +175,7 @@ impl Texts {
         &self.bytes.bytes()[..self.ends[count - 1]]
     }
 
-    /// The bytes of all texts. Takes no memory.
+    /// Returns the bytes of all texts. Takes no memory.
     pub(crate) fn into_bytes(self) -> Blob
         ensures value { result ≡ concat self }
     {
@@ -183,7 +183,7 @@ impl Texts {
     }
 }
 
-// Appends places, each greater by `start`.
+// Appends places, each increased by `start`.
 fn append_further(ends: &mut Vec<usize>, start: usize, others: &[usize])
     requires room { vec_len ends.old + length others.now ≤ vec_capacity ends.old }
     requires fits { AreWithin start others.now }

@@ -1,9 +1,9 @@
-//! What writes a text where it is to be.
+//! Writers of texts, which append their text to other bytes.
 ghost use Rattle.std.specs.Prelude.{◌≡◌, ◌++◌, ℕ, List, OnOk, OnErr};
 
 use zy_base::{Blob, NoMemory};
 
-/// Writes a text behind other bytes.
+/// Writes a text after other bytes.
 pub trait Writes {
     // It can write.
     ghost ready: { Self → Type 0 };
@@ -11,7 +11,7 @@ pub trait Writes {
     // The text that it writes.
     ghost text: { Self → List ℕ };
 
-    /// Appends the text; after a refusal nothing was appended.
+    /// Appends the text; if allocation fails nothing was appended.
     fn write(&self, out: &mut Blob) -> Result<(), NoMemory>
         requires ready { ready self.now }
         ensures ok { OnOk result (out.new ≡ out.old ++ text self.now) }
