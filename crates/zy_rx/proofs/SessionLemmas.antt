@@ -1,4 +1,4 @@
--- What a connection received once one further item came.
+-- What a connection received after one more item.
 use Rattle.std.proofs.Common.{◌≡◌, ℕ, List, [], ◌∷◌, ◌++◌}
 use Rattle.zy_rx.specs.declared.rx.Rx.{Rx}
 use Rattle.zy_rx.specs.Session.{Sessions, takes_in, sessions_from}

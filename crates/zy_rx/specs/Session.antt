@@ -25,13 +25,13 @@ with_bytes bytes s = record s { current = s.current ++ bytes }
 abbrev pub with_close : Sessions → Sessions
 with_close s = record s { closed = s.closed ++ s.current ∷ []; current = [] }
 
--- one further item: an item of another connection changes nothing, and neither does one after the end
+-- what one more item changes: nothing if it is another connection's, or comes after the end
 abbrev pub takes_in : ℕ → Sessions → Rx → Sessions
 takes_in conn s (Segment c bytes) = if s.ended then s else if c == conn then with_bytes bytes s else s
 takes_in conn s (Close c) = if s.ended then s else if c == conn then with_close s else s
 takes_in conn s End = record s { ended = true }
 
--- further items, one after the other
+-- what more items change, one after the other
 abbrev pub sessions_from : ℕ → Sessions → List Rx → Sessions
 sessions_from conn s [] = s
 sessions_from conn s (x ∷ xs) = sessions_from conn (takes_in conn s x) xs

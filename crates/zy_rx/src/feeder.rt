@@ -10,11 +10,11 @@ use crate::outlet::Outlet;
 pub enum Fed {
     /// One item was offered to one core.
     Offered,
-    /// An inlet knows no free slot; the item was handed back, and is kept for the next step.
+    /// An inlet knows no free slot. The item was handed back, and is kept for the next step.
     Full,
     /// All items were offered.
     Ended,
-    /// The feeder broke: no further item can be offered.
+    /// The feeder broke: no more items can be offered.
     Broken,
 }
 
@@ -26,13 +26,13 @@ pub trait Feeder {
     /// All items were offered.
     ghost ended: { Self → Type 0 };
 
-    /// It broke, and can offer no further item.
+    /// It broke, and can offer no more items.
     ghost broken: { Self → Type 0 };
 
     /// The second state comes at or after the first.
     ghost leads: { Self → Self → Type 0 };
 
-    /// One step. Before it the feeder is neither ended nor broken.
+    /// Makes one step. Before it the feeder has neither ended nor broken.
     fn step(&mut self) -> Fed
         requires fresh { ¬ ended self.old × ¬ broken self.old }
         ensures offered { result ≡ Fed.Offered → HasOffered (inlets self.old) (inlets self.new) }
@@ -44,8 +44,8 @@ pub trait Feeder {
         ensures rings { rings_of (inlets self.new) ≡ rings_of (inlets self.old) }
         ensures leads { leads self.old self.new };
 
-    /// Whether the next step may have to wait for what it offers. A hint: it is true unless a feeder
-    /// knows better, and no clause speaks of it.
+    /// Checks whether the next step may have to wait for what it offers. This is a hint, of which
+    /// no clause speaks; it is true unless a feeder says otherwise.
     fn may_wait(&self) -> bool {
         true
     }

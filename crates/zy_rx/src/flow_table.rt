@@ -21,7 +21,7 @@ impl Model for FlowTable {
 }
 
 impl FlowTable {
-    /// The flow groups, dealt to `cores` cores.
+    /// Deals the flow groups to `cores` cores.
     pub fn new(cores: u32) -> FlowTable
         requires some { 1 ≤ cores }
         requires few { cores ≤ 64 }
@@ -30,7 +30,7 @@ impl FlowTable {
         FlowTable { cores }
     }
 
-    /// The home core of a connection.
+    /// Returns the home core of a connection.
     pub fn home_of(&self, conn: u32) -> u32
         ensures value { result ≡ home_of self.now conn }
         ensures limit { result < self.now }

@@ -27,8 +27,8 @@ impl<T> Model for RingInlet<T> {
 }
 
 impl<T> RingInlet<T> {
-    /// Appends the item to what was sent. It is handed back exactly if this end knew no free slot
-    /// after its look.
+    /// Appends the item to what was sent. It is handed back if and only if this end knew no free
+    /// slot after its look.
     pub fn offer(&mut self, item: T) -> Option<T>
         ensures ok { IfNone result (self.new.sent ≡ self.old.sent ++ item ∷ []) }
         ensures few { IfNone result (self.old.free ≤ self.new.free + 1) }

@@ -31,7 +31,7 @@ impl<T> Model for RingOutlet<T> {
 }
 
 impl<T> RingOutlet<T> {
-    /// The next item. It is `None` exactly if this end knew no item after its look.
+    /// Takes the next item. It is `None` if and only if this end knew no item after its look.
     pub fn take(&mut self) -> Option<T>
         ensures taken { IfSome result (λ item. self.new.taken ≡ self.old.taken ++ item ∷ []) }
         ensures first { IfSome result (λ item. IsFirstKnown item self.old.known self.new.known) }
@@ -45,7 +45,7 @@ impl<T> RingOutlet<T> {
         }
     }
 
-    /// The number of items that this end knows, without a look.
+    /// Returns the number of items that this end knows, without a look.
     pub fn known(&self) -> usize
         ensures value { result ≡ length self.now.known }
     {
@@ -60,7 +60,7 @@ impl<T> RingOutlet<T> {
         self.consumer.is_empty()
     }
 
-    /// The next item, which this end knows.
+    /// Takes the next item, which this end knows.
     pub fn take_known(&mut self) -> T
         requires some { 0 < length self.old.known }
         ensures taken { self.new.taken ≡ self.old.taken ++ result ∷ [] }
@@ -71,7 +71,7 @@ impl<T> RingOutlet<T> {
     }
 }
 
-/// A ring of this capacity. All of its slots are free.
+/// Makes a ring of this capacity. All of its slots are free.
 pub fn ring<T: Drop>(
     alloc: Global,
     capacity: usize,

@@ -8,6 +8,6 @@ pub enum Rx {
     Segment { conn: u32, bytes: Blob },
     /// The session of a connection ends.
     Close { conn: u32 },
-    /// No further item comes.
+    /// No more items come.
     End,
 }
