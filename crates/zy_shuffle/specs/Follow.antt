@@ -10,8 +10,8 @@ use Rattle.zy_shuffle.specs.Word.{cell}
 use Rattle.zy_shuffle.specs.Holder.{Holder, nobody, in_queue, in_hand, at_bell}
 
 -- the machine's place of a connection agrees with the holder of its place in the ring. In the hand
--- of the home, it is idle or held by the home: settling a connection that has nothing to do is not
--- a step
+-- of the home it is idle or held by the home, since settling a connection that has nothing to do is
+-- not a step
 abbrev pub Agrees : Holder → Place → Type 0
 Agrees nobody place = (place ≡ idle) ⊎ (place ≡ held 0)
 Agrees (in_queue k) place = place ≡ ready
@@ -34,6 +34,6 @@ pub record Follows {T M : Type 0} (words : List ℕ) (m head tail : ℕ) (holder
   pub queue : owners.queue ≡ queue_of words m head (tail - head)
   -- a connection is idle if and only if the home keeps no mark for it, as it was never published
   pub unmarked : (p : ℕ) → p < m → (owners.places p ≡ idle) ↔ (marks p ≡ None)
-  -- one that is not idle has one unfinished request
+  -- a connection that is not idle has one unfinished request
   pub due : (p : ℕ) → p < m → owners.places p ≢ idle → owners.finished p + 1 ≡ owners.arrived p
   pub known : IsKnown events views

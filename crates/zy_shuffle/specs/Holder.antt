@@ -4,8 +4,8 @@ use Rattle.zy_shuffle.specs.declared.ring.view.Role.{Role}
 use Rattle.zy_shuffle.specs.declared.ring.view.Role.TheVariants.{Spent, Start, Core, Home, Closed}
 use Rattle.zy_shuffle.specs.declared.ring.view.View.{View}
 
--- nobody, before the first step of the home and after its last; the queue, as the k-th place that
--- was published; the hand of seat j; or the doorbell of the place
+-- the holder of a place: nobody, before the first step of the home and after its last; the queue,
+-- as the k-th place that was published; the hand of seat j; or its doorbell
 pub data Holder : Type 0 where
   nobody : Holder
   in_queue : ℕ → Holder

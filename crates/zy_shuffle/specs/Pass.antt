@@ -29,8 +29,8 @@ abbrev pub ringed : TableId → ℕ → Ringed
 ringed id places = record { id = id; places = places }
 
 -- a pass: its table and the ring's label, its hand, the blocks whose marks it keeps, the number of
--- its home's publications, the number of passes that are out, and what it has seen. For a core the
--- two numbers are 0
+-- its home's publications, the number of passes that are out, and what it has seen. For a core both
+-- numbers are 0
 pub record Held (T : Type 0) : Type 0 where
   pub table : TableId
   pub label : Name
@@ -165,7 +165,7 @@ module _ {T M : Type 0} (mark : T → M) (label : T → Name) (places : ℕ) (v 
       × ((word : ℕ) → word < x.0 / 64 → Rang v.trace.steps word 0 w.trace)
       × ((i : ℕ) → i < x.0 % 64 → bit_at bits i ≡ 0))
 
-  -- the same for one doorbell word
+  -- what a look at one doorbell word found, in the same way
   abbrev pub LookedAt : ℕ → Option (ℕ × T) → Type 0
   LookedAt word None = Unchanged v w × (w.trace ≡ bell_step word 0 v.trace)
   LookedAt word (Some x) = Joined x.0 x.1 × (x.0 / 64 ≡ word)
@@ -175,18 +175,18 @@ module _ {T M : Type 0} (mark : T → M) (label : T → Name) (places : ℕ) (v 
 
 -- ---- the events of calls
 
--- to publish a place, which was so before, is the events `publication` of the home
+-- publishing a place, whose state was this before, makes the events `publication` of the home
 abbrev pub PublishMakes : {T M : Type 0} → Before → (T → M) → ℕ → Held T → Held T → Type 0
 PublishMakes before mark place v w =
     MakesAll (λ _. publication before place (marked mark place v.kept)) v.trace w.trace
 
--- a claim that took a place is the event `Claim` of the pass, and any other claim is no event
+-- a claim that took a place makes the event `Claim` of the pass; any other claim makes none
 abbrev pub ClaimMakes : {T : Type 0} → Trace → Trace → Claim T → Type 0
 ClaimMakes t u (Took place block) = Makes claim_of t u
 ClaimMakes t u (Empty at) = MakesNone t u
 ClaimMakes t u (Raced saw found) = MakesNone t u
 
--- a collect that found a place is the event `Collect`, and any other is no event
+-- a collect that found a place makes the event `Collect`; any other makes none
 abbrev pub CollectMakes : {T : Type 0} → Trace → Trace → Option (ℕ × T) → Type 0
 CollectMakes t u None = MakesNone t u
 CollectMakes t u (Some x) = Makes (λ _. Collect x.0) t u

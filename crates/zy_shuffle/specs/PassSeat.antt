@@ -60,20 +60,20 @@ pub record IsBrought {T : Type 0} (place : ℕ) (m n : Seated T) : Type 0 where
 
 -- ---- the answers of private functions, by the seat before and after
 
--- the seat of a home, with the tail as another seat knew it
+-- the seat of a home after a call, with the tail as it was known before
 abbrev pub IsHomeAfter : {T : Type 0} → ℕ → Seated T → Seated T → Type 0
 IsHomeAfter places m n = IsHomeSeat places (tail_of m.0.role) n
 
 module _ {T M : Type 0} (mark : T → M) (label : T → Name) (ring : Ringed) (m n : Seated T) where
-  -- a claim
+  -- the answer of a claim
   abbrev pub ClaimedBy : Claim T → Type 0
   ClaimedBy claim = Claimed mark label ring.places (held ring.id m.0) (held ring.id n.0) claim
 
-  -- a collect
+  -- the answer of a collect
   abbrev pub CollectedBy : Option (ℕ × T) → Type 0
   CollectedBy found = Collected mark label ring.places (held ring.id m.0) (held ring.id n.0) found
 
-  -- a look at one doorbell word
+  -- the answer of a look at one doorbell word
   abbrev pub LookedBy : ℕ → Option (ℕ × T) → Type 0
   LookedBy word found = LookedAt mark label ring.places (held ring.id m.0) (held ring.id n.0) word found
 
@@ -82,6 +82,6 @@ module _ {T M : Type 0} (mark : T → M) (m : Seated T) where
   abbrev pub KeepsMark : Option (ℕ × T) → Type 0
   KeepsMark found = IfSome found (λ x. marked mark x.0 m.0.kept ≡ Some (mark x.1))
 
-  -- so has one that the home claimed
+  -- a block that the home claimed has the mark that the home keeps
   abbrev pub ClaimKeepsMark : Claim T → Type 0
   ClaimKeepsMark claim = IfTook claim (λ place block. IsHome m.0.role → marked mark place m.0.kept ≡ Some (mark block))

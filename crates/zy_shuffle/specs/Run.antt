@@ -1,4 +1,4 @@
--- What the seats of a ring know of the run of the ownership machine, and that their views have all of it.
+-- What the seats of a ring know of the run of the ownership machine: together their views have all of it.
 use Rattle.std.specs.Prelude.{◌≡◌, ◌⊎◌, ℕ, List, [], ◌∷◌, ◌++◌, true, false, Option, Some, None}
 use mathlib.Core.Option.{some}
 use lib.ListN.{get_elem?}
@@ -18,15 +18,15 @@ pub data Before : Type 0 where
   was_idle : Before
   was_held : Before
 
--- the events by which a connection became idle that was published before, the newest first: what
--- made it ready then was finished, and it was settled. One that was never published is idle
+-- the events, the newest first, by which a connection that was published before became idle: what
+-- made it ready was finished, and it was settled. None if it was never published
 abbrev pub went_idle : {M : Type 0} → ℕ → Option M → List Event
 went_idle place None = []
 went_idle place (Some mark) = Settle place ∷ Handle 0 place ∷ []
 
 -- the events of a publication, the newest first, by the mark that the home keeps for the place: a
--- request arrives at a connection that was idle, as is one that was never published, and one that
--- was held is settled
+-- request arrives at a connection that was idle or was never published, and a connection that was
+-- held is settled
 abbrev pub publication : {M : Type 0} → Before → ℕ → Option M → List Event
 publication was_idle place kept = Arrive place 1 ∷ went_idle place kept
 publication was_held place None = Arrive place 1 ∷ []
@@ -103,9 +103,9 @@ module _ {T : Type 0} where
   abbrev pub IsSpent : List (View T) → ℕ → Type 0
   IsSpent views seat = (u : View T) × (get_elem? views seat ≡ some u) × (u.role ≡ Spent)
 
-  -- this is the run that the views have between them
+  -- this is the run that the views have together
   pub record IsKnown (events : List Event) (views : List (View T)) : Type 0 where
-    -- some view has all of it
+    -- some view has the whole run
     pub last : (j : ℕ) × (v : View T) × (get_elem? views j ≡ some v) × (v.trace.run ≡ events)
     -- what any other view has not are later events, of seats whose events it need not have
     pub missing : (j : ℕ) (v : View T) → get_elem? views j ≡ some v

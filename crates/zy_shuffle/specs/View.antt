@@ -28,11 +28,11 @@ untraced = record {
   seats = [];
 }
 
--- a step that is counted, but of which nothing else is kept
+-- a step that is counted, and of which nothing else is kept
 abbrev pub plain_step : Trace → Trace
 plain_step t = record t { steps = t.steps + 1 }
 
--- a load of the head
+-- the trace after a load of the head
 abbrev pub head_step : ℕ → Trace → Trace
 head_step found t = record t { steps = t.steps + 1; head = sight found (t.steps + 1) }
 
@@ -40,11 +40,11 @@ head_step found t = record t { steps = t.steps + 1; head = sight found (t.steps 
 abbrev pub tail_step : ℕ → ℕ → Trace → Trace
 tail_step found under t = record t { steps = t.steps + 1; tail = sight found (t.steps + 1); under = under }
 
--- a compare and exchange of the head
+-- the trace after a compare and exchange of the head
 abbrev pub try_step : ℕ → Trace → Trace
 try_step found t = record t { steps = t.steps + 1; tried = sight found (t.steps + 1) }
 
--- a load of a doorbell word
+-- the trace after a load of a doorbell word
 abbrev pub bell_step : ℕ → ℕ → Trace → Trace
 bell_step word found t = record t { steps = t.steps + 1; bells = (word, sight found (t.steps + 1)) ∷ t.bells }
 
@@ -60,7 +60,7 @@ with_own seat (x ∷ xs) = x ∷ xs
 abbrev pub after_events : ℕ × List Event → List Event → Trace → Trace
 after_events since acts t = record t { run = acts ++ (since.1 ++ t.run); seats = with_own since.0 t.seats }
 
--- the seat made this event alone
+-- the seat made only this event
 abbrev pub after_event : ℕ × List Event → Event → Trace → Trace
 after_event since e t = after_events since (e ∷ []) t
 

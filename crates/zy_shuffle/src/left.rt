@@ -23,7 +23,7 @@ impl<T> Model for Left<T> {
 }
 
 impl<T> Left<T> {
-    /// The pairs of place and block. Takes no memory.
+    /// Returns the pairs of place and block. Takes no memory.
     pub fn items(self) -> Vec<(u32, T)>
         ensures value { result.items ≡ self }
     {
@@ -31,7 +31,7 @@ impl<T> Left<T> {
         items
     }
 
-    // The blocks in the slots of a closed table. The list has room for them.
+    // Makes the list of the blocks in the slots of a closed table. It has room for them.
     pub(crate) fn from_slots(closed: Closed<Option<T>, Global>, items: Vec<(u32, T)>) -> Left<T>
         requires full { IsFull closed.slots }
         requires few { slots_len closed.slots ≤ 4096 }

@@ -23,7 +23,8 @@ pub trait Publishing {
     ghost before: { Before };
 }
 
-/// All that had arrived was finished, and the home had settled the connection, until something new came.
+/// The connection was idle: all that had arrived was finished, and the home had settled it, until
+/// something new came.
 pub struct WasIdle;
 
 impl Publishing for WasIdle {
@@ -32,7 +33,8 @@ impl Publishing for WasIdle {
     ghost before = { was_idle };
 }
 
-/// The home took the connection from the queue or from its doorbell, and something is left to do.
+/// The connection was held: the home took it from the queue or from its doorbell, and something is
+/// left to do.
 pub struct WasHeld;
 
 impl Publishing for WasHeld {

@@ -77,7 +77,7 @@ impl<T: Marked + Drop> Drop for Ring<T> {
 }
 
 impl<T: Marked> Ring<T> {
-    /// The number of places, which is the table's number of slots.
+    /// Returns the number of places, which is the table's number of slots.
     pub fn places(&self) -> u32
         ensures value { result ≡ self.now.places }
         ensures count { result ≡ self.now.id.slots }

@@ -13,8 +13,8 @@ use atomic_table::Seat;
 
 impl<T: Marked> Ring<T> {
     /// Takes a place that was given back into the home's hand, with its block: that of the lowest
-    /// bit of the first doorbell word that is not 0. It is `None` exactly if each doorbell word,
-    /// loaded in this call, was 0.
+    /// bit of the first doorbell word that is not 0. It is `None` if and only if each doorbell
+    /// word, loaded in this call, was 0.
     pub fn collect(&self, home: &mut HomePass<T>) -> Option<(u32, T)>
         requires within { home.old.table ≡ self.now.id }
         ensures value { Collected T.mark T.label self.now.places home.old home.new result }

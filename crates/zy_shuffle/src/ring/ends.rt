@@ -13,8 +13,8 @@ use std::alloc::Global;
 use zy_base::NoMemory;
 
 impl<T: Marked> Ring<T> {
-    /// A ring with `places` places, all in the home's hand, and an empty queue. The label of the
-    /// ring is that of `L`.
+    /// Makes a ring with `places` places, all in the home's hand, and an empty queue. The label of
+    /// the ring is that of `L`.
     pub fn new<L: Label>(alloc: Global, places: u32) -> Result<(Ring<T>, HomePass<T>), NoMemory>
         requires few { places ≤ 4096 }
         ensures count { IfOk result (λ made. made.0.places ≡ places) }
@@ -44,7 +44,7 @@ impl<T: Marked> Ring<T> {
         Ok((ring, HomePass { seat, tail: 0 }))
     }
 
-    /// A pass with an empty hand, for another core. It takes no memory, so it is never refused.
+    /// Makes a pass with an empty hand, for another core. This takes no memory, and cannot fail.
     pub fn split(&self, home: &mut HomePass<T>) -> Result<CorePass<T>, NoMemory>
         requires within { home.old.table ≡ self.now.id }
         ensures succeeds { IsOk result }
@@ -67,8 +67,8 @@ impl<T: Marked> Ring<T> {
         self.table.shared.join_seat::<Joins>(&mut home.seat, seat);
     }
 
-    /// The blocks that are still in the table, once every pass was joined. After `NoMemory` ring
-    /// and home are handed back as they were.
+    /// Returns the blocks that are still in the table, once every pass was joined. After `NoMemory`
+    /// ring and home are handed back as they were.
     pub fn close(self, home: HomePass<T>) -> Result<Left<T>, (Ring<T>, HomePass<T>)>
         requires within { home.table ≡ self.id }
         requires joined { home.out ≡ 0 }

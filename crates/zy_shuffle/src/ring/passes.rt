@@ -44,7 +44,7 @@ impl<T> Model for CorePass<T> {
 }
 
 impl<T> HomePass<T> {
-    /// The number of the home's publications.
+    /// Returns the number of the home's publications.
     pub fn count(&self) -> u64
         ensures value { result ≡ self.now.count }
     {

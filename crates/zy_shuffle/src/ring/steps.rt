@@ -20,8 +20,8 @@ use atomic_table::Seat;
 use std::marker::Brand;
 
 impl<T: Marked> Ring<T> {
-    /// Puts the place, with its block, at the end of the queue. It cannot fail. The run of the
-    /// ownership machine has the connection as one that was held: this settles it, or is its first
+    /// Puts the place, with its block, at the end of the queue. It cannot fail. In the run of the
+    /// ownership machine this settles the connection, as one that was held, or is its first
     /// arrival.
     pub fn publish(&self, home: &mut HomePass<T>, place: u32, block: T)
         requires within { home.old.table ≡ self.now.id }
@@ -34,7 +34,8 @@ impl<T: Marked> Ring<T> {
         self.publish_as::<WasHeld>(home, place, block);
     }
 
-    /// The same. `B` says for contracts what the connection was before: `WasIdle` or `WasHeld`.
+    /// Publishes as `publish`. `B` says for contracts what the connection was before: `WasIdle` or
+    /// `WasHeld`.
     pub fn publish_as<B: Publishing>(&self, home: &mut HomePass<T>, place: u32, block: T)
         requires within { home.old.table ≡ self.now.id }
         requires hand { is_in place home.old.hand ≡ true }
@@ -68,7 +69,7 @@ impl<T: Marked> Ring<T> {
         }
     }
 
-    /// The same for the home. The block has the mark with which the home published it.
+    /// Claims as `claim`, for the home. The block has the mark with which the home published it.
     pub fn claim_home(&self, home: &mut HomePass<T>) -> Claim<T>
         requires within { home.old.table ≡ self.now.id }
         ensures value { Claimed T.mark T.label self.now.places home.old home.new result }
@@ -78,7 +79,7 @@ impl<T: Marked> Ring<T> {
         self.claim_at(&mut home.seat)
     }
 
-    /// Puts the block of a place that this pass claimed back, and rings the place's doorbell. It
+    /// Puts back the block of a place that this pass claimed, and rings the place's doorbell. It
     /// cannot fail. If the place is not the one that was claimed last, this takes one more load.
     pub fn give_back(&self, pass: &mut CorePass<T>, place: u32, block: T)
         requires within { pass.old.table ≡ self.now.id }
@@ -91,7 +92,7 @@ impl<T: Marked> Ring<T> {
         self.give_back_as::<Brand>(pass, place, block)
     }
 
-    // A claim by the seat of either kind of pass.
+    // Claims by the seat of either kind of pass.
     fn claim_at(&self, seat: &mut Seat<Option<T>, View<T>>) -> Claim<T>
         requires within { seat.old.table_id ≡ self.now.id }
         requires hand { seat.old.me.1 ≡ emptied seat.old.me.0.hand }
@@ -126,7 +127,8 @@ impl<T: Marked> Ring<T> {
         }
     }
 
-    // The same with the place named for contracts, which a load of the head cannot do.
+    // Gives back as `give_back`. `J` names the place for contracts, which a load of the head cannot
+    // do.
     fn give_back_as<J: Placing>(&self, pass: &mut CorePass<T>, place: u32, block: T)
         requires picked { place ≡ J.place }
         requires within { pass.old.table ≡ self.now.id }

@@ -8,8 +8,8 @@ pub struct Sight {
     pub step: u64,
 }
 
-/// An event of the ownership machine: requests of a connection arrive, a core takes the first
-/// connection of the queue, finishes a request of a connection, or gives a connection back, or the
+/// An event of the ownership machine: requests of a connection arrive; a core takes the first
+/// connection of the queue, finishes a request of a connection, or gives a connection back; or the
 /// home collects a connection or settles it. The fields are the connection and the number of its
 /// requests, the core, the core and the connection, or the connection.
 pub enum Event {
