@@ -15,7 +15,7 @@ look_at looks core = noted (slice_get looks core)
 abbrev pub IsBlank : List (Option Look) → Type 0
 IsBlank looks = (core : ℕ) → look_at looks core ≡ None
 
--- these looks were noted over those that there were: each is the newest at its core, and the others stay
+-- these looks were noted over the earlier ones: each is the newest at its core, and the others stay
 pub record NotesAll (made before after : List (Option Look)) : Type 0 where
   pub newest : (core : ℕ) (look : Look) → look_at made core ≡ Some look → look_at after core ≡ Some look
   pub others : (core : ℕ) → look_at made core ≡ None → look_at after core ≡ look_at before core

@@ -1,8 +1,8 @@
 -- The order in which a core looks at the other cores.
 use Rattle.std.specs.Prelude.{ℕ, zero, suc, ◌+◌, ◌-◌, ◌%◌, List, [], ◌∷◌, ◌++◌, nat_lt, if◌then◌else◌}
 
--- where there are `cores` cores, the t-th core that a core looks at in its m-th steal call: a call
--- goes once round the other cores, and begins one more than the call before it
+-- among `cores` cores, the t-th one that a core looks at in its m-th steal call: a call goes once
+-- round the other cores, and begins one core further than the call before it
 abbrev pub victim : ℕ → ℕ → ℕ → ℕ → ℕ
 victim cores core m t = (core + 1 + (m + t) % (cores - 1)) % cores
 

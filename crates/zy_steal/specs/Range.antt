@@ -52,13 +52,13 @@ pub record StopsAt {T M : Type 0} (mark : T → M) (label : T → Name) (core : 
 
 module _ {T M : Type 0} (mark : T → M) (label : T → Name) (core : ℕ) (vs ws : List (Held T))
     (looks looks' : List (Option Look)) where
-  -- one claim
+  -- the answer of one claim
   abbrev pub LooksOnce : ℕ → Option (Taken T) → Type 0
   LooksOnce at None = MissesAt core vs ws looks looks' at
   LooksOnce at (Some taken) =
       (taken.at ≡ at) × (looks' ≡ looks) × ClaimsAt mark label vs ws at (claims.Took taken.place taken.block)
 
-  -- a range of claims
+  -- the answer of a range of claims
   abbrev pub RangesTo : ℕ → ℕ → Option (Taken T) → Type 0
   RangesTo from to None = Ranges core vs ws looks looks' from to
   RangesTo from to (Some taken) = StopsAt mark label core vs ws looks looks' from to taken
@@ -81,7 +81,7 @@ pub record StopsInTurn {T M : Type 0} (mark : T → M) (label : T → Name) (cor
   pub same : slice_get middle taken.at ≡ slice_get vs taken.at
   pub takes : ClaimsAt mark label middle ws taken.at (claims.Took taken.place taken.block)
 
--- a whole turn
+-- the answer of a whole turn
 abbrev pub TurnsTo : {T M : Type 0} → (T → M) → (T → Name) → ℕ → List (Held T) → List (Held T) → List (Option Look)
     → List (Option Look) → ℕ → ℕ → Option (Taken T) → Type 0
 TurnsTo mark label core vs ws looks looks' start count None = Ranges core vs ws looks looks' 0 count

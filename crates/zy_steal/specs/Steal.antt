@@ -70,7 +70,7 @@ pub record Holds {T M : Type 0} (mark : T → M) (label : T → Name) (v : Held 
   pub labelled : label block ≡ v.label
   pub kept : marked mark place v.kept ≡ Some (mark block)
 
--- it is in the hand of the pass on the ring of this core
+-- the block of a place is in the hand of the pass on the ring of this core
 pub record HoldsOf {T M : Type 0} (mark : T → M) (label : T → Name) (p : PassList T) (core place : ℕ)
     (block : T) : Type 0 where
   pub pass : Held T
@@ -118,7 +118,7 @@ pub record AllLooked {T : Type 0} (p q : PassList T) (looks : List (Option Look)
   pub looked : (at : ℕ) → Looked p.core p.items q.items looks at
   pub others : (core : ℕ) → ((at : ℕ) → at < length p.items → other_core p.core at ≢ core) → look_at looks core ≡ None
 
--- a claim was made at each other core, and these looks were noted over those that there were
+-- a claim was made at each other core, and these looks were noted over the earlier ones
 pub record AllLookedOver {T : Type 0} (p q : PassList T) (before after : List (Option Look)) : Type 0 where
   pub made : List (Option Look)
   pub looked : AllLooked p q made

@@ -29,14 +29,14 @@ impl Model for Looks {
 }
 
 impl Looks {
-    /// No look at any core.
+    /// Begins without a look.
     pub fn new() -> Looks
         ensures value { IsBlank result }
     {
         Looks { looks: [None; 64] }
     }
 
-    /// The look at this core; `None` exactly if there was none.
+    /// Returns the look at this core; `None` if and only if there was none.
     pub fn look(&self, core: u32) -> Option<Look>
         ensures value { result ≡ look_at self.now core }
     {

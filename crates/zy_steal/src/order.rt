@@ -20,7 +20,7 @@ impl Model for Order {
 }
 
 impl Order {
-    // No core.
+    // Begins without a core.
     pub(crate) fn new() -> Order
         ensures value { result ≡ [] }
     {
@@ -29,7 +29,7 @@ impl Order {
         }
     }
 
-    // One further core.
+    // Appends a core.
     pub(crate) fn push(&mut self, core: u32)
         requires few { length self.old < 64 }
         ensures value { self.new ≡ self.old ++ core ∷ [] }
@@ -37,7 +37,7 @@ impl Order {
         self.cores.push(core);
     }
 
-    /// The cores.
+    /// Returns the cores.
     pub fn items(&self) -> &[u32]
         ensures value { result.now ≡ self.now }
     {

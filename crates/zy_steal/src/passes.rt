@@ -29,7 +29,7 @@ impl<T> Model for Passes<T> {
 }
 
 impl<T: Marked> Passes<T> {
-    /// No pass of this core. Takes no memory.
+    /// Begins without a pass of this core. Takes no memory.
     pub fn new(alloc: Global, core: u32) -> Passes<T>
         ensures value { result ≡ pass_list core [] }
     {
@@ -51,7 +51,7 @@ impl<T: Marked> Passes<T> {
         }
     }
 
-    /// Takes the first pass; `None` exactly if there is none. Takes no memory.
+    /// Takes the first pass; `None` if and only if there is none. Takes no memory.
     pub fn next(&mut self) -> Option<CorePass<T>>
         ensures kept { self.new.core ≡ self.old.core }
         ensures value { self.old.items ≡ option_to_list result ++ self.new.items }
@@ -77,8 +77,8 @@ impl<T: Marked> Passes<T> {
         ring.give_back(&mut self.items[at as usize], place, block);
     }
 
-    // One claim by each pass, in a turn that begins with the pass of this number, until one takes a
-    // block.
+    // Makes a claim by each pass, in a turn that begins with the pass of this number, until one
+    // takes a block.
     pub(crate) fn turn(
         &mut self,
         rings: &Rings<T>,
@@ -99,7 +99,7 @@ impl<T: Marked> Passes<T> {
         }
     }
 
-    // One claim by each pass from one number to another, until one takes a block.
+    // Makes a claim by each pass from one number to another, until one takes a block.
     fn range(&mut self, rings: &Rings<T>, from: u32, to: u32, looks: &mut Looks) -> Option<Taken<T>>
         requires within { ArePasses rings.now self.old }
         requires few { length rings.now ≤ 64 }
@@ -118,7 +118,7 @@ impl<T: Marked> Passes<T> {
         None
     }
 
-    // One claim by the pass of this number. If it takes nothing, the look is noted.
+    // Makes a claim by the pass of this number. If it takes nothing, notes the look.
     fn look(&mut self, rings: &Rings<T>, at: u32, looks: &mut Looks) -> Option<Taken<T>>
         requires within { ArePasses rings.now self.old }
         requires few { length rings.now ≤ 64 }
@@ -141,7 +141,7 @@ impl<T: Marked> Passes<T> {
         }
     }
 
-    // One claim by the pass of this number.
+    // Makes a claim by the pass of this number.
     fn claim(&mut self, rings: &Rings<T>, at: u32) -> Claim<T>
         requires within { ArePasses rings.now self.old }
         requires few { length rings.now ≤ 64 }
@@ -162,7 +162,7 @@ pub(crate) struct Taken<T> {
     pub(crate) block: T,
 }
 
-// The other core of this number among the others.
+// Returns the other core of this number among the others.
 pub(crate) fn other_core(core: u32, at: u32) -> u32
     requires few { at < 2 ^ 31 }
     ensures value { result ≡ other_core core at }
@@ -170,7 +170,7 @@ pub(crate) fn other_core(core: u32, at: u32) -> u32
     if at < core { at } else { at + 1 }
 }
 
-// The number of another core among the others.
+// Returns the number of another core among the others.
 fn number_of(core: u32, other: u32) -> u32
     requires other { core ≢ other }
     ensures value { result ≡ number_of core other }

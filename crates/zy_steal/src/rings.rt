@@ -28,7 +28,7 @@ impl<T: Marked + Drop> Drop for Rings<T> {
 }
 
 impl<T: Marked> Rings<T> {
-    /// No ring. Takes no memory.
+    /// Begins without a ring. Takes no memory.
     pub fn new(alloc: Global) -> Rings<T>
         ensures value { result ≡ [] }
     {
@@ -49,7 +49,7 @@ impl<T: Marked> Rings<T> {
         }
     }
 
-    /// The ring of a core.
+    /// Returns the ring of a core.
     pub fn ring(&self, core: u32) -> &Ring<T>
         requires within { core < length self.now }
         ensures value { slice_get self.now core ≡ Some result.now }
@@ -57,14 +57,14 @@ impl<T: Marked> Rings<T> {
         &self.items[core as usize]
     }
 
-    /// The number of rings.
+    /// Returns the number of rings.
     pub fn count(&self) -> usize
         ensures value { result ≡ length self.now }
     {
         self.items.len()
     }
 
-    /// Takes the first ring; `None` exactly if there is none. Takes no memory.
+    /// Takes the first ring; `None` if and only if there is none. Takes no memory.
     pub fn next(&mut self) -> Option<Ring<T>>
         ensures value { self.old ≡ option_to_list result ++ self.new }
         ensures none { IfNone result (self.old ≡ []) }

@@ -50,7 +50,7 @@ impl Model for Victims {
 }
 
 impl Victims {
-    /// Core `core` of `cores`, before its first call.
+    /// Makes core `core` of `cores`, before its first call.
     pub fn new(core: u32, cores: u32) -> Victims
         requires within { core < cores }
         requires few { cores ≤ 64 }
@@ -63,7 +63,7 @@ impl Victims {
         }
     }
 
-    /// The cores that the next steal call looks at, in this order.
+    /// Returns the cores that the next steal call looks at, in this order.
     pub fn next_order(&self) -> Order
         ensures value { result ≡ order_of self.now.cores self.now.core self.now.calls }
     {
@@ -76,7 +76,7 @@ impl Victims {
         order
     }
 
-    /// One claim at each other core, in that order, until one takes a block.
+    /// Makes a claim at each other core, in that order, until one takes a block.
     pub fn steal<T: Marked>(&mut self, rings: &Rings<T>, passes: &mut Passes<T>) -> Stolen<T>
         requires within { ArePasses rings.now passes.old }
         requires core { passes.old.core ≡ self.old.core }
@@ -110,8 +110,8 @@ impl Victims {
         }
     }
 
-    /// As `steal`, over a table of looks that the caller owns: this call's looks are noted over those
-    /// that are there. So no table is cleared or moved.
+    /// Steals as `steal`, over a table of looks that the caller owns: this call's looks replace
+    /// those at the same cores. So no table is cleared or moved.
     pub fn steal_into<T: Marked>(
         &mut self,
         rings: &Rings<T>,
@@ -146,7 +146,7 @@ impl Victims {
         })
     }
 
-    // The number, among the other cores, of the first core that the next call looks at.
+    // Returns the number, among the other cores, of the first core that the next call looks at.
     fn first(&self) -> u32
         ensures value { IsFirst self.now result }
     {
