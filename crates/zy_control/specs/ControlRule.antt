@@ -78,7 +78,7 @@ pub record Knows (words : List ℕ) (vs : List View) (cores j : ℕ) (v : View) 
   -- what it knows by its role is true
   pub role : IsRole vs j v.role
 
--- the rule, where there are `cores` cores
+-- the rule, for `cores` cores
 pub record ControlRule (cores : ℕ) (s : State ℕ View) : Type 0 where
   -- the words are done, stop and sleepers
   pub wide : length s.words ≡ 3
@@ -91,7 +91,7 @@ pub record ControlRule (cores : ℕ) (s : State ℕ View) : Type 0 where
   -- each core has at most one seat, and a core whose seat was not given has none
   pub alone : (i : ℕ) → named_in i s.views ≤ 1
   pub given : (i : ℕ) → cores_in s.views ≤ i → named_in i s.views ≡ 0
-  -- a bit of sleepers is 1 exactly where the seat of the core with its number has announced itself
+  -- a bit of sleepers is 1 if and only if the seat of the core with its number has announced itself
   pub sleepers : (i : ℕ) → bit_at (slice_index s.words 2) i ≡ asleep_in i s.views
   -- what each seat knows is true
   pub each : (j : ℕ) (v : View) → get_elem? s.views j ≡ some v → Knows s.words s.views cores j v

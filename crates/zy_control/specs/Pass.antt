@@ -55,6 +55,6 @@ seeing_stop value p = held p.table p.role p.cores (stop_step value p.trace)
 abbrev pub seeing_sleepers : ℕ → Held → Held
 seeing_sleepers value p = held p.table p.role p.cores (sleepers_step value p.trace)
 
--- the pass of a core that has announced itself, or withdrawn that; after that step sleepers had this value
+-- the pass of a core that has announced itself, or withdrawn; after that step sleepers had this value
 abbrev pub resting : Bool → ℕ → Held → Held
 resting is value p = held p.table (announcing is p.role) p.cores (sleepers_step value p.trace)

@@ -54,7 +54,7 @@ impl Model for Control {
 }
 
 impl Control {
-    /// The words of `cores` cores, of which none is done and none rests, and their root.
+    /// Makes the words of `cores` cores, of which none is done and none rests, and their root.
     pub fn new(alloc: Global, cores: u64) -> Result<(Control, ControlRoot), NoMemory>
         ensures cores { IfOk result (λ made. made.0.cores ≡ cores) }
         ensures root { IfOk result (λ made. made.1 ≡ rooted made.0.id 0 cores) }
@@ -72,7 +72,7 @@ impl Control {
         }
     }
 
-    /// The pass of the next core. It is never refused, and takes no memory.
+    /// Makes the pass of the next core. This takes no memory, and cannot fail.
     pub fn seat(&self, root: &mut ControlRoot) -> Result<ControlPass, NoMemory>
         requires table { root.old.table ≡ self.now.id }
         requires few { root.old.given < self.now.cores }
@@ -92,8 +92,8 @@ impl Control {
         })
     }
 
-    /// A pass of a watcher, which never counts itself, and whether the cores are to stop. The pass
-    /// is made by its first load of stop.
+    /// Makes a pass of a watcher, which never counts itself, by a load of stop, and returns whether
+    /// the cores are to stop.
     pub fn watch(&self) -> (ControlPass, bool)
         ensures value { result.0 ≡ watching self.now result.0.trace.stop.value }
         ensures stop { result.1 ≡ not (result.0.trace.stop.value == 0) }
@@ -108,7 +108,7 @@ impl Control {
         (pass, found != 0)
     }
 
-    /// The core counts itself, which it does once: done rises by one.
+    /// Counts the core, which is done once: done rises by one.
     pub fn count(&self, pass: &mut ControlPass)
         requires table { pass.old.table ≡ self.now.id }
         requires first { IsUncounted pass.old.role }
@@ -121,8 +121,8 @@ impl Control {
         pass.counted = true;
     }
 
-    /// How many cores have counted themselves, by one load of done. If all have, this core is among
-    /// them.
+    /// Returns how many cores have counted themselves, by one load of done. If all have, this core
+    /// is among them.
     pub fn load_done(&self, pass: &mut ControlPass) -> u64
         requires table { pass.old.table ≡ self.now.id }
         ensures pass { pass.new ≡ seeing_done result pass.old }
@@ -132,7 +132,8 @@ impl Control {
         self.table.shared.load::<SeesDone>(&mut pass.seat, DONE)
     }
 
-    /// Whether all cores have counted themselves, by one load of done. If so, this core is among them.
+    /// Checks whether all cores have counted themselves, by one load of done. If so, this core is
+    /// among them.
     pub fn is_done(&self, pass: &mut ControlPass) -> bool
         requires table { pass.old.table ≡ self.now.id }
         ensures value { result ≡ (pass.new.trace.done.value == pass.old.cores) }
@@ -143,7 +144,7 @@ impl Control {
         self.load_done(pass) == pass.cores
     }
 
-    /// Asks all cores to stop: bit 0 of stop is set.
+    /// Asks all cores to stop: sets bit 0 of stop.
     pub fn stop(&self, pass: &mut ControlPass)
         requires table { pass.old.table ≡ self.now.id }
         ensures pass { pass.new ≡ seeing_stop pass.new.trace.stop.value pass.old }
@@ -153,7 +154,7 @@ impl Control {
         self.table.shared.fetch_or::<Stops>(&mut pass.seat, STOP, 1);
     }
 
-    /// One load of stop, which is 0 while the cores are not to stop.
+    /// Loads stop, which is 0 until the cores are to stop.
     pub fn load_stop(&self, pass: &mut ControlPass) -> u64
         requires table { pass.old.table ≡ self.now.id }
         ensures pass { pass.new ≡ seeing_stop result pass.old }
@@ -162,7 +163,7 @@ impl Control {
         self.table.shared.load::<SeesStop>(&mut pass.seat, STOP)
     }
 
-    /// Whether the cores are to stop, by one load of stop.
+    /// Checks whether the cores are to stop, by one load of stop.
     pub fn is_stopped(&self, pass: &mut ControlPass) -> bool
         requires table { pass.old.table ≡ self.now.id }
         ensures value { result ≡ not (pass.new.trace.stop.value == 0) }
@@ -172,7 +173,7 @@ impl Control {
         self.load_stop(pass) != 0
     }
 
-    /// The core announces that it rests unless it finds something to do: its bit of sleepers is set.
+    /// Announces that the core rests unless it finds something to do: sets its bit of sleepers.
     pub fn announce(&self, pass: &mut ControlPass)
         requires table { pass.old.table ≡ self.now.id }
         requires core { HasBit pass.old.role }
@@ -185,7 +186,7 @@ impl Control {
             .fetch_or::<Announces>(&mut pass.seat, SLEEPERS, bit);
     }
 
-    /// The core no longer rests: its bit of sleepers is cleared.
+    /// Withdraws the announcement: clears the core's bit of sleepers.
     pub fn withdraw(&self, pass: &mut ControlPass)
         requires table { pass.old.table ≡ self.now.id }
         requires core { HasBit pass.old.role }
@@ -198,7 +199,7 @@ impl Control {
             .fetch_and::<Withdraws>(&mut pass.seat, SLEEPERS, !bit);
     }
 
-    /// One load of sleepers: the bit with the number of a core is 1 where it has announced itself.
+    /// Loads sleepers: the bit with the number of a core is 1 if the core has announced itself.
     pub fn load_sleepers(&self, pass: &mut ControlPass) -> u64
         requires table { pass.old.table ≡ self.now.id }
         ensures pass { pass.new ≡ seeing_sleepers result pass.old }

@@ -1,5 +1,5 @@
-//! The control words that the cores of a run share: the number of cores that are done, and whether
-//! all are to stop.
+//! The control words that the cores of a run share: the number of cores that are done, whether all
+//! are to stop, and which cores rest.
 #![tactic(auto)]
 
 mod control;

@@ -48,14 +48,14 @@ impl Model for ControlPass {
 }
 
 impl ControlPass {
-    /// The number of its core; 0 for a watcher.
+    /// Returns the number of its core; 0 for a watcher.
     pub fn number(&self) -> u64
         ensures value { result ≡ number_of self.now.role }
     {
         self.number
     }
 
-    /// Whether its core has counted itself.
+    /// Checks whether its core has counted itself.
     pub fn is_counted(&self) -> bool
         ensures value { result ≡ has_counted self.now.role }
     {

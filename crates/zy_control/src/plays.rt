@@ -1,4 +1,4 @@
-//! What a seat learns from each step on the control words. These types are for the proofs alone.
+//! What a seat learns from each step on the control words. These types are for proofs only.
 ghost use Rattle.zy_control.specs.View.{gave, newcomer};
 ghost use Rattle.zy_control.specs.Step.{counts, sees_done, sees_stop, stops, announces, withdraws, sees_sleepers};
 ghost use Rattle.zy_control.specs.Step.{enters};
