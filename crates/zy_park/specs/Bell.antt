@@ -16,7 +16,7 @@ seated table view = record { table = table; view = view }
 abbrev pub tables_of : List Seated → List TableId
 tables_of seats = map (λ (s : Seated). s.table) seats
 
--- and what each of them knows
+-- what each of some seats knows
 abbrev pub views_of : List Seated → List View
 views_of seats = map (λ (s : Seated). s.view) seats
 
@@ -28,7 +28,7 @@ is_given (Some table) = false
 abbrev pub given_of : List (Option TableId) → List Bool
 given_of sleepers = map is_given sleepers
 
--- the seat at the bell of this table that begins
+-- a new seat at the bell of this table
 abbrev pub new_seat : TableId → Seated
 new_seat table = seated table unrung
 
@@ -37,7 +37,7 @@ abbrev pub IsParker : TableId → Option TableId → Type 0
 IsParker table None = Unit {0}
 IsParker table (Some own) = own ≡ table
 
--- for each table there is the place of its parker
+-- there is an entry for the parker of each table
 abbrev pub AreParkers : List TableId → List (Option TableId) → Type 0
 AreParkers [] [] = Unit {0}
 AreParkers [] (s ∷ ss) = ⊥

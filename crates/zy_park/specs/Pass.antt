@@ -47,17 +47,17 @@ GaveNone root = (core : ℕ) → core < length root.bells → IsFree root core
 
 -- ---- steps
 
--- the views, of which the one with this index was changed so
+-- the views after this change of the one with this index
 abbrev pub change_at : (View → View) → ℕ → List View → List View
 change_at f i [] = []
 change_at f zero (v ∷ vs) = f v ∷ vs
 change_at f (suc i) (v ∷ vs) = v ∷ change_at f i vs
 
--- the token of this core was put by the pass
+-- the pass after it put the token of this core
 abbrev pub ringing : ℕ → Passed → Passed
 ringing core p = passed p.bells p.core (change_at rings core p.views)
 
--- and by the root
+-- the root after it did the same
 abbrev pub ringing_from : ℕ → Rooted → Rooted
 ringing_from core r = rooted r.bells r.given (change_at rings core r.views)
 
@@ -74,6 +74,6 @@ rung_by word core (v ∷ vs) = (if bit_at word core == 1 then rings v else v) �
 abbrev pub ringing_each : ℕ → Passed → Passed
 ringing_each word p = passed p.bells p.core (rung_by word 0 p.views)
 
--- and by the root
+-- the root after it did the same
 abbrev pub ringing_each_from : ℕ → Rooted → Rooted
 ringing_each_from word r = rooted r.bells r.given (rung_by word 0 r.views)

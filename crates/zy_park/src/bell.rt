@@ -31,7 +31,7 @@ impl Outcome<bool, View> for Rings {
     ghost then = { puts };
 }
 
-// The pass on the control words that a rest is given, if it is given one.
+// The pass on the control words that is lent to a rest, if there is one.
 pub(crate) trait Lent {
     ghost use Rattle.std.specs.Prelude.{Option};
     ghost use Rattle.zy_control.specs.Pass.{Held};
@@ -102,7 +102,7 @@ impl Model for BellSeat {
 }
 
 impl Bell {
-    // A bell whose token is not there: its two ends, and the first seat at it.
+    // Makes a bell whose token is not there: its two ends, and the first seat at it.
     pub(crate) fn new(alloc: Global) -> Result<(Bell, Sleeper, BellSeat), NoMemory>
         ensures sleeper { IfOk result (λ made. made.1 ≡ made.0) }
         ensures seat { IfOk result (λ made. made.2 ≡ seated made.0 unrung) }
@@ -118,7 +118,7 @@ impl Bell {
         Ok((Bell { unparker }, Sleeper { parker }, BellSeat { pass }))
     }
 
-    // A further seat at its token. Takes no memory.
+    // Makes another seat at its token. Takes no memory.
     pub(crate) fn enter(&self) -> BellSeat
         ensures value { result ≡ seated self.now unrung }
     {

@@ -31,7 +31,7 @@ impl Model for Bells {
 }
 
 impl Bells {
-    /// The bells of `cores` cores, none of whose tokens is there, and their root.
+    /// Makes the bells of `cores` cores, none of whose tokens is there, and their root.
     pub fn new(alloc: Global, cores: u32) -> Result<(Bells, BellRoot), NoMemory>
         requires cores { (1 ≤ cores) × (cores ≤ 64) }
         ensures cores { IfOk result (λ made. length made.0 ≡ cores) }
@@ -53,7 +53,8 @@ impl Bells {
         }
     }
 
-    /// The pass of a core, with the core's own parker. After a refusal the root is as it was.
+    /// Makes the pass of a core, with the core's own parker. If allocation fails, the root is as it
+    /// was.
     pub fn seat(&self, root: &mut BellRoot, core: u32) -> Result<BellPass, NoMemory>
         requires bells { root.old.bells ≡ self.now }
         requires free { IsFree root.old core }
@@ -71,7 +72,7 @@ impl Bells {
         })
     }
 
-    /// Puts the token of a core, in one step, and wakes that core if it rests. It waits for nobody,
+    /// Puts the token of a core, in one step, and wakes that core if it rests. It does not wait,
     /// and takes no memory.
     pub fn ring(&self, pass: &mut BellPass, core: u32)
         requires bells { pass.old.bells ≡ self.now }
@@ -81,7 +82,7 @@ impl Bells {
         ring_at(&self.items, &mut pass.seats, core);
     }
 
-    /// As `ring`, with the root in place of a pass.
+    /// Rings as `ring`, with the root instead of a pass.
     pub fn ring_from(&self, root: &mut BellRoot, core: u32)
         requires bells { root.old.bells ≡ self.now }
         requires core { core < length self.now }
@@ -90,7 +91,7 @@ impl Bells {
         ring_at(&self.items, &mut root.seats, core);
     }
 
-    /// As `ring`, for each core whose bit is 1 in the word, by rising core.
+    /// Rings as `ring`, each core whose bit is 1 in the word, by rising core.
     pub fn ring_each(&self, pass: &mut BellPass, word: u64)
         requires bells { pass.old.bells ≡ self.now }
         requires few { length self.now ≤ 64 }
@@ -99,7 +100,7 @@ impl Bells {
         ring_each_at(&self.items, &mut pass.seats, word);
     }
 
-    /// As `ring_each`, with the root in place of a pass.
+    /// Rings as `ring_each`, with the root instead of a pass.
     pub fn ring_each_from(&self, root: &mut BellRoot, word: u64)
         requires bells { root.old.bells ≡ self.now }
         requires few { length self.now ≤ 64 }
@@ -117,9 +118,10 @@ impl Bells {
         self.rest_as::<Brand, R>(rt, pass, None);
     }
 
-    /// As `rest`, by a core that has this pass on the control words, which is left as it is. For
-    /// contracts the bell pass keeps it: so they can say whose pass it was, what the core had announced
-    /// by it when it rested, and which of its steps on the control words came before that.
+    /// Rests as `rest`, by a core that has this pass on the control words, which is left as it is.
+    /// Contracts see it kept in the bell pass, so that they can say whose pass it was, what the
+    /// core had announced by it when it rested, and which of its steps on the control words came
+    /// before that.
     pub fn rest_by<R: Wait>(&self, rt: &R, pass: &mut BellPass, control: &ControlPass)
         requires bells { pass.old.bells ≡ self.now }
         ensures value { pass.new ≡ resting (Some control.now) pass.old }
@@ -127,7 +129,7 @@ impl Bells {
         self.rest_as::<Brand, R>(rt, pass, Some(control));
     }
 
-    // The same, where the type names the pass on the control words, which is lent for contracts alone.
+    // Rests as `rest`. `J` names the pass on the control words, which is lent for contracts only.
     fn rest_as<J: Lent, R: Wait>(&self, rt: &R, pass: &mut BellPass, _control: Option<&ControlPass>)
         requires bells { pass.old.bells ≡ self.now }
         ensures value { pass.new ≡ resting J.lent pass.old }
@@ -135,7 +137,7 @@ impl Bells {
         rest_at::<J, R>(rt, &pass.sleeper, &mut pass.seats, pass.core);
     }
 
-    /// The number of cores.
+    /// Returns the number of cores.
     pub fn count(&self) -> usize
         ensures value { result ≡ length self.now }
     {

@@ -26,7 +26,7 @@ impl Model for BellPass {
 }
 
 impl BellPass {
-    /// The number of its core.
+    /// Returns the number of its core.
     pub fn core(&self) -> u32
         ensures value { result ≡ self.now.core }
     {

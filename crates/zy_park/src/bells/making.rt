@@ -1,4 +1,4 @@
-//! Makes bells, and the passes at them.
+//! Making bells, and the passes at them.
 ghost use Rattle.std.specs.Prelude.{◌≡◌, ◌+◌, ◌≤◌, length, [], ◌∷◌, ◌++◌, map, Some, None, false, slice_get, slice_set, IfOk, OnOk};
 ghost use Rattle.zy_park.specs.Pass.{new_root};
 ghost use Rattle.zy_park.specs.Bell.{given_of, new_seat};
@@ -8,7 +8,7 @@ use crate::pass::BellRoot;
 use std::alloc::Global;
 use zy_base::NoMemory;
 
-// Adds the bells of `cores` cores, where there are none.
+// Adds the bells of `cores` cores to an empty list.
 pub(crate) fn add_all(
     alloc: Global,
     cores: u32,
@@ -42,7 +42,7 @@ fn add(alloc: Global, bells: &mut Vec<Bell>, root: &mut BellRoot) -> Result<(), 
     Ok(())
 }
 
-// A seat at each bell.
+// Makes a seat at each bell.
 pub(crate) fn enter_each(bells: &Vec<Bell>) -> Result<Vec<BellSeat>, NoMemory>
     ensures value { IfOk result (λ seats. seats.items ≡ map new_seat bells.now.items) }
 {

@@ -1,4 +1,4 @@
-//! Puts the tokens of cores, and takes them.
+//! Putting the tokens of cores, and taking them.
 ghost use Rattle.std.specs.Prelude.{◌≡◌, ◌<◌, ◌≤◌, ◌==◌, length, Some, slice_get};
 ghost use Rattle.std.specs.Int.{bit_at};
 ghost use Rattle.zy_park.specs.Token.{rings, takes};
@@ -33,7 +33,7 @@ pub(crate) fn ring_each_at(bells: &Vec<Bell>, seats: &mut Vec<BellSeat>, word: u
     }
 }
 
-// Whether the bit with this number is 1 in the word.
+// Checks whether the bit with this number is 1 in the word.
 fn is_set(word: u64, number: u32) -> bool
     requires within { number < 64 }
     ensures value { result ≡ (bit_at word number == 1) }
