@@ -36,7 +36,7 @@ pub record AreHolds (cores connection finished : ℕ) (holds : List Hold) : Type
 abbrev pub hold_by : ℕ → ℕ → ℕ → Hold
 hold_by core connection count = record { core = core; conn = connection; count = count }
 
--- if commands were finished, there is one further hold, with the core, the connection and their
+-- if commands were finished, there is one more hold, with the core, the connection and their
 -- number; otherwise the holds stay as they were
 pub record IsRecorded (core : ℕ) (before after : Blocked) : Type 0 where
   pub none : after.work.finished ≡ before.work.finished → after.holds ≡ before.holds

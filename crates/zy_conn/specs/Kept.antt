@@ -1,4 +1,4 @@
--- What a connection's work keeps: the commands of the frames taken are carried out in order, each
+-- What a connection's work keeps: the commands of the frames taken are executed in order, each
 -- expected call is made once, and each text is written once.
 use Rattle.std.specs.Prelude.{◌≡◌, ℕ, ◌<◌, ◌≤◌, ◌^◌, List, [], ◌∷◌, ◌++◌, length, take}
 use Rattle.mc_calls.specs.declared.call_reply.CallReply.{CallReply}

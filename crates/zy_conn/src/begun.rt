@@ -15,16 +15,17 @@ use zy_frame::{Frame, meaning_in};
 // The most keys for which room is kept.
 const KEY_ROOM: usize = 128;
 
-/// What is begun: nothing, a frame that was taken from the event ring, or the command of that frame, of whose
-/// calls the first were made. Contracts see which of these.
+/// What is begun: nothing, a frame that was taken from the event ring, or the command of that
+/// frame, with the calls that were made. Contracts see which of these.
 ///
-/// A command stays in its place when it was finished, until the next one is read: so it is moved once.
+/// A finished command stays in its place until the next one is read, so that it is moved once.
 #[derive(Drop)]
 pub(crate) struct Begun {
     // Whether the command is in progress.
     going: bool,
     command: Command,
-    // A frame for whose command there was no memory, if no command is in progress.
+    // A frame whose command could not be allocated, if there is one; then no command is in
+    // progress.
     frame: Option<Frame>,
     // Room for the keys of the next retrieval, which the last one had.
     room: Vec<Blob>,
@@ -39,7 +40,7 @@ impl Model for Begun {
 }
 
 impl Begun {
-    /// Nothing is begun.
+    /// Begins with nothing.
     pub(crate) fn new(alloc: Global) -> Begun
         ensures value { result ≡ no_frame }
     {
@@ -51,21 +52,21 @@ impl Begun {
         }
     }
 
-    /// Whether a command is in progress.
+    /// Checks whether a command is in progress.
     pub(crate) fn is_going(&self) -> bool
         ensures value { result ≡ is_going self.now }
     {
         self.going
     }
 
-    /// Whether a frame was taken whose command was not read.
+    /// Checks whether a frame was taken whose command was not read.
     pub(crate) fn is_alone(&self) -> bool
         ensures value { result ≡ is_alone self.now }
     {
         !self.going && self.frame.is_some()
     }
 
-    /// The command in progress.
+    /// Returns the command in progress.
     pub(crate) fn command(&self) -> &Command
         requires going { is_going self.now ≡ true }
         ensures value { self.now ≡ command_read result.now }
@@ -73,8 +74,8 @@ impl Begun {
         &self.command
     }
 
-    /// Takes the frame whose command was not read; then nothing is begun. `None`, and nothing changes, if
-    /// there is no such frame.
+    /// Takes the frame whose command was not read; then nothing is begun. If there is none, answers
+    /// `None` and changes nothing.
     pub(crate) fn take_frame(&mut self) -> Option<Frame>
         ensures some { IfSome result (λ frame. (self.old ≡ frame_alone frame) × (self.new ≡ no_frame)) }
         ensures none { IfNone result ((self.new ≡ self.old) × (is_alone self.old ≡ false)) }
@@ -85,7 +86,8 @@ impl Begun {
         mem::replace(&mut self.frame, None)
     }
 
-    /// Reads the command of a frame where nothing is begun, and begins it. After a refusal the frame is kept.
+    /// Reads the command of a frame, when nothing is begun, and begins it. If allocation fails, the
+    /// frame is kept.
     pub(crate) fn read(&mut self, alloc: Global, frame: Frame) -> Result<(), NoMemory>
         requires none { self.old ≡ no_frame }
         ensures ok { OnOk result (self.new ≡ command_read (command_of frame)) }

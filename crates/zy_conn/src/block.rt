@@ -54,8 +54,8 @@ impl Marked for Block {
 }
 
 impl Block {
-    /// The block of a connection that any of 64 cores may hold, with the other end of its event ring.
-    /// After a refusal the pass is handed back. The program calls `among`.
+    /// Makes the block of a connection that any of 64 cores may hold, with the other end of its
+    /// event ring. If allocation fails the pass is handed back. The program calls `among`.
     pub fn new(
         alloc: Global,
         conn: u32,
@@ -70,7 +70,7 @@ impl Block {
         Block::among(alloc, conn, 64, pass)
     }
 
-    /// As `new`, for a connection that only cores below `cores` may hold.
+    /// Makes a block as `new`, for a connection that only cores below `cores` may hold.
     pub fn among(
         alloc: Global,
         conn: u32,
@@ -104,21 +104,21 @@ impl Block {
         }
     }
 
-    /// The connection.
+    /// Returns the connection.
     pub fn conn(&self) -> u32
         ensures value { result ≡ self.now.work.conn }
     {
         self.work.conn()
     }
 
-    /// The number of finished commands.
+    /// Returns the number of finished commands.
     pub fn finished(&self) -> u64
         ensures value { result ≡ self.now.work.finished }
     {
         self.work.finished()
     }
 
-    /// Whether a command is in progress or a frame is known.
+    /// Checks whether a command is in progress or a frame is known.
     pub fn has_event(&self) -> bool
         ensures value { result ≡ has_event self.now.work }
     {
@@ -152,9 +152,9 @@ impl Block {
         self.work.take_batch()
     }
 
-    /// Moves the texts that wait to an output, with the number of finished commands; no text is left.
-    /// The block keeps their room for further texts, up to 64 KiB. After a refusal block and output are
-    /// as they were.
+    /// Moves the texts that wait to an output, with the number of finished commands; no text is
+    /// left. The block keeps their room for more texts, up to 64 KiB. If allocation fails, block
+    /// and output are as they were.
     pub fn send_to(&mut self, output: &mut Output) -> Result<(), NoMemory>
         ensures output { OnOk result (output.new ≡ with_batch output.old (batch_waiting self.old.work)) }
         ensures block { OnOk result (self.new ≡ record self.old {
@@ -177,7 +177,8 @@ impl Block {
         self.work.take_room(room)
     }
 
-    /// Gives its room back, if no text waits and there is none yet: once its texts were moved to the output.
+    /// Gives its room back, once its texts were moved to the output: if no text waits and `room` is
+    /// empty.
     pub fn give_room(&mut self, room: &mut Room)
         ensures same { self.new ≡ self.old }
         ensures room { room.new ≡ room.old }
@@ -185,9 +186,9 @@ impl Block {
         self.work.give_room(room)
     }
 
-    /// Carries out commands in order, at most 64, as one of the cores that may hold the block. A hold
-    /// that finished commands is recorded; the room for the record is reserved first. After a refusal
-    /// the calls that were made stay made, and a further hold goes on from there.
+    /// Executes commands in order, at most 64, as one of the cores that may hold the block. A hold
+    /// that finished commands is recorded; the room for the record is reserved first. If allocation
+    /// fails, the calls that were made stay made, and another hold goes on from there.
     pub fn hold<G: Gate>(
         &mut self,
         store: &StoreTable,
@@ -201,7 +202,7 @@ impl Block {
         ensures end { IfOk result (HeldTo self.old.work self.new.work) }
         ensures holds { IsRecorded core self.old self.new }
 
-        // What stays, also after a refusal.
+        // What stays, also if allocation fails.
         ensures table { self.new.work.table ≡ self.old.work.table }
         ensures cores { self.new.cores ≡ self.old.cores }
         ensures mark { mark_of self.new.work ≡ mark_of self.old.work }
@@ -219,7 +220,7 @@ impl Block {
         end
     }
 
-    /// The pass and the holds, with what the block has kept. Takes no memory.
+    /// Returns the pass and the holds, with all that the block has done. Takes no memory.
     pub fn into_parts(self) -> (Pass, Holds)
         ensures pass { result.0 ≡ passed self.work.table self.work.conn self.work.calls self.work.trace }
         ensures holds { result.1 ≡ self.holds }

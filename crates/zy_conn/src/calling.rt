@@ -21,7 +21,7 @@ pub(crate) enum Made {
 }
 
 /// Makes the next call of a command; the calls before it got these replies. The room for its reply
-/// is reserved first. After a refusal the call was not made.
+/// is reserved first. If allocation fails, the call was not made.
 pub(crate) fn next_call(
     pass: &mut Pass,
     store: &StoreTable,
@@ -110,7 +110,7 @@ fn make_get(
     }
 }
 
-// The tag of the next call of a command, whose calls before it got these replies.
+// Returns the tag of the next call of a command, whose calls before it got these replies.
 #[inline(always)]
 fn next_tag(pass: &Pass, index: u64, replies: &Vec<CallReply>) -> Result<Tag, NoMemory>
     ensures value { IfOk result (λ tag. tag ≡ tag_of pass.now.conn index (length replies.now.items)) }

@@ -1,4 +1,4 @@
-//! Carrying out commands in one hold.
+//! The commands of one hold.
 ghost use Rattle.std.specs.Prelude.{◌≡◌, ◌+◌, ◌≤◌, IfOk};
 ghost use Rattle.zy_conn.specs.Hold.{HeldTo};
 ghost use Rattle.zy_conn.specs.Step.{StepsOn};
@@ -8,7 +8,7 @@ use crate::work::Work;
 use mc_store::StoreTable;
 use zy_base::{Gate, HOLD_LIMIT, NoMemory};
 
-/// Carries out commands in order, at most 64, and returns how many were finished, and why it ended.
+/// Executes commands in order, at most 64, and returns how many were finished, and why it ended.
 pub(crate) fn carry_out<G: Gate>(
     work: &mut Work,
     store: &StoreTable,

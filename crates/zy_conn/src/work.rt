@@ -36,7 +36,7 @@ pub(crate) struct Work {
     pass: Pass,
     frames: RingOutlet<Frame>,
     begun: Begun,
-    // The replies so far to a command with its calls; the list is used again for each command.
+    // The replies so far to the command in progress. The list is used again for each command.
     replies: Vec<CallReply>,
     // The number of commands whose texts were taken.
     shown: u64,
@@ -58,8 +58,8 @@ impl Model for Work {
 }
 
 impl Work {
-    /// The work of a pass without calls: no frame was offered, and no command is in progress. After
-    /// a refusal the pass is handed back.
+    /// Makes the work of a pass without calls: no frame was offered, and no command is in progress.
+    /// If allocation fails, the pass is handed back.
     pub(crate) fn new(alloc: Global, pass: Pass) -> Result<(Work, EventInlet), (Pass, NoMemory)>
         requires empty { pass.calls ≡ [] }
         ensures work { IfOk result (λ made. made.0
@@ -84,21 +84,21 @@ impl Work {
         }
     }
 
-    /// The connection.
+    /// Returns the connection.
     pub(crate) fn conn(&self) -> u32
         ensures value { result ≡ self.now.conn }
     {
         self.pass.conn()
     }
 
-    /// The number of finished commands.
+    /// Returns the number of finished commands.
     pub(crate) fn finished(&self) -> u64
         ensures value { result ≡ self.now.finished }
     {
         self.batch.finished()
     }
 
-    /// Whether a command is in progress or a frame is known.
+    /// Checks whether a command is in progress or a frame is known.
     pub(crate) fn has_event(&self) -> bool
         ensures value { result ≡ has_event self.now }
     {
@@ -136,7 +136,7 @@ impl Work {
     }
 
     /// Moves the texts that wait to an output, with the number of finished commands; no text is left,
-    /// and room of up to 64 KiB is kept. After a refusal nothing has changed.
+    /// and room of up to 64 KiB is kept. If allocation fails, nothing has changed.
     pub(crate) fn send_to(&mut self, output: &mut Output) -> Result<(), NoMemory>
         ensures output { OnOk result (output.new ≡ with_batch output.old (batch_waiting self.old)) }
         ensures work { OnOk result (self.new ≡ record self.old { shown = self.old.finished; batch = [] }) }
@@ -156,7 +156,7 @@ impl Work {
         self.batch.take_room(room);
     }
 
-    /// Gives its room back, if no text waits and there is none yet.
+    /// Gives its room back, if no text waits and `room` is empty.
     pub(crate) fn give_room(&mut self, room: &mut Room)
         ensures same { self.new ≡ self.old }
         ensures room { room.new ≡ room.old }
@@ -164,7 +164,7 @@ impl Work {
         self.batch.give_room(room);
     }
 
-    /// The pass, with what the work has kept.
+    /// Returns the pass, with all that the work has done.
     pub(crate) fn into_pass(self) -> Pass
         ensures pass { result ≡ passed self.table self.conn self.calls self.trace }
         ensures kept { KeepsCommands self }

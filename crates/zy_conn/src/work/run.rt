@@ -1,4 +1,4 @@
-//! Carries one command out, from where it is to its end.
+//! One command, from where it is to its end.
 ghost use Rattle.std.specs.Prelude.{◌≡◌, ◌+◌, ◌≤◌, OnErr, IfOk, MatchOption};
 ghost use Rattle.zy_conn.specs.Work.{idle};
 ghost use Rattle.zy_conn.specs.Step.{IsGoing, IsAllMade, StepsOn, StopsBy};

@@ -1,4 +1,4 @@
-//! The steps of a connection's work. A step that is refused memory leaves the work as it was.
+//! The steps of a connection's work. A step whose allocation fails leaves the work as it was.
 ghost use Rattle.std.specs.Prelude.{◌≡◌, ◌≢◌, ◌+◌, ◌≤◌, OnOk, OnErr, IfOk, MatchOption};
 ghost use Rattle.zy_calls.specs.Batch.{with_text};
 ghost use Rattle.mc_reply.specs.Text.{text};
@@ -56,7 +56,7 @@ impl Work {
         }
     }
 
-    // Reads the command of the frame that is begun, for which there was no memory before.
+    // Reads the command of the frame that is begun, after an allocation for it has failed.
     fn read_again(&mut self, shards: u32) -> Result<(), NoMemory>
         requires shards { shards ≡ self.old.table.slots }
         requires some { 1 ≤ shards }
