@@ -1,4 +1,4 @@
--- What a home keeps and does, once it received an item, or several.
+-- What a home keeps and does when it receives an item, or several.
 use Rattle.std.proofs.Common.{◌≡◌, ℕ, ◌≤◌, List, [], ◌∷◌, ◌++◌, length, Option, Some, None, slice_get, refl, sym, ap, ◌∙◌, subst, arith}
 use Rattle.zy_rx.specs.declared.rx.Rx.{Rx}
 use Rattle.zy_shuffle.specs.Run.{was_idle}

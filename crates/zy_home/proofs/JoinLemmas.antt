@@ -1,4 +1,4 @@
--- What a home keeps when a block comes into its hand, or when its pass only looked.
+-- What a home keeps when a block comes into its hand, or when only its pass has seen something.
 use Rattle.std.proofs.Common.{◌≡◌, ℕ, zero, suc, ◌<◌, List, [], ◌∷◌, length, set, true, false, Option, Some, None, slice_get, refl, sym, ap, ◌∙◌, subst, arith}
 use mathlib.Core.Logic.{dite}
 use native.Mathlib.Decide.{ℕ_discrete}

@@ -1,4 +1,4 @@
--- What a home may have received, and what it did, once it took an item in or dropped it.
+-- What a home may have received, and what it did, after it took or dropped an item.
 use Rattle.std.specs.Prelude.{◌==◌, ◌||◌, if◌then◌else◌}
 use Rattle.std.proofs.Common.{◌≡◌, ◌≢◌, ℕ, List, [], ◌∷◌, ◌++◌, set, Bool, true, false, Option, Some, None, slice_get, refl, sym, ap, ◌∙◌, subst, ne_eqb}
 use Rattle.zy_rx.specs.declared.rx.Rx.{Rx}

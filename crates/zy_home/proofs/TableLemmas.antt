@@ -1,4 +1,4 @@
--- The table of a core's connections, with one further connection, and the places that it has.
+-- The table of a core's connections, with one more connection, and the places that it has.
 use Rattle.std.proofs.Common.{◌≡◌, ◌≢◌, ℕ, zero, suc, ◌+◌, List, [], ◌∷◌, ◌++◌, length, false, Option, None, Some, slice_get, ◌≤◌, refl, sym, ap, ◌∙◌, subst, ⊎_elim, inl, inr}
 use Rattle.std.specs.Prelude.{◌⊎◌, IfSome, IfNone}
 use Rattle.std.proofs.lemmas.Option.{slice_get_past}

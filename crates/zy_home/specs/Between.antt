@@ -13,7 +13,7 @@ use Rattle.zy_home.specs.Items.{CutsOne, CutsEach, SettlesEach, StandsAll}
 
 -- ---- the rule
 
--- the rule of a home, of which blocks in the hand need not be idle
+-- the rule of a home whose blocks in the hand need not be idle
 abbrev pub IsOpen : Homed → Type 0
 IsOpen h = IsSoundHome (record h { refused = true })
 
@@ -23,7 +23,7 @@ IsBetween touched pass place link (Some block) =
     (mark_in block ≡ due_mark link) × (is_in place touched ≡ false → IsIdleWith block.work link)
 IsBetween touched pass place link None = IsAt pass place link None
 
--- the rule of each place, where these were touched
+-- the rule of each place, when these were touched
 abbrev pub Between : Homed → List ℕ → Type 0
 Between h touched = ((p : ℕ) (x : Option Blocked) (l : Link) → slice_get h.blocks p ≡ Some x
     → slice_get h.links p ≡ Some l → IsBetween touched h.pass p l x)
@@ -31,7 +31,7 @@ Between h touched = ((p : ℕ) (x : Option Blocked) (l : Link) → slice_get h.b
 
 -- ---- cutting
 
--- an idle block that is in the slot is idle still
+-- an idle block that is in the slot is still idle
 abbrev pub StaysIdle : Option Blocked → Link → Link → Type 0
 StaysIdle slot l l' = (block : Blocked) → slot ≡ Some block → IsIdleWith block.work l → IsIdleWith block.work l'
 

@@ -1,4 +1,4 @@
--- A connection at the end, when all that it received was carried out.
+-- A connection at the end, when all that it received was executed.
 use Rattle.std.specs.Prelude.{◌≡◌, ℕ, List, length, flat_map}
 use Rattle.mc_calls.specs.declared.entry.Entry.{Entry}
 use Rattle.mc_parse.specs.declared.command.Command.{Command}

@@ -15,7 +15,7 @@ use Rattle.zy_home.specs.Own.{own_conns}
 
 -- a home: its core, the number of cores, and the number of all connections; its pass; for each of
 -- its connections, by rising number, the block if it is in the home's hand, and what the home keeps
--- besides the block; whether the end was received; and whether memory was refused
+-- besides the block; whether the end was received; and whether an allocation failed
 pub record Homed : Type 0 where
   pub core : ℕ
   pub cores : ℕ
@@ -35,7 +35,7 @@ abbrev pub all_here : List (Option Blocked) → Bool
 all_here [] = true
 all_here (x ∷ xs) = is_some x && all_here xs
 
--- the end was received, and each connection is in the home's hand and idle, as it is there where no memory was refused
+-- the end was received, no allocation failed, and each block is in the home's hand, and so is idle
 abbrev pub is_settled : Homed → Bool
 is_settled h = h.ended && (not h.refused && all_here h.blocks)
 
@@ -71,9 +71,9 @@ pub record IsSoundHome (h : Homed) : Type 0 where
   pub conns : conns_in h.links ≡ own_conns h.core h.cores h.count
   pub long : length h.blocks ≡ length h.links
   pub places : h.pass.table.slots ≡ length h.links
-  -- the blocks in the hand, also where memory was refused
+  -- the rule of the blocks in the hand, even if an allocation failed
   pub here : (p : ℕ) (b : Blocked) → slice_get h.blocks p ≡ Some (Some b) → IsHere h.pass p b
-  -- and where it was not, in the hand they are idle
+  -- if none failed, each block in the hand is idle
   pub each : h.refused ≡ false → (p : ℕ) (x : Option Blocked) (l : Link)
       → slice_get h.blocks p ≡ Some x → slice_get h.links p ≡ Some l → IsAt h.pass p l x
 

@@ -8,8 +8,8 @@ use Rattle.zy_home.specs.Link.{Link, conn_of}
 abbrev pub mark_in : Blocked → Mark
 mark_in block = mark_of block.work
 
--- the mark that the block of a connection has: the connection, its event ring, and the texts of its output as those
--- ever taken from the block
+-- the mark that is expected of a connection's block: the connection, its event ring, and the texts of its output,
+-- which are those ever taken from the block
 abbrev pub due_mark : Link → Mark
 due_mark l = (conn_of l, (l.inlet.ring, l.output.texts))
 

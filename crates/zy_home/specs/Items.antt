@@ -47,7 +47,7 @@ abbrev pub StandsAll : Homed → List Rx → Homed → Type 0
 StandsAll h items h' = (earlier : List Rx) → HomeStands h earlier → HomeStands h' (earlier ++ items)
 
 -- this number of items was taken from the outlet and received: they were cut in their order, and then blocks were
--- settled. Fewer than 64 were taken only if no further item was known after the last look
+-- settled. Fewer than 64 were taken only if no more items were known after the last look
 pub record ReceivesAll (h : Homed) (o : Taking) (h' : Homed) (o' : Taking) (count : ℕ) : Type 0 where
   pub items : List Rx
   pub size : length items ≡ count
@@ -61,8 +61,8 @@ pub record ReceivesAll (h : Homed) (o : Taking) (h' : Homed) (o' : Taking) (coun
   pub places : List ℕ
   pub settles : SettlesEach cut places h'
 
--- memory was refused at an item, or when a block was settled: some items were cut and some blocks settled, and the
--- other blocks are in the hand where they were
+-- an allocation failed at an item, or when a block was settled: some items were cut and some blocks settled, and
+-- the other blocks are still in the hand
 pub record RefusedAmid (h h' : Homed) : Type 0 where
   pub items : List Rx
   pub cut : Homed

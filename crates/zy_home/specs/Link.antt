@@ -1,4 +1,4 @@
--- What a home keeps of a connection beside its block, and what the connection may have received.
+-- What a home keeps of a connection besides its block, and what the connection may have received.
 use Rattle.std.specs.Prelude.{◌≡◌, ℕ, ◌+◌, false, List, [], ◌∷◌, ◌++◌, length, flat_map}
 use Rattle.zy_frame.specs.declared.frame_kind.FrameKind.{FrameKind}
 use Rattle.zy_frame.specs.Cut.{frames_of}

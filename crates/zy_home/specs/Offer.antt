@@ -9,15 +9,15 @@ use Rattle.zy_home.specs.Link.{Link}
 abbrev pub Offers : EventInlet → List FrameKind → EventInlet → List FrameKind → Type 0
 Offers inlet waiting inlet' waiting' = inlet'.sent ++ waiting' ≡ inlet.sent ++ waiting
 
--- a frame waits only where no slot is known to be free
+-- a frame waits only if no slot is known to be free
 abbrev pub WaitsFull : Link → Type 0
 WaitsFull l = l.waiting ≢ [] → l.inlet.free ≡ 0
 
--- a frame waits only where the ring of the block has 64 frames that were not taken
+-- a frame waits only if the ring of the block has 64 frames that were not taken
 abbrev pub WaitsBehind : Link → Blocked → Type 0
 WaitsBehind l block = l.waiting ≢ [] → 64 + length block.work.taken ≤ length l.inlet.sent
 
--- where a frame still waits, each slot that was known to be free has a frame
+-- if a frame still waits, each slot that was known to be free has a frame
 abbrev pub IsFilled : EventInlet → EventInlet → List FrameKind → Type 0
 IsFilled inlet inlet' waiting' =
     waiting' ≢ [] → (n : ℕ) → n ≤ length inlet.sent + inlet.free → n ≤ length inlet'.sent

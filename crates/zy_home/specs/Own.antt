@@ -23,7 +23,7 @@ pub record IsTable (conns : List ℕ) (table : List (Option ℕ)) : Type 0 where
   pub there : (place conn : ℕ) → slice_get conns place ≡ Some conn → slice_get table conn ≡ Some (Some place)
   pub back : (place conn : ℕ) → slice_get table conn ≡ Some (Some place) → slice_get conns place ≡ Some conn
 
--- a connection is one of those
+-- a connection is one of those of a core
 abbrev pub IsOwn : ℕ → ℕ → ℕ → ℕ → Type 0
 IsOwn core cores count conn = (conn < count) × (home_of cores conn ≡ core)
 
@@ -39,7 +39,7 @@ is_end (Segment conn bytes) = false
 is_end (Close conn) = false
 is_end End = true
 
--- an item belongs to a connection that is not one of those
+-- an item belongs to a connection that is not one of those of a core
 abbrev pub IsOfOthers : ℕ → ℕ → ℕ → Rx → Type 0
 IsOfOthers core cores count (Segment conn bytes) = IsOwn core cores count conn → ⊥
 IsOfOthers core cores count (Close conn) = IsOwn core cores count conn → ⊥

@@ -1,4 +1,4 @@
--- What the calls on a home do at one of its places, and which causes of the ring their answers hand on.
+-- What the calls on a home do at one of its places, and which causes of the ring their answers pass on.
 use Rattle.std.specs.Prelude.{◌≡◌, ℕ, ◌+◌, ◌≤◌, [], ◌++◌, true, false, Bool, Some, None, slice_get, slice_set, map, is_some}
 use Rattle.zy_table.specs.Member.{is_in}
 use Rattle.zy_rx.specs.declared.rx.Rx.{Rx}
@@ -42,8 +42,8 @@ MeetsInlet given block = block ≡ record given {
 abbrev pub KnowsAll : Link → Blocked → Type 0
 KnowsAll l block = l.inlet.sent ≡ block.work.taken ++ block.work.known
 
--- the block that was given was settled at a place: its batch was taken, and it met its inlet; it was published if it
--- then has an event, as one of a connection that was so before, and stays in the home's hand otherwise. A frame waits
+-- the block that was given was settled at a place: its batch was taken, and it met its inlet. If it then has an event
+-- it was published, as one of a connection in this state before; otherwise it stays in the home's hand. A frame waits
 -- only if the ring is full
 pub record Settles (before : Before) (place : ℕ) (given : Blocked) (h h' : Homed) : Type 0 where
   pub block : Blocked
@@ -66,7 +66,7 @@ pub record PutsBack (place : ℕ) (h h' : Homed) : Type 0 where
 abbrev pub with_pass : Homed → Held Blocked → Homed
 with_pass h pass = record h { pass = pass }
 
--- nothing has changed but what the pass has seen
+-- nothing has changed except for what the pass has seen
 abbrev pub OnlyLooked : Homed → Homed → Type 0
 OnlyLooked h h' = h' ≡ with_pass h (record h.pass { trace = h'.pass.trace })
 
@@ -80,7 +80,7 @@ pub record StaysIn (places : ℕ) (h h' : Homed) : Type 0 where
 
 -- ---- holding
 
--- a core held a block, and this is why its hold ended: the hold is recorded with the core if it finished commands,
+-- a core held a block, and its hold ended for this reason: it is recorded with the core if it finished commands,
 -- at most 64; the block's mark and label are as before
 pub record HeldBy (core : ℕ) (before after : Blocked) (end : HoldEnd) : Type 0 where
   pub ends : HeldTo before.work after.work end
@@ -92,8 +92,8 @@ pub record HeldBy (core : ℕ) (before after : Blocked) (end : HoldEnd) : Type 0
 
 -- ---- answers
 
--- a block was collected and settled, which the home held until then; or the ring's collect took nothing, with its
--- cause, and nothing else changed
+-- a block was collected, and settled as one that was held; or the ring's collect took nothing, with its cause,
+-- and nothing else changed
 abbrev pub CollectsTo : ℕ → Homed → Homed → Bool → Type 0
 CollectsTo places h h' true = (place : ℕ) × (block : Blocked) × (pass : Held Blocked)
     × Collected mark_in label_in places h.pass pass (Some (place, block))

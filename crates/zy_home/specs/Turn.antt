@@ -1,4 +1,4 @@
--- What a step at one place is, of the parts of a home. No public clause cites this module.
+-- A step at one place, in terms of the parts of a home. No public clause cites this module.
 use Rattle.std.specs.Prelude.{◌≡◌, ◌≢◌, ℕ, ◌+◌, ◌≤◌, true, false, Option, Some, None, slice_get, slice_set}
 use Rattle.zy_table.specs.Member.{is_in}
 use Rattle.zy_shuffle.specs.Hand.{marked}
@@ -20,8 +20,8 @@ pub record IsDue (pass : Held Blocked) (place : ℕ) (link : Link) (block : Bloc
   pub mark : mark_in block ≡ due_mark link
   pub label : label_in block ≡ pass.label
 
--- the block that was given was settled: it was published if it has an event, as one of a connection that was so
--- before, and otherwise is in its slot, idle
+-- the block that was given was settled: it was published if it has an event, as one of a connection in this
+-- state before, and otherwise is in its slot, idle
 pub record IsSettled (before : Before) (place : ℕ) (given : Blocked) (link' : Link) (pass pass' : Held Blocked)
     (slot' : Option Blocked) : Type 0 where
   pub block : Blocked
@@ -36,7 +36,7 @@ pub record IsSettled (before : Before) (place : ℕ) (given : Blocked) (link' : 
   pub knows : KnowsAll link' block
   pub behind : WaitsBehind link' block
 
--- memory was refused, and the block is in its slot
+-- an allocation failed, and the block is in its slot
 pub record IsPutBack (pass pass' : Held Blocked) (slot' : Option Blocked) : Type 0 where
   pub block : Blocked
   pub label : label_in block ≡ pass.label

@@ -8,7 +8,7 @@ use std::marker::Model;
 use zy_base::NoMemory;
 use zy_conn::Block;
 
-/// Blocks of connections. Contracts see the list of them. A slot without a block is passed over.
+/// Blocks of connections. Contracts see the list of them. Slots without a block are skipped.
 #[derive(Drop)]
 pub struct Blocks {
     slots: VecDeque<Option<Block>>,
@@ -25,7 +25,7 @@ impl Model for Blocks {
 }
 
 impl Blocks {
-    /// No block. Takes no memory.
+    /// Begins without a block. Takes no memory.
     pub fn new(alloc: Global) -> Blocks
         ensures value { result ≡ [] }
     {
@@ -34,7 +34,7 @@ impl Blocks {
         }
     }
 
-    /// Appends; after a refusal the block is handed back.
+    /// Appends the block; if allocation fails it is handed back.
     pub fn push(&mut self, block: Block) -> Result<(), (Block, NoMemory)>
         ensures ok { OnOk result (self.new ≡ self.old ++ block ∷ []) }
         ensures err { OnErr result (self.new ≡ self.old) }
@@ -49,7 +49,7 @@ impl Blocks {
         Ok(())
     }
 
-    /// Takes the first block; `None` exactly where none is left. Takes no memory.
+    /// Takes the first block; `None` if and only if none is left. Takes no memory.
     pub fn next(&mut self) -> Option<Block>
         ensures value { self.old ≡ option_to_list result ++ self.new }
         ensures none { IfNone result (self.old ≡ []) }
@@ -63,14 +63,14 @@ impl Blocks {
         None
     }
 
-    // At least the number of blocks.
+    // Returns a number that is at least that of the blocks.
     pub(crate) fn room(&self) -> usize
         ensures value { length self.now ≤ result }
     {
         self.slots.len()
     }
 
-    // The blocks that are in these slots. Takes no memory.
+    // Makes a list of the blocks in these slots. Takes no memory.
     pub(crate) fn from_slots(slots: Vec<Option<Block>>) -> Blocks
         ensures value { result ≡ blocks_in slots.items }
     {

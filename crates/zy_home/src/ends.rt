@@ -24,7 +24,7 @@ impl Model for Ends {
 }
 
 impl Ends {
-    // The ends of these connections. Takes no memory.
+    // Makes the ends of these connections. Takes no memory.
     pub(crate) fn of(links: Vec<Link>) -> Ends
         ensures value { result ≡ map ended_of links.items }
     {
@@ -33,8 +33,8 @@ impl Ends {
         }
     }
 
-    /// Takes the first output, with the ends of the closed sessions: of each the number of commands
-    /// up to it. It is `None` exactly where none is left. Takes no memory.
+    /// Takes the first output, with the ends of the closed sessions. An end is the number of
+    /// commands up to it. It is `None` if and only if none is left. Takes no memory.
     pub fn next(&mut self) -> Option<(Output, Vec<u64>)>
         ensures value { IfSome result (λ end. self.old
             ≡ ended_output end.0 end.1.items ∷ self.new) }

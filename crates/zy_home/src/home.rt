@@ -41,8 +41,8 @@ impl Model for Home {
 }
 
 impl Home {
-    /// Whether the end was received, and each connection is in the home's hand and idle. A home that
-    /// was refused memory is not settled.
+    /// Checks whether the end was received, and each connection is in the home's hand and idle. A
+    /// home that lacked memory is not settled.
     pub fn is_settled(&self) -> bool
         ensures value { result ≡ is_settled self.now }
         ensures keeps { IsSoundHome self.now }
@@ -50,21 +50,23 @@ impl Home {
         self.links.ended && !self.refused && are_here(&self.blocks)
     }
 
-    /// Whether each block is in the home's hand, so that no other core has one and none is queued.
+    /// Checks whether each block is in the home's hand, so that no other core has one and none is
+    /// queued.
     pub fn has_all_blocks(&self) -> bool
         ensures value { result ≡ all_here self.now.blocks }
     {
         are_here(&self.blocks)
     }
 
-    /// Whether a call of this home was refused memory.
+    /// Checks whether an allocation failed in a call of this home.
     pub fn is_refused(&self) -> bool
         ensures value { result ≡ self.now.refused }
     {
         self.refused
     }
 
-    /// The pass, the blocks in the home's hand, and the ends of the connections. Takes no memory.
+    /// Returns the pass, the blocks in the home's hand, and the ends of the connections. Takes no
+    /// memory.
     pub fn into_outputs(self) -> (HomePass<Block>, Blocks, Ends)
         ensures pass { result.0 ≡ self.pass }
         ensures blocks { result.1 ≡ blocks_in self.blocks }
@@ -92,7 +94,7 @@ impl Home {
     }
 }
 
-// Whether each slot has its block.
+// Checks whether each slot has its block.
 fn are_here(blocks: &[Option<Block>]) -> bool
     ensures value { result ≡ all_here blocks.now }
 {

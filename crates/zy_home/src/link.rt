@@ -49,7 +49,7 @@ impl Model for Link {
 }
 
 impl Link {
-    /// The connection of this number, which has received nothing. Takes no memory.
+    /// Makes the connection of this number, which has received nothing. Takes no memory.
     pub fn new(alloc: Global, conn: u32, inlet: EventInlet) -> Link
         ensures value { IsFresh conn inlet result }
     {
@@ -65,14 +65,14 @@ impl Link {
         }
     }
 
-    /// The number of the connection.
+    /// Returns the number of the connection.
     pub fn conn(&self) -> u32
         ensures value { result ≡ conn_of self.now }
     {
         self.output.conn()
     }
 
-    /// Whether a frame waits.
+    /// Checks whether a frame waits.
     pub fn is_waiting(&self) -> bool
         ensures some { result ≡ true → self.now.waiting ≢ [] }
         ensures none { result ≡ false → self.now.waiting ≡ [] }
@@ -137,9 +137,9 @@ impl Link {
         offer_all(&mut self.inlet, &mut self.front, &mut self.waiting);
     }
 
-    /// Settles the connection's block: carries its batch out, shows it and the inlet what the other
-    /// did, offers the frames that wait, and returns whether the block then has an event. If it has
-    /// none, it is idle.
+    /// Settles the connection's block: moves its texts to the output, shows the block and the inlet
+    /// what the other did, offers the frames that wait, and returns whether the block then has an
+    /// event. If it has none, it is idle.
     pub fn settle(&mut self, block: &mut Block) -> Result<bool, NoMemory>
         requires mark { mark_in block.old ≡ due_mark self.old }
         ensures event { IfOk result (λ event. event ≡ has_event block.new.work) }
@@ -159,7 +159,7 @@ impl Link {
         Ok(block.has_event())
     }
 
-    /// The output of the connection, and the ends of its closed sessions. Takes no memory.
+    /// Returns the output of the connection, and the ends of its closed sessions. Takes no memory.
     pub fn into_end(self) -> (Output, Vec<u64>)
         ensures output { result.0 ≡ self.output }
         ensures ends { result.1.items ≡ self.ends }
@@ -178,7 +178,7 @@ impl Link {
     }
 }
 
-// The first of the frames that wait.
+// Takes the first of the frames that wait.
 fn next_waiting(front: &mut Option<Frame>, waiting: &mut Frames) -> Option<Frame>
     ensures value { option_to_list front.old ++ waiting.old ≡ option_to_list result ++ waiting.new }
     ensures front { front.new ≡ None }

@@ -4,7 +4,7 @@ use zy_base::Queue;
 use zy_conn::{Block, EventInlet};
 use zy_shuffle::HomePass;
 
-/// Ends of event rings.
+/// The ends of event rings to which frames are offered.
 pub type Inlets = Queue<EventInlet>;
 
 /// The parts of which a home is made: its pass on its ring, the blocks of its connections by rising

@@ -19,7 +19,7 @@ use zy_conn::{Block, HoldEnd};
 use zy_rx::Rx;
 use zy_shuffle::{HomePass, Publishing, Ring};
 
-// The connection of an item; the end has none.
+// Returns the connection of an item; the end has none.
 pub(crate) fn conn_in(item: &Rx) -> Option<u32>
     ensures value { result ≡ item_conn item.now }
 {
@@ -30,7 +30,7 @@ pub(crate) fn conn_in(item: &Rx) -> Option<u32>
     }
 }
 
-// Whether the end was received, once this item is.
+// Checks whether the end was received, once this item is.
 pub(crate) fn ended_by(ended: bool, item: &Rx) -> bool
     ensures value { result ≡ (ended || is_end item.now) }
 {
@@ -106,7 +106,7 @@ pub(crate) fn settle_at<B: Publishing>(
 }
 
 // Cuts an item of the connection. If its block is away, the frames that wait are offered. Says
-// whether its block is in the slot and was idle until now, and a frame waits for it.
+// whether its block is in the slot, was idle until now, and has a frame waiting for it.
 pub(crate) fn cut_at(slot: &Option<Block>, link: &mut Link, item: &Rx) -> Result<bool, NoMemory>
     requires own { IsFor (conn_of link.old) item.now }
     ensures takes { OnOk result (TakesIn item.now link.old link.new) }

@@ -29,7 +29,7 @@ impl Model for Places {
 }
 
 impl Places {
-    // The places of the connections below the count that are this core's of `cores` cores.
+    // Makes the places of the connections below the count that are this core's of `cores` cores.
     pub(crate) fn new(alloc: Global, core: u32, cores: u32, count: u32) -> Result<Places, NoMemory>
         requires some { 1 ≤ cores }
         requires few { cores ≤ 64 }
@@ -57,14 +57,14 @@ impl Places {
         })
     }
 
-    // The number of the core.
+    // Returns the number of the core.
     pub(crate) fn core(&self) -> u32
         ensures value { result ≡ self.now.core }
     {
         self.core
     }
 
-    // The place of a connection, if it is the core's.
+    // Returns the place of a connection, if it is the core's.
     pub(crate) fn place_of(&self, conn: u32) -> Option<usize>
         ensures some { IfSome result (λ at.
             slice_get (own_conns self.now.core self.now.cores self.now.count) at ≡ Some conn) }

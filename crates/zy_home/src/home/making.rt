@@ -15,8 +15,8 @@ use zy_calls::Room;
 use zy_conn::Block;
 
 impl Home {
-    /// The home of core `core` of `cores`, with those of the `count` connections that are its own.
-    /// After a refusal the parts are handed back.
+    /// Makes the home of core `core` of `cores`, with those of the `count` connections that are its
+    /// own. If allocation fails, the parts are handed back.
     pub fn new(
         alloc: Global,
         core: u32,

@@ -32,7 +32,7 @@ impl Home {
         ensures others { IsOfOthers self.old.core self.old.cores self.old.count item
             → (result ≡ Ok tt) × (self.new ≡ self.old) }
 
-        // What stays, and a refusal.
+        // What stays, and a failed allocation.
         ensures same { SameHome self.old self.new }
         ensures refused { self.new.refused ≡ is_err result }
         ensures err { OnErr result (SameHand self.old self.new) }

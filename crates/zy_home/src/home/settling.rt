@@ -14,9 +14,9 @@ use zy_conn::Block;
 use zy_shuffle::{Claim, Ring, WasHeld};
 
 impl Home {
-    /// Settles the block of a place of the home's hand: its batch is carried out, waiting frames
-    /// are offered, and it is published exactly if it then has an event. Otherwise, and after a
-    /// refusal, it stays in the home's hand.
+    /// Settles the block of a place of the home's hand: its texts are moved to the output, waiting
+    /// frames are offered, and it is published if and only if it then has an event. Otherwise, and
+    /// if allocation fails, it stays in the home's hand.
     pub fn settle(&mut self, ring: &Ring<Block>, place: u32, block: Block) -> Result<(), NoMemory>
         requires table { self.old.pass.table ≡ ring.now.id }
         requires few { self.old.pass.count < 2 ^ 63 }
@@ -43,8 +43,8 @@ impl Home {
 }
 
 impl Home {
-    /// Collects a block that was given back, and settles it; `false` exactly where the ring's
-    /// `collect` answered `None`. After a refusal the block stays in the home's hand.
+    /// Collects a block that was given back, and settles it; `false` if and only if the ring's
+    /// `collect` answered `None`. If allocation fails, the block stays in the home's hand.
     pub fn collect(&mut self, ring: &Ring<Block>) -> Result<bool, NoMemory>
         requires table { self.old.pass.table ≡ ring.now.id }
         requires few { self.old.pass.count < 2 ^ 63 }
@@ -67,9 +67,9 @@ impl Home {
         }
     }
 
-    /// Claims once from the home's own queue. A block that was taken is held by the home's core, and
-    /// then settled; `Empty` and `Raced` are answered exactly where the claim answers so. After a
-    /// refusal a block that was taken stays in the home's hand.
+    /// Claims once from the home's own queue. A block that was taken is held by the home's core,
+    /// and then settled; `Empty` and `Raced` are the answers of the claim. If allocation fails, a
+    /// block that was taken stays in the home's hand.
     pub fn own<G: Gate>(
         &mut self,
         ring: &Ring<Block>,

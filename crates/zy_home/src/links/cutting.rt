@@ -17,7 +17,8 @@ use zy_rx::{Outlet, Rx};
 const ITEMS_AT_ONCE: u32 = 64;
 
 impl Links {
-    // The place of the connection that an item is for; `None` if the item is dropped or the end.
+    // Returns the place of the connection that an item is for; `None` if the item is dropped or the
+    // end.
     pub(crate) fn place_for(&self, item: &Rx) -> Option<usize>
         requires own { AreOwn self.now }
         ensures some { IfSome result (λ at. ComesIn self.now at item.now) }
@@ -90,8 +91,8 @@ impl Links {
         }
     }
 
-    // Cuts an item for the connection at a place. Says whether its block is in the slot and was idle
-    // until now, and a frame waits for it.
+    // Cuts an item for the connection at a place. Says whether its block is in the slot, was idle
+    // until now, and has a frame waiting for it.
     pub(crate) fn cut_for(
         &mut self,
         at: usize,
