@@ -37,13 +37,13 @@ stepped pass c = cored c.home c.thief c.passes c.outlet pass c.turns
 abbrev pub with_count : ℕ → Cored → Cored
 with_count done c = stepped (control.counting done c.control) c
 
--- the core after it announced that it rests, or withdrew that, when the bits of all cores were these
+-- the core after it announced that it rests, or withdrew, when the bits of all cores were these
 abbrev pub with_announcement : Bool → ℕ → Cored → Cored
 with_announcement is sleepers c = stepped (control.resting is sleepers c.control) c
 
 -- ---- what each core keeps
 
--- the parts are of one core, and home, thief and passes of one number of cores
+-- the parts belong to one core, and agree on the number of cores
 pub record AreOfOne (home : Homed) (thief : Thief) (passes : PassList Blocked) : Type 0 where
   pub thief_core : thief.core ≡ home.core
   pub thief_cores : thief.cores ≡ home.cores

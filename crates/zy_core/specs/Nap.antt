@@ -11,8 +11,8 @@ use Rattle.zy_core.specs.declared.nap.Nap.TheVariants.{Awake, Ending, Rested}
 use Rattle.zy_core.specs.Core.{Cored, stepped, with_announcement}
 use Rattle.zy_core.specs.Turn.{TurnTo, HasSteps}
 
--- the core stays awake after this turn, whatever the control words are: the turn worked, or it found the core settled,
--- which has not counted itself on done
+-- the core stays awake after this turn, whatever the control words are: the turn worked, or it found that the core is
+-- settled and has not counted itself on done
 abbrev pub stays_awake : Bool → Turn → Bool
 stays_awake counted Worked = true
 stays_awake counted (Idle own looks) = false
@@ -41,8 +41,8 @@ pub record RestTo (cores : ℕ) (before after : Cored) (nap : Nap) : Type 0 wher
   pub loaded : after ≡ stepped (seeing_stop stop (seeing_done done before.control)) turned
   pub is : nap ≡ nap_of cores (has_counted before.control.role) turn done stop
 
--- the core's pass at the bells after a nap: if it rested its token was taken, in a rest that was given this pass on the
--- control words; and else it made no step
+-- the core's pass at the bells after a nap: if the core rested, its token was taken, in a rest to which this pass on
+-- the control words was lent; otherwise it made no step
 abbrev pub bell_after : Held → Nap → bells.Passed → bells.Passed
 bell_after control (Awake turn) p = p
 bell_after control (Ending done stop) p = p
@@ -57,7 +57,7 @@ pub record NapTo (cores : ℕ) (before after : Cored) (bell bell' : bells.Passed
   pub loaded : Cored
   pub announces : announced ≡ with_announcement true set before
   pub rests : RestTo cores announced loaded nap
-  -- it rested, if it did, with its own pass on the control words as it was after the load of stop, by which it had
+  -- if it rested, it lent its own pass on the control words, as it was after the load of stop; by this pass it had
   -- announced itself
   pub rested : bell' ≡ bell_after loaded.control nap bell
   pub asleep : loaded.control.role ≡ Core before.home.core (has_counted before.control.role) true

@@ -25,7 +25,7 @@ StealsTo before after None = Steals before after
 StealsTo before after (Some looks) = AllLooked before after looks
 
 -- a block was stolen and held to this end; or a look at every other core was made, in which each claim took nothing,
--- and was noted over the looks that there were
+-- and was noted over the earlier looks
 abbrev pub StealsOver : PassList Blocked → PassList Blocked → List (Option Look) → List (Option Look) → Option HoldEnd
     → Type 0
 StealsOver before after looks looks' (Some end) = (steals : Steals before after) × (steals.end ≡ end)

@@ -21,8 +21,8 @@ use Rattle.zy_core.specs.Core.{Cored}
 
 -- ---- the steps
 
--- items were received: at least one, at most 64, and fewer than 64 only if no further item was
--- known after the last look
+-- items were received: at least one, at most 64, and fewer than 64 only if no more items were known
+-- after the last look
 pub record Receives (before after : Taking) : Type 0 where
   pub some : length before.taken < length after.taken
   pub most : length after.taken ≤ length before.taken + 64
@@ -167,7 +167,7 @@ TurnTo before after (Idle own looks) = FindsNothing before after own looks × (i
 TurnTo before after (Settled looks) =
     ((own : Look) × FindsNothing before after own looks) × (is_settled after.home ≡ true)
 
--- what a turn came to whose looks at the other cores were noted over those that there were
+-- what a turn came to whose looks at the other cores were noted over the earlier ones
 abbrev pub CameTo : Cored → Cored → List (Option Look) → List (Option Look) → Came → Type 0
 CameTo before after looks looks' Came.Worked = TurnTo before after Worked
 CameTo before after looks looks' Came.Busy = TurnTo before after Worked
@@ -199,7 +199,8 @@ abbrev pub ends_busy : Option HoldEnd → Bool
 ends_busy None = false
 ends_busy (Some end) = is_busy (held_to end)
 
--- the turn has all its steps, and came to `Busy` exactly if the hold of its block found a shard busy
+-- the turn has all its steps, and came to `Busy` if and only if the hold of its block found a shard
+-- busy
 pub record ShowsBusy (before after : Cored) (came : Came) : Type 0 where
   pub steps : HasSteps before after
   pub busy : is_busy came ≡ ends_busy (hold_in before after steps)

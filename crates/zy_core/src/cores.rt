@@ -22,7 +22,7 @@ impl Model for Cores {
 }
 
 impl Cores {
-    /// No core. Takes no memory.
+    /// Begins without a core. Takes no memory.
     pub fn new(alloc: Global) -> Cores
         ensures value { result ≡ [] }
     {
@@ -31,14 +31,14 @@ impl Cores {
         }
     }
 
-    /// The cores of this list. Takes no memory.
+    /// Makes the cores of this list. Takes no memory.
     pub fn from_items(items: Vec<Core>) -> Cores
         ensures value { result ≡ items.items }
     {
         Cores { items }
     }
 
-    /// The list of the cores. Takes no memory.
+    /// Returns the list of the cores. Takes no memory.
     pub fn into_items(self) -> Vec<Core>
         ensures value { result.items ≡ self }
     {
@@ -46,7 +46,7 @@ impl Cores {
         items
     }
 
-    /// Appends; after a refusal the core is handed back.
+    /// Appends the core; if allocation fails it is handed back.
     pub fn push(&mut self, core: Core) -> Result<(), (Core, NoMemory)>
         ensures ok { OnOk result (self.new ≡ self.old ++ core ∷ []) }
         ensures err { OnErr result (self.new ≡ self.old) }
@@ -58,7 +58,7 @@ impl Cores {
         }
     }
 
-    /// Takes the first core; `None` exactly where none is left. Takes no memory.
+    /// Takes the first core; `None` if and only if none is left. Takes no memory.
     pub fn next(&mut self) -> Option<Core>
         ensures value { self.old ≡ option_to_list result ++ self.new }
         ensures none { IfNone result (self.old ≡ []) }

@@ -52,7 +52,7 @@ impl Model for Core {
 }
 
 impl Core {
-    /// A core of these parts, which has taken no turn.
+    /// Makes a core of these parts, which has taken no turn.
     pub fn new(
         home: Home,
         victims: Victims,
@@ -82,8 +82,8 @@ impl Core {
         }
     }
 
-    /// A turn: items are received, blocks are collected, one block is claimed, and if there was
-    /// none, one is stolen. After `NoMemory` no block of another core is in the core's hand.
+    /// Takes a turn: items are received, blocks are collected, one block is claimed, and if there
+    /// was none, one is stolen. After `NoMemory` no block of another core is in the core's hand.
     pub fn turn<G: Gate>(&mut self, shared: &Shared, gate: &G) -> Result<Turn, NoMemory>
         requires fits { Fits shared.now (identity_of self.old) }
         requires few { self.old.turns < 2 ^ 48 }
@@ -101,8 +101,8 @@ impl Core {
         Ok(came.with(looks))
     }
 
-    /// A turn over a table of looks that the caller owns: its looks at the other cores overwrite those
-    /// in the table. So no table is cleared or moved.
+    /// Takes a turn as `turn`, over a table of looks that the caller owns: its looks at the other
+    /// cores replace those in the table. So no table is cleared or moved.
     pub fn turn_over<G: Gate>(
         &mut self,
         shared: &Shared,
@@ -158,14 +158,14 @@ impl Core {
         feeder.meet(self.number, &mut self.outlet);
     }
 
-    /// Its number.
+    /// Returns its number.
     pub fn number(&self) -> u32
         ensures value { result ≡ self.now.home.core }
     {
         self.number
     }
 
-    /// The core counts itself if it is settled and has not done so yet. Says whether it did so.
+    /// Counts the core, if it is settled and was not counted yet. Says whether it did.
     pub fn note(&mut self, shared: &Shared) -> bool
         requires fits { Fits shared.now (identity_of self.old) }
         ensures value { result ≡ (not (has_counted self.old.control.role) && is_settled self.old.home) }
@@ -180,7 +180,7 @@ impl Core {
         false
     }
 
-    /// Whether all cores have counted themselves. Then this one is settled.
+    /// Checks whether all cores have counted themselves. Then this one is settled.
     pub fn is_done(&mut self, shared: &Shared) -> bool
         requires fits { Fits shared.now (identity_of self.old) }
         ensures value { result ≡ (self.new.control.trace.done.value == self.old.control.cores) }
@@ -191,9 +191,9 @@ impl Core {
         shared.control.is_done(&mut self.control)
     }
 
-    /// A nap: the core announces itself, takes a turn, and loads done and stop. It rests until it is
-    /// rung if the turn found nothing to do and the run does not end. After that it withdraws what it
-    /// announced, also after `NoMemory`. The call may wait.
+    /// Takes a nap: the core announces itself, takes a turn, and loads done and stop. It rests
+    /// until it is rung if the turn found nothing to do and the run does not end. After that, also
+    /// after `NoMemory`, it withdraws what it announced. The call may wait.
     pub fn nap<R: Wait, G: Gate>(
         &mut self,
         rt: &R,
@@ -221,7 +221,7 @@ impl Core {
         nap
     }
 
-    // The turn of a nap, and the rest.
+    // Takes the turn of a nap, and rests if there is nothing to do.
     fn rest_if_idle<R: Wait, G: Gate>(
         &mut self,
         rt: &R,
@@ -251,7 +251,8 @@ impl Core {
         Ok(nap)
     }
 
-    // Rests if the nap ends so, with the core's pass on the control words as it is.
+    // Rests if the nap is one that ends in a rest, with the core's pass on the control words as it
+    // is.
     fn rest<R: Wait>(&self, rt: &R, nap: &Nap, bells: &Bells, pass: &mut BellPass)
         requires bells { pass.old.bells ≡ bells.now }
         ensures value { pass.new ≡ bell_after self.now.control nap.now pass.old }
@@ -276,14 +277,14 @@ impl Core {
         }
     }
 
-    // Whether it has counted itself.
+    // Checks whether it has counted itself.
     fn is_counted(&self) -> bool
         ensures value { result ≡ has_counted self.now.control.role }
     {
         self.control.is_counted()
     }
 
-    // How many cores have counted themselves.
+    // Returns how many cores have counted themselves.
     fn load_done(&mut self, shared: &Shared) -> u64
         requires fits { Fits shared.now (identity_of self.old) }
         ensures value { self.new ≡ stepped (seeing_done result self.old.control) self.old }
@@ -291,7 +292,7 @@ impl Core {
         shared.control.load_done(&mut self.control)
     }
 
-    // The word stop.
+    // Returns the word stop.
     fn load_stop(&mut self, shared: &Shared) -> u64
         requires fits { Fits shared.now (identity_of self.old) }
         ensures value { self.new ≡ stepped (seeing_stop result self.old.control) self.old }
@@ -314,35 +315,35 @@ impl Core {
         sleepers
     }
 
-    /// How many turns it has taken.
+    /// Returns how many turns it has taken.
     pub fn turns(&self) -> u64
         ensures value { result ≡ self.now.turns }
     {
         self.turns
     }
 
-    /// Whether its home is settled.
+    /// Checks whether its home is settled.
     pub fn is_settled(&self) -> bool
         ensures value { result ≡ is_settled self.now.home }
     {
         self.home.is_settled()
     }
 
-    /// Whether each block of its home is in the home's hand, so that no other core has one.
+    /// Checks whether each block of its home is in the home's hand, so that no other core has one.
     pub fn has_all_blocks(&self) -> bool
         ensures value { result ≡ all_here self.now.home.blocks }
     {
         self.home.has_all_blocks()
     }
 
-    /// Whether its home was refused memory.
+    /// Checks whether an allocation failed in its home.
     pub fn is_refused(&self) -> bool
         ensures value { result ≡ self.now.home.refused }
     {
         self.home.is_refused()
     }
 
-    /// The parts, and what the core kept. Takes no memory.
+    /// Returns the parts, with all that the core keeps. Takes no memory.
     pub fn into_parts(self) -> (Home, Victims, Passes<Block>, Outlet, ControlPass)
         ensures home { result.0 ≡ self.home }
         ensures victims { result.1 ≡ self.thief }

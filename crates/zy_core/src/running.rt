@@ -15,7 +15,7 @@ pub struct Running {
 }
 
 impl Running {
-    /// Drops the parts, so that no crate above proves their drops.
+    /// Drops the parts here, so that no crate above needs to prove it.
     pub fn abandon(self) {
         let Running {
             cores,

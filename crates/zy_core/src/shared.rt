@@ -44,8 +44,8 @@ impl Drop for Shared {
 }
 
 impl Shared {
-    /// The rings and the store with new control words, and the root of these. After a refusal rings
-    /// and store are handed back.
+    /// Puts rings and a store together with new control words, and makes the root of these. If
+    /// allocation fails, rings and store are handed back.
     pub fn new(
         alloc: Global,
         rings: Rings<Block>,
@@ -68,8 +68,8 @@ impl Shared {
         }
     }
 
-    /// The pass on the control words of the core whose number is the count of passes that this root
-    /// gave before. It is never refused, and takes no memory.
+    /// Makes a pass on the control words, of the core whose number is the count of passes that this
+    /// root gave before. This takes no memory, and cannot fail.
     pub fn seat(&self, root: &mut ControlRoot) -> Result<ControlPass, NoMemory>
         requires table { root.old.table ≡ self.now.control.id }
         requires few { root.old.given < length self.now.rings }
@@ -81,21 +81,21 @@ impl Shared {
         self.control.seat(root)
     }
 
-    /// The number of cores.
+    /// Returns the number of cores.
     pub fn count(&self) -> u64
         ensures value { result ≡ length self.now.rings }
     {
         self.rings.count() as u64
     }
 
-    /// The control words.
+    /// Returns the control words.
     pub fn control(&self) -> &Control
         ensures value { result.now ≡ self.now.control }
     {
         &self.control
     }
 
-    /// The rings and the store. Takes no memory.
+    /// Returns the rings and the store. Takes no memory.
     pub fn into_parts(self) -> (Rings<Block>, StoreTable)
         ensures value { (result.0 ≡ self.rings) × (result.1 ≡ self.store) }
     {

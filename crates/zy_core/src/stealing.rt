@@ -9,9 +9,9 @@ use zy_base::{Gate, NoMemory};
 use zy_conn::{Block, HoldEnd};
 use zy_steal::{Looks, Passes, Rings, StolenBlock, Victims};
 
-// Steals once. A block that was taken is held by this core and given back, even if its hold was
-// refused memory; the answer is the end of its hold. If none was taken, the looks at the other cores
-// are noted over those that there were.
+// Steals once. A block that was taken is held by this core and given back, even if an allocation
+// fails in its hold; the answer is the end of the hold. If none was taken, the looks at the other
+// cores replace those in the table.
 pub(crate) fn steal_once<G: Gate>(
     victims: &mut Victims,
     passes: &mut Passes<Block>,

@@ -12,8 +12,8 @@ use zy_home::{Home, Own};
 use zy_rx::Outlet;
 use zy_shuffle::Ring;
 
-// What the steps at home came to: whether an item was received, whether a block was collected, and
-// what the claim came to.
+// The result of the steps at home: whether an item was received, whether a block was collected, and
+// the answer of the claim.
 #[derive(Drop)]
 pub(crate) struct AtHome {
     pub(crate) received: bool,
@@ -21,7 +21,7 @@ pub(crate) struct AtHome {
     pub(crate) own: Own,
 }
 
-// The steps at home, in their order.
+// Makes the steps at home, in their order.
 pub(crate) fn serve_home<G: Gate>(
     home: &mut Home,
     outlet: &mut Outlet,

@@ -24,7 +24,8 @@ pub enum Turn {
 pub enum Came {
     /// An item was received, or a block was collected, claimed or stolen.
     Worked,
-    /// A block was claimed or stolen, and its hold ended since the next call found its shard busy.
+    /// A block was claimed or stolen, and its hold ended because the next call found its shard
+    /// busy.
     Busy,
     /// The turn found nothing to do, and the core is not settled. `own` says why its own claim took
     /// nothing, and the table why each claim at another core did.
@@ -34,7 +35,7 @@ pub enum Came {
 }
 
 impl Came {
-    // What a turn came to whose block was held to this end.
+    // Returns the answer of a turn whose block was held to this end.
     pub(crate) fn held(end: HoldEnd) -> Came
         ensures value { result ≡ held_to end }
     {
@@ -44,7 +45,7 @@ impl Came {
         }
     }
 
-    // What a turn came to in which nothing was claimed or stolen.
+    // Returns the answer of a turn in which nothing was claimed or stolen.
     pub(crate) fn of(received: bool, collected: bool, own: Look, home: &Home) -> Came
         ensures value { result ≡ came_without_hold (received || collected) own (is_settled home.now) }
     {
@@ -57,7 +58,7 @@ impl Came {
         }
     }
 
-    // The same answer, with these looks.
+    // Returns the same answer, with these looks.
     pub(crate) fn with(self, looks: Looks) -> Turn
         ensures value { result ≡ came_to self looks }
     {
@@ -68,7 +69,7 @@ impl Came {
         }
     }
 
-    /// Whether the turn worked, also if its hold found a shard busy.
+    /// Checks whether the turn worked, even if its hold found a shard busy.
     pub fn has_worked(&self) -> bool
         ensures value { result ≡ is_work self.now }
     {
