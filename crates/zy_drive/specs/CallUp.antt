@@ -12,7 +12,8 @@ sleepers_of pass = pass.trace.sleepers.value
 abbrev pub rung_from : ℕ → Rooted → Rooted
 rung_from word root = if word == 0 then root else ringing_each_from word root
 
--- if it was due, the caller loaded sleepers and then rang each core whose bit was 1; else it made no step
+-- if it was due, the caller loaded sleepers and then rang each core whose bit was 1; otherwise it made no
+-- step
 abbrev pub RingsIf : Bool → Held → Held → Rooted → Rooted → Type 0
 RingsIf true watch watch' root root' =
     (watch' ≡ seeing_sleepers (sleepers_of watch') watch) × (root' ≡ rung_from (sleepers_of watch') root)

@@ -7,7 +7,7 @@ module _ {X : Type 0} where
   abbrev pub lists_of : List (Vec X Global) → List (List X)
   lists_of groups = map (λ (g : Vec X Global). g.items) groups
 
-  -- no group has any
+  -- no group has a member
   abbrev pub AreEmpty : List (List X) → Type 0
   AreEmpty [] = Unit {0}
   AreEmpty (group ∷ groups) = (group ≡ []) × AreEmpty groups
@@ -26,7 +26,7 @@ module _ {X : Type 0} where
   gathered (suc n) ([] ∷ groups) = []
   gathered (suc n) ((x ∷ group) ∷ groups) = x ∷ gathered n (groups ++ group ∷ [])
 
-  -- one such step, where there is one to take
+  -- one such step took this member
   pub record TakesFirst (x : X) (before after : List (List X)) : Type 0 where
     pub group : List X
     pub others : List (List X)
@@ -39,7 +39,7 @@ module _ {X : Type 0} where
   HasNoFirst ([] ∷ groups) = Unit {0}
   HasNoFirst ((x ∷ group) ∷ groups) = ⊥
 
-  -- each group has room for n further members
+  -- each group has room for n more members
   abbrev pub HaveRoom : ℕ → List (Vec X Global) → Type 0
   HaveRoom n [] = Unit {0}
   HaveRoom n (group ∷ groups) = (vec_len group + n ≤ vec_capacity group) × HaveRoom n groups
@@ -48,7 +48,7 @@ module _ {X : Type 0} where
   abbrev pub Each : (X → Type 0) → List X → Type 0
   Each P xs = (i : ℕ) (x : X) → slice_get xs i ≡ Some x → P x
 
-  -- and of each member of each group
+  -- each member of each group has this property
   abbrev pub EachOfAll : (X → Type 0) → List (List X) → Type 0
   EachOfAll P [] = Unit {0}
   EachOfAll P (group ∷ groups) = Each P group × EachOfAll P groups

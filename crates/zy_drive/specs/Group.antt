@@ -44,7 +44,7 @@ SeesOthers core = (core.control.trace.done.value == core.control.cores) ≡ fals
 abbrev pub IsNoted : Cored → Type 0
 IsNoted core = is_settled core.home ≡ true → MustHaveCounted core.control.role
 
--- each core is
+-- each core has counted itself if it is settled
 abbrev pub EachNoted : List Cored → Type 0
 EachNoted cores = (i : ℕ) (core : Cored) → slice_get cores i ≡ Some core → IsNoted core
 
@@ -57,7 +57,7 @@ round_of Came.Busy = Busy
 round_of (Came.Idle own) = Idle
 round_of Came.Settled = Idle
 
--- a core took a turn, which came to this round, with its looks over those that there were; or it took none, since it
+-- a core took a turn, which came to this round, with its looks over the earlier ones; or it took none, since it
 -- has taken the most turns of a core
 abbrev pub TurnedTo : Cored → Cored → List (Option Look) → List (Option Look) → Round → Type 0
 TurnedTo before after looks looks' round =
@@ -72,7 +72,7 @@ round_of_nap (Nap.Awake (turns.Settled looks)) = Idle
 round_of_nap (Nap.Ending done stop) = Idle
 round_of_nap Nap.Rested = Rested
 
--- a round with a further one: busy if one of them is, and otherwise worked if one of them has
+-- a round and another one: busy if one of them is, and otherwise worked if one of them has
 abbrev pub with_round : Round → Round → Round
 with_round Busy other = Busy
 with_round Worked Busy = Busy
@@ -131,7 +131,7 @@ resting_after round r = resting_at r.bells r.core r.rest (idle_after r.rest r.id
 abbrev pub IsAlone : ℕ → List Identity → Type 0
 IsAlone number ids = map (λ (d : Identity). d.core) ids ≡ number ∷ []
 
--- where a group of these cores can rest, it rests at these bells, and is one core
+-- if a group of these cores can rest, it rests at these bells, and is one core
 abbrev pub CanRest : Bells → List Identity → Option Resting → Type 0
 CanRest bells ids None = ⊤
 CanRest bells ids (Some r) = (r.bells ≡ bells) × IsAlone r.core ids

@@ -3,12 +3,13 @@ use Rattle.std.specs.Prelude.{ℕ, ◌+◌, ◌%◌, Option, Some, None}
 use Rattle.rand_pcg.specs.Lcg.{Lcg, started, increment_of}
 use Rattle.rand_pcg.specs.Pcg.{multiplier_64, pcg32}
 
--- the generator of an order, stream 54 of this number; without an order there is none
+-- the generator of an order: stream 54 of the order's number; there is none without an order
 abbrev pub drawn_by : Option ℕ → Option Lcg
 drawn_by None = None
 drawn_by (Some number) = Some (started 64 multiplier_64 number (increment_of 64 54))
 
--- the core that the next round begins with: the next draw, modulo the number of cores; without draws it is core 0
+-- the core that the next round begins with: the next number of the generator, modulo the number of cores; core 0
+-- without a generator
 abbrev pub first_core : ℕ → Option Lcg → ℕ
 first_core cores None = 0
 first_core cores (Some generator) = (pcg32 generator).0 % cores

@@ -12,15 +12,15 @@ use Rattle.zy_drive.specs.Seat.{all_of_groups, all_of_seats}
 abbrev pub SameCore : Cored → Cored → Type 0
 SameCore before after = identity_of after ≡ identity_of before
 
--- so it is of each of several cores
+-- what stays of each of several cores is as it was
 abbrev pub SameCores : List Cored → List Cored → Type 0
 SameCores before after = identities after ≡ identities before
 
--- and of the cores of each group
+-- what stays of the cores of each group is as it was
 abbrev pub SameGroups : List (Vec Core Global) → List (Vec Core Global) → Type 0
 SameGroups before after = all_of_groups after ≡ all_of_groups before
 
--- and of the cores of each seat, of which there is the same number
+-- what stays of the cores of each seat is as it was, and the number of seats is the same
 abbrev pub SameSeats : Vec Seat Global → Vec Seat Global → Type 0
 SameSeats before after =
     (all_of_seats after.items ≡ all_of_seats before.items) × (vec_len after ≡ vec_len before)

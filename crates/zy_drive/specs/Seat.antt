@@ -54,7 +54,7 @@ are_done_here [] = true
 are_done_here (Away handle ∷ seats) = are_done_here seats
 are_done_here (Here group ∷ seats) = group.done && are_done_here seats
 
--- what holds of a step of the feeder, or of none, where stop was 0 and the feeder is not broken
+-- a fact about a step of the feeder, if stop was 0 and the feeder is not broken
 abbrev pub IfMade : Next → (Step → Type 0) → Type 0
 IfMade (Made step) P = P step
 IfMade Broken P = ⊤

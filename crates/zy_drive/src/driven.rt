@@ -2,13 +2,13 @@
 
 use zy_core::Cores;
 
-/// How driving ended, with the cores as they came, in their order.
+/// How driving ended, with the cores, in the order in which they were given.
 #[derive(Drop)]
 pub enum Driven {
     /// The feeder ended, and every core is settled.
     Settled(Cores),
     /// The feeder is broken.
     Broken(Cores),
-    /// An allocation was refused.
+    /// An allocation failed.
     NoMemory(Cores),
 }

@@ -30,15 +30,15 @@ pub(crate) fn feed<R: Wait, F: Feeder>(rt: &R, feeder: &mut F, is_ended: bool) -
     unreachable!()
 }
 
-// What a step of a feeder came to.
+// The result of a step of a feeder.
 #[derive(Clone, Copy, Drop)]
 pub(crate) struct Step {
     pub(crate) has_offered: bool,
     pub(crate) is_ended: bool,
 }
 
-// Makes one step of a feeder that has not ended; where there is other work, only one that need not
-// wait. Returns what it came to, and `None` if the feeder is broken.
+// Makes one step of a feeder that has not ended; if there is other work, only if the step need not
+// wait. Returns its result, and `None` if the feeder is broken.
 pub(crate) fn feed_once<F: Feeder>(feeder: &mut F, is_ended: bool, has_work: bool) -> Option<Step>
     requires ended { is_ended ≡ true → F.ended feeder.old }
     requires fresh { is_ended ≡ false → ¬ F.ended feeder.old × ¬ F.broken feeder.old }

@@ -1,4 +1,4 @@
-//! What a caller does with a reference that it lent.
+//! A reference that a caller lent and gets back.
 ghost use Rattle.std.specs.Prelude.{◌≡◌};
 
 /// Does nothing. The call tells the prover that the reference handed back is the one that was lent.

@@ -19,9 +19,9 @@ use zy_rx::Feeder;
 use zy_steal::Looks;
 
 /// Drives the cores on the caller's thread: the feeder offers items until one is handed back or all
-/// are offered, then each core takes a turn, and so on until all is settled. A round begins with
-/// core 0, or with the next draw of the order, and goes on by number. Each core meets the feeder
-/// before its turn. The call may wait.
+/// are offered, then each core takes a turn, and so on until all are settled. A round begins with
+/// core 0, or with a core that the order generates, and goes on by number. Each core meets the
+/// feeder before its turn. The call may wait.
 pub fn drive_ordered<R: Wait, F: Feeder, G: Gate>(
     rt: &R,
     cores: Cores,
@@ -61,7 +61,7 @@ pub fn drive_ordered<R: Wait, F: Feeder, G: Gate>(
     unreachable!()
 }
 
-// A turn of each core, beginning with this one.
+// Takes a turn of each core, beginning with this one.
 fn round<F: Feeder, G: Gate>(
     cores: &mut Vec<Core>,
     first: u32,
@@ -88,7 +88,7 @@ fn round<F: Feeder, G: Gate>(
     Ok(())
 }
 
-// The core meets the feeder and takes a turn.
+// Lets the core meet the feeder and take a turn.
 fn meet_and_turn<F: Feeder, G: Gate>(
     core: &mut Core,
     shared: &Shared,

@@ -1,10 +1,10 @@
-//! What a round of a group of cores came to.
+//! The result of a round of a group of cores.
 ghost use Rattle.std.specs.Prelude.{◌≡◌, ◌≢◌};
 ghost use Rattle.zy_drive.specs.Group.{round_of, with_round, with_work, calls_up};
 
 use zy_core::Came;
 
-// What a round of turns of a group of cores came to.
+// The result of a round of turns of a group of cores.
 #[derive(Clone, Copy, Drop, PartialEq, Eq)]
 pub(crate) enum Round {
     // A turn worked, or a core counted itself.
@@ -18,7 +18,7 @@ pub(crate) enum Round {
 }
 
 impl Round {
-    // What one turn came to.
+    // Returns the result of one turn.
     pub(crate) fn of(came: Came) -> Round
         ensures value { result ≡ round_of came }
         ensures awake { result ≢ Round.Rested }
@@ -30,7 +30,7 @@ impl Round {
         }
     }
 
-    // This round with a further one, neither of which is a rest.
+    // Returns the result of this round and another one, neither of which is a rest.
     pub(crate) fn with(self, other: Round) -> Round
         ensures value { result ≡ with_round self other }
         ensures awake { result ≢ Round.Rested }
@@ -42,9 +42,10 @@ impl Round {
         }
     }
 
-    // This round, after which a core counted itself or none did. A core becomes settled in a turn that
-    // works, and counts itself after it, so a round that counts has worked already. It is handled
-    // anyway, so that the last count calls up whatever the turns came to.
+    // Returns the result of this round, by whether a core then counted itself. A core becomes
+    // settled in a turn that works, and counts itself after it, so a round with a count has worked
+    // already. The count is handled anyway, so that the last one calls up the others whatever the
+    // turns came to.
     pub(crate) fn then(self, counted: bool) -> Round
         ensures value { result ≡ with_work counted self }
         ensures awake { self ≢ Round.Rested → result ≢ Round.Rested }
@@ -55,7 +56,7 @@ impl Round {
         }
     }
 
-    // Whether cores that rest may have something to do since.
+    // Checks whether cores that rest may have something to do after this round.
     pub(crate) fn calls_up(self) -> bool
         ensures value { result ≡ calls_up self }
     {

@@ -13,7 +13,7 @@ use zy_steal::Looks;
 // The most turns of a core.
 pub(crate) const TURN_LIMIT: u64 = 1 << 48;
 
-// A turn of one core, if it may take one. Its looks overwrite others in scratch space.
+// Takes a turn of one core, if it may take one. Its looks replace others in scratch space.
 pub(crate) fn turn_one<G: Gate>(
     core: &mut Core,
     shared: &Shared,
@@ -35,7 +35,7 @@ pub(crate) fn turn_one<G: Gate>(
     Ok(Round::of(came))
 }
 
-// A turn of each core.
+// Takes a turn of each core.
 pub(crate) fn turn_each<G: Gate>(
     cores: &mut Vec<Core>,
     shared: &Shared,
@@ -55,7 +55,7 @@ pub(crate) fn turn_each<G: Gate>(
     Ok(round)
 }
 
-// Each core that is settled counts itself, once. Says whether one of them did so.
+// Counts each core that is settled, once. Says whether one was counted.
 pub(crate) fn note_each(cores: &mut Vec<Core>, shared: &Shared) -> bool
     requires fits { EachFits shared.now (identities cores.old.items) }
     ensures same { SameCores cores.old.items cores.new.items }
@@ -71,7 +71,7 @@ pub(crate) fn note_each(cores: &mut Vec<Core>, shared: &Shared) -> bool
     counted
 }
 
-// Whether each core finds that all cores are done. Then each of these is settled.
+// Checks whether each core finds that all cores are done. Then each of these is settled.
 pub(crate) fn all_done(cores: &mut Vec<Core>, shared: &Shared) -> bool
     requires fits { EachFits shared.now (identities cores.old.items) }
     ensures same { SameCores cores.old.items cores.new.items }
@@ -87,7 +87,7 @@ pub(crate) fn all_done(cores: &mut Vec<Core>, shared: &Shared) -> bool
     true
 }
 
-// Whether no block of these cores is away.
+// Checks whether no block of these cores is away.
 pub(crate) fn have_all_blocks(cores: &[Core]) -> bool
     ensures value { result ≡ have_all_blocks cores.now }
 {
@@ -99,7 +99,7 @@ pub(crate) fn have_all_blocks(cores: &[Core]) -> bool
     true
 }
 
-// Whether each core is settled.
+// Checks whether each core is settled.
 pub(crate) fn are_settled(cores: &[Core]) -> bool
     ensures settled { result ≡ true → EachSettled cores.now }
     ensures unsettled { result ≡ false → HasOne IsUnsettled cores.now }

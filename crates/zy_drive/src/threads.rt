@@ -43,9 +43,9 @@ use zy_park::{BellRoot, Bells};
 use zy_rx::Feeder;
 
 /// Drives the cores on `threads` threads while the caller feeds them: thread `t` has the cores `i`
-/// with `i` modulo `threads` equal to `t`. The caller drives the cores whose thread was refused. If
-/// each of several threads drives one core, and `rest` is not 0, a thread rests at the bells after
-/// `rest` turns that did not work, until it is rung. The call may wait.
+/// with `i` modulo `threads` equal to `t`. The caller drives the cores whose thread could not be
+/// started. If each of several threads drives one core, and `rest` is not 0, a thread rests at the
+/// bells after `rest` turns that did not work, until it is rung. The call may wait.
 pub fn drive<R: Threads + Wait + Sync, F: Feeder, G: Gate + Sync>(
     rt: &R,
     alloc: Global,
@@ -86,10 +86,10 @@ pub fn drive<R: Threads + Wait + Sync, F: Feeder, G: Gate + Sync>(
     )
 }
 
-/// Drives the cores as `drive` does, but the first group, that of thread 0, is driven as `first` says.
-/// Cores that the caller drives never rest. They take a turn after 64 items that were offered in a row;
-/// and before the feeder may have to wait they take turns until none works and no block of theirs is
-/// away. The call may wait.
+/// Drives the cores as `drive` does, but the first group, that of thread 0, is driven as `first`
+/// says. Cores that the caller drives never rest. They take a turn after each 64 items offered in a
+/// row. Before a step of the feeder that may wait, they take turns until none works and no block of
+/// theirs is away. The call may wait.
 pub fn drive_groups<R: Threads + Wait + Sync, F: Feeder, G: Gate + Sync>(
     rt: &R,
     alloc: Global,
@@ -144,8 +144,8 @@ pub fn drive_groups<R: Threads + Wait + Sync, F: Feeder, G: Gate + Sync>(
     answer(together(groups, count, whole), is_done, how)
 }
 
-// Room for the groups of `count` cores on `threads` threads, and for the cores when they are together
-// again.
+// Makes room for the groups of `count` cores on `threads` threads, and for the cores when they are
+// together again.
 fn make_room(
     alloc: Global,
     count: usize,
@@ -168,7 +168,7 @@ fn make_room(
     }
 }
 
-// The cores of the groups, in the order in which they were dealt.
+// Returns the cores of the groups, in the order in which they were dealt.
 fn together(groups: Vec<Vec<Core>>, count: usize, whole: Vec<Core>) -> Cores
     requires room { (vec_len whole ≡ 0) × (count ≤ vec_capacity whole) }
     ensures value { result ≡ gathered count (lists_of groups.items) }
@@ -178,7 +178,8 @@ fn together(groups: Vec<Vec<Core>>, count: usize, whole: Vec<Core>) -> Cores
     Cores::from_items(items)
 }
 
-// The answer, by how the caller's own loop ended and whether all cores found that all are done.
+// Returns the answer, by how the caller's own loop ended and whether all cores found that all are
+// done.
 fn answer(cores: Cores, is_done: bool, how: How) -> Driven
     ensures cores { returned_cores result ≡ cores }
     ensures settled { IsSettledRun result → (how ≡ How.Ended) × (is_done ≡ true) }

@@ -6,7 +6,7 @@ use rand_core::utils::NextWord;
 use rand_pcg::Lcg64Xsh32;
 use std::marker::Model;
 
-/// The cores that rounds begin with. Contracts see the generator, where there is one.
+/// The cores that rounds begin with. Contracts see the generator, if there is one.
 #[derive(Drop)]
 pub(crate) struct Draws {
     generator: Option<Lcg64Xsh32>,
@@ -22,7 +22,7 @@ impl Model for Draws {
 }
 
 impl Draws {
-    // The draws of an order, or no draws.
+    // Makes the draws of an order, or no draws.
     pub(crate) fn new(order: Option<u32>) -> Draws
         ensures value { result ≡ drawn_by order }
     {
@@ -34,7 +34,7 @@ impl Draws {
         }
     }
 
-    // The one of `cores` cores with which the next round begins.
+    // Returns the one of `cores` cores with which the next round begins.
     pub(crate) fn next(&mut self, cores: u32) -> u32
         requires some { 0 < cores }
         ensures value { result ≡ first_core cores self.old }
@@ -48,7 +48,7 @@ impl Draws {
     }
 }
 
-// The core that takes the turn with this number in a round which begins with this core.
+// Returns the core that takes the turn with this number in a round which begins with this core.
 pub(crate) fn turn_of(cores: u32, first: u32, turn: u32) -> u32
     requires within { (first < cores) × (turn < cores) }
     requires few { cores ≤ 64 }

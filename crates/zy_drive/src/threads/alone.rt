@@ -1,4 +1,4 @@
-//! The core of a group that has no other: its naps, and how it calls up others.
+//! The core of a group of one: its naps, and how it calls up others.
 ghost use Rattle.std.specs.Prelude.{◌≡◌};
 ghost use Rattle.zy_core.specs.Core.{Fits, identity_of};
 ghost use Rattle.zy_core.specs.Cores.{identities, EachFits};
@@ -14,7 +14,7 @@ use zy_base::{Gate, NoMemory};
 use zy_core::{Core, Nap, Turn};
 use zy_park::BellPass;
 
-// A nap of the one core.
+// Takes a nap of the one core.
 pub(crate) fn nap_first<R: Wait, G: Gate>(
     driving: &Driving<'_, R, G>,
     cores: &mut Vec<Core>,
@@ -30,7 +30,7 @@ pub(crate) fn nap_first<R: Wait, G: Gate>(
     nap_one(driving, core, pass)
 }
 
-// A nap of a core, where it may take a turn.
+// Takes a nap of a core, if the core may take a turn.
 fn nap_one<R: Wait, G: Gate>(
     driving: &Driving<'_, R, G>,
     core: &mut Core,
@@ -58,7 +58,7 @@ fn nap_one<R: Wait, G: Gate>(
     Ok(round_of(nap))
 }
 
-// What a nap of the one core of a group came to.
+// Returns the result of a nap of a group's one core.
 fn round_of(nap: Nap) -> Round
     ensures value { result ≡ round_of_nap nap }
 {
@@ -69,7 +69,7 @@ fn round_of(nap: Nap) -> Round
     }
 }
 
-// The one core calls up those that rest.
+// Lets the one core call up those that rest.
 pub(crate) fn call_up_first<R, G>(
     driving: &Driving<'_, R, G>,
     cores: &mut Vec<Core>,

@@ -18,7 +18,7 @@ pub(crate) struct Caller<'a> {
 }
 
 impl<'a> Caller<'a> {
-    // The caller, which rings cores only if some rest.
+    // Makes the caller, which rings cores only if some rest.
     pub(crate) fn new(shared: &Shared, root: &'a mut BellRoot, rings: bool) -> Caller<'a>
         ensures watch { result.watch.table ≡ shared.now.control.id }
         ensures root { result.root.now ≡ root.old }
@@ -47,7 +47,7 @@ impl<'a> Caller<'a> {
         }
     }
 
-    // Whether the cores are to stop, by one load of stop.
+    // Checks whether the cores are to stop, by one load of stop.
     pub(crate) fn is_stopped(&mut self, shared: &Shared) -> bool
         requires watch { self.old.watch.table ≡ shared.now.control.id }
         ensures value { result ≡ not (self.new.watch.trace.stop.value == 0) }

@@ -1,8 +1,8 @@
-//! Dealing cores to groups in turn, and taking them together again in their order.
+//! Dealing cores to groups in turn, and collecting them again in their order.
 ghost use Rattle.std.specs.Prelude.{◌≡◌, ◌+◌, ◌<◌, ◌≤◌, ℕ, List, [], ◌∷◌, ◌++◌, length, vec_len, vec_capacity, IfSome, IfNone};
 ghost use Rattle.zy_drive.specs.Deal.{lists_of, Deals, gathered, TakesFirst, HasNoFirst, HaveRoom};
 
-// Takes the first of the first group, `count` times; that group goes to the end each time.
+// Takes the first item of the first group, `count` times; each time that group goes to the end.
 pub(crate) fn collect<T: Drop>(groups: Vec<Vec<T>>, count: usize, back: &mut Vec<T>)
     requires room { vec_len back.old + count ≤ vec_capacity back.old }
     ensures value { back.new.items ≡ back.old.items ++ gathered count (lists_of groups.items) }
@@ -16,7 +16,7 @@ pub(crate) fn collect<T: Drop>(groups: Vec<Vec<T>>, count: usize, back: &mut Vec
     }
 }
 
-// Takes the first of the first group, which goes to the end.
+// Takes the first item of the first group, which goes to the end.
 fn take_next<T: Drop>(groups: &mut Vec<Vec<T>>) -> Option<T>
     ensures some { IfSome result (λ x. TakesFirst x (lists_of groups.old.items) (lists_of groups.new.items)) }
     ensures none { IfNone result (HasNoFirst (lists_of groups.old.items)) }

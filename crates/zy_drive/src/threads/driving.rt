@@ -28,7 +28,7 @@ pub(crate) struct Driving<'s, R, G> {
 }
 
 impl<'s, R, G> Driving<'s, R, G> {
-    // These, with the word that has a bit for each group.
+    // Makes it of these, with the word that has a bit for each group.
     pub(crate) fn new(
         rt: &'s R,
         shared: &'s Shared,
@@ -55,7 +55,7 @@ impl<'s, R, G> Driving<'s, R, G> {
         self.leave.fetch_or(bit, Ordering::SeqCst);
     }
 
-    // Whether the group of this bit is to leave.
+    // Checks whether the group of this bit is to leave.
     pub(crate) fn is_to_leave(&self, bit: u64) -> bool {
         self.leave.load(Ordering::SeqCst) & bit != 0
     }

@@ -16,7 +16,7 @@ use zy_core::{Core, Shared};
 use zy_park::BellPass;
 use zy_steal::Looks;
 
-// The cores that one thread drives, and whether they found that all cores are done. Then they are
+// The cores that one thread drives, and whether they found that all cores are done; then they are
 // settled.
 #[derive(Drop)]
 pub(crate) struct Group {
@@ -39,7 +39,7 @@ impl Model for Group {
 }
 
 impl Group {
-    // These cores.
+    // Makes the group of these cores.
     pub(crate) fn new(cores: Vec<Core>) -> Group
         ensures value { result ≡ grouped cores.items false }
     {
@@ -50,15 +50,14 @@ impl Group {
         }
     }
 
-    // Whether it is the one core with this number.
+    // Checks whether it is the one core with this number.
     pub(crate) fn is_alone(&self, number: u32) -> bool
         ensures value { result ≡ true → IsAlone number (identities self.now.cores) }
     {
         self.cores.len() == 1 && self.cores[0].number() == number
     }
 
-    // A turn of each core, after which each that is settled counts itself, and looks whether all are
-    // done.
+    // Takes a turn of each core, counts those that are settled, and looks whether all are done.
     pub(crate) fn go_on<R, G: Gate>(
         &mut self,
         driving: &Driving<'_, R, G>,
@@ -71,7 +70,7 @@ impl Group {
         Ok(round)
     }
 
-    // A turn of each core, after which each that is settled counts itself.
+    // Takes a turn of each core, and counts those that are settled.
     pub(crate) fn turn<R, G: Gate>(
         &mut self,
         driving: &Driving<'_, R, G>,
@@ -92,7 +91,7 @@ impl Group {
         Ok(round.then(counted))
     }
 
-    // A nap of its one core, which then counts itself if it is settled.
+    // Takes a nap of its one core, and counts it if it is settled.
     pub(crate) fn nap<R: Wait, G: Gate>(
         &mut self,
         driving: &Driving<'_, R, G>,
@@ -111,7 +110,7 @@ impl Group {
         Ok(round.then(counted))
     }
 
-    // Its one core calls up those that rest.
+    // Lets its one core call up those that rest.
     pub(crate) fn call_up<R, G>(&mut self, driving: &Driving<'_, R, G>, pass: &mut BellPass)
         requires fits { EachFits driving.now.shared.now (identities self.old.cores) }
         requires alone { IsAlone pass.old.core (identities self.old.cores) }
@@ -134,21 +133,21 @@ impl Group {
         self.done = all_done(&mut self.cores, shared);
     }
 
-    // Whether its cores found that all cores are done.
+    // Checks whether its cores found that all cores are done.
     pub(crate) fn is_done(&self) -> bool
         ensures value { result ≡ self.now.done }
     {
         self.done
     }
 
-    // Whether no block of its cores is away.
+    // Checks whether no block of its cores is away.
     pub(crate) fn has_all_blocks(&self) -> bool
         ensures value { result ≡ have_all_blocks self.now.cores }
     {
         have_all_blocks(&self.cores)
     }
 
-    // The cores.
+    // Returns the cores.
     pub(crate) fn into_cores(self) -> Vec<Core>
         ensures value { result.items ≡ self.cores }
         ensures settled { self.done ≡ true → EachSettled result.items }

@@ -18,8 +18,9 @@ const BUSY_SPIN: u32 = 16;
 
 const BUSY_SPINS: u32 = 8;
 
-// How often in a row it found nothing and looked at once, how often it spun since it last yielded or
-// found something, and how often it spun for a busy shard since it yielded for one or rested.
+// How often in a row a thread found nothing and looked again at once, how often it spun since it
+// last yielded or found something, and how often it spun for a busy shard since it yielded for one
+// or rested.
 #[derive(Drop)]
 pub(crate) struct Patience {
     looks: u32,
@@ -28,7 +29,7 @@ pub(crate) struct Patience {
 }
 
 impl Patience {
-    // The patience of a thread that has just found something.
+    // Makes the patience of a thread that has just found something.
     pub(crate) fn new() -> Patience {
         Patience {
             looks: 0,
@@ -37,9 +38,9 @@ impl Patience {
         }
     }
 
-    // Waits for a little after a round that found nothing, and longer the more often that was so in a
-    // row. After one that found a shard busy it spins, and every ninth such time it yields. A thread that was
-    // just rung begins anew, so it is not the next one that yields.
+    // Waits for a little after a round that found nothing, and longer the more such rounds there
+    // were in a row. After one that found a shard busy it spins, and every ninth such time it
+    // yields. A thread that was just rung begins anew, so it is not the next one that yields.
     pub(crate) fn wait_after(&mut self, round: Round) {
         match round {
             Round::Idle => self.wait(),
@@ -55,13 +56,13 @@ impl Patience {
         }
     }
 
-    // Something was found.
+    // Begins again, since something was found.
     fn begin_again(&mut self) {
         self.looks = 0;
         self.spins = 0;
     }
 
-    // Nothing was found once more.
+    // Waits, since once more nothing was found.
     fn wait(&mut self) {
         if self.looks < LOOKS {
             self.looks += 1;
@@ -74,7 +75,7 @@ impl Patience {
         }
     }
 
-    // A shard was found busy once more.
+    // Waits, since once more a shard was found busy.
     fn wait_for_shard(&mut self) {
         if self.busy < BUSY_SPINS {
             self.busy += 1;

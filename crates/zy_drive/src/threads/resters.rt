@@ -30,7 +30,7 @@ impl Model for Resters {
 }
 
 impl Resters {
-    // The passes of all cores, or none if no core rests.
+    // Makes the passes of all cores, or none if no core rests.
     pub(crate) fn new(
         alloc: Global,
         bells: &Bells,
@@ -59,12 +59,12 @@ impl Resters {
         }
     }
 
-    // Whether cores rest.
+    // Checks whether cores rest.
     pub(crate) fn are_some(&self) -> bool {
         self.rest != 0
     }
 
-    // The next core's right to rest, if it is the one core of this group.
+    // Returns the next core's right to rest, if it is the one core of this group.
     pub(crate) fn next(&mut self, group: &Group) -> Option<Rester>
         ensures rests { (bells : Bells) → AllAt bells self.old → CanRest bells (identities group.now.cores) result }
         ensures left { (bells : Bells) → AllAt bells self.old → AllAt bells self.new }
@@ -103,8 +103,9 @@ fn seat_all(bells: &Bells, root: &mut BellRoot, passes: &mut Vec<BellPass>) -> R
     Ok(())
 }
 
-/// After how many idle turns in a row the cores of a run rest, if `rest` is asked for; 0 if none does. A
-/// core rests only if it has a thread of its own and there are others to ring it.
+/// Returns the number of idle turns in a row after which the cores of a run rest, if `rest` was
+/// requested; 0 if none rests. A core rests only if it has a thread of its own and there are others
+/// to ring it.
 pub fn rest_of(threads: u32, cores: usize, rest: u32) -> u32
     ensures value { result ≡ idle_turns_before_rest threads cores rest }
 {

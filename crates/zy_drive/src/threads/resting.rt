@@ -30,8 +30,8 @@ impl Model for Rester {
 }
 
 impl Rester {
-    // A round of the group: a nap after `rest` turns that did not work, and else a turn. If others
-    // may have something to do since, the core calls them up.
+    // Takes a round of the group: a nap after `rest` turns that did not work, and otherwise a turn.
+    // If others may have something to do after it, the core calls them up.
     fn go_on<R: Wait, G: Gate>(
         &mut self,
         driving: &Driving<'_, R, G>,
@@ -59,7 +59,7 @@ impl Rester {
     }
 }
 
-// The number of rounds in a row that found nothing, at most `most`.
+// Returns the number of rounds in a row that found nothing, at most `most`.
 fn idle_after(idle: u32, most: u32, round: Round) -> u32
     ensures value { result ≡ idle_after most idle round }
 {
@@ -69,7 +69,7 @@ fn idle_after(idle: u32, most: u32, round: Round) -> u32
     }
 }
 
-// A round of a group, which may rest in it if it can rest.
+// Takes a round of a group, in which it may rest if it has the right to.
 pub(crate) fn go_on<R: Wait, G: Gate>(
     driving: &Driving<'_, R, G>,
     group: &mut Group,

@@ -1,12 +1,12 @@
-//! The memory that driving on threads takes, all of it before it begins.
+//! The memory for driving on threads, all of which is taken before it begins.
 ghost use Rattle.std.specs.Prelude.{◌≡◌, ◌≤◌, ◌<◌, ◌+◌, IfOk, vec_len, vec_capacity};
 ghost use Rattle.zy_drive.specs.Deal.{lists_of, AreEmpty, HaveRoom};
 
 use std::alloc::Global;
 use zy_base::NoMemory;
 
-// The groups of at most 64 threads, with room for the seat of each while threads run, and for each when
-// it is back.
+// The groups of at most 64 threads, with room for the seat of each while threads run, and for each
+// group when it is back.
 #[derive(Drop)]
 pub(crate) struct Room<T, S> {
     pub(crate) groups: Vec<Vec<T>>,
@@ -20,8 +20,8 @@ pub(crate) struct Room<T, S> {
 }
 
 impl<T: Drop, S: Drop> Room<T, S> {
-    // Empty groups for `threads` threads, or for one thread for each of `count` items if the items are
-    // fewer, each with room for all items.
+    // Makes empty groups, each with room for all items: one for each of `threads` threads, or for
+    // each of `count` items if these are fewer.
     pub(crate) fn new(alloc: Global, count: usize, threads: usize) -> Result<Room<T, S>, NoMemory>
         requires some { (1 ≤ count) × (1 ≤ threads) }
         requires few { threads ≤ 64 }
@@ -40,7 +40,7 @@ impl<T: Drop, S: Drop> Room<T, S> {
     }
 }
 
-// `groups` empty groups, each with room for `room` items.
+// Makes `groups` empty groups, each with room for `room` items.
 fn empty_groups<T: Drop>(alloc: Global, room: usize, groups: usize) -> Result<Vec<Vec<T>>, NoMemory>
     ensures groups { IfOk result (λ made. HaveRoom room made.items × AreEmpty (lists_of made.items)) }
     ensures len { IfOk result (λ made. vec_len made ≡ groups) }

@@ -20,7 +20,7 @@ use zy_core::Core;
 use zy_park::BellRoot;
 use zy_rx::Feeder;
 
-// The groups of cores as they came back, whether all of them found that all cores are done, and how
+// The groups of cores that came back, whether all of them found that all cores are done, and how
 // the caller's own loop ended.
 #[derive(Drop)]
 pub(crate) struct Ran {
@@ -71,8 +71,8 @@ pub(crate) fn in_scope<R: Threads + Wait + Sync, W: Feeder + Drop, G: Gate + Syn
     )
 }
 
-// Runs in a scope: gives each group its seat, feeds the cores, stops them where that broke off, and
-// waits for the threads.
+// Runs in a scope: gives each group its seat, feeds the cores, stops them if the feeding broke off,
+// and waits for the threads.
 fn run<'s, E, R: Threads + Wait + Sync, F: Feeder, G: Gate + Sync>(
     scope: &Scope<'s, E>,
     driving: &Driving<'s, R, G>,

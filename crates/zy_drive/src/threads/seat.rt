@@ -15,7 +15,7 @@ use std::thread::{Promise, PromisedHandle, Scope, Threads};
 use zy_base::{Gate, NoMemory};
 use zy_core::Core;
 
-// The cores come back as they went out.
+// What a thread keeps of its cores, which come back as they went out.
 #[derive(Drop)]
 pub(crate) struct Keeps {
     before: Snapshot<Group>,
@@ -35,8 +35,8 @@ pub(crate) enum Seat {
     Here(Group),
 }
 
-// The first group, whose bit is 1, is with the caller where the caller drives it. For each other group
-// a thread is started.
+// Gives a group its seat. The first group, whose bit is 1, stays with the caller if the caller
+// drives it; for each other group a thread is started.
 pub(crate) fn seat_group<'s, E, R: Wait + Sync, G: Gate + Sync>(
     scope: &Scope<'s, E>,
     driving: &Driving<'s, R, G>,
@@ -56,8 +56,8 @@ pub(crate) fn seat_group<'s, E, R: Wait + Sync, G: Gate + Sync>(
     start_group(scope, driving, group, rester, bit)
 }
 
-// Starts a thread for a group. If it is refused, the bit is set so that the group leaves at once,
-// and the group is with the caller.
+// Starts a thread for a group. If it cannot be started, the bit is set so that the group leaves at
+// once, and the group is with the caller.
 fn start_group<'s, E, R: Wait + Sync, G: Gate + Sync>(
     scope: &Scope<'s, E>,
     driving: &Driving<'s, R, G>,
@@ -135,7 +135,8 @@ fn drive_group<R: Wait, G: Gate>(
     unreachable!()
 }
 
-// The cores of a group, once its thread has ended, and whether they found that all are done.
+// Returns the cores of a group, once its thread has ended, and whether they found that all are
+// done.
 pub(crate) fn join_seat<R: Threads>(rt: &R, seat: Seat) -> (Vec<Core>, bool)
     ensures same { identities result.0.items ≡ seat_identities seat }
     ensures settled { result.1 ≡ true → EachSettled result.0.items }

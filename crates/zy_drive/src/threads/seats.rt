@@ -16,8 +16,8 @@ use std::thread::{Scope, Threads};
 use zy_base::{Gate, NoMemory};
 use zy_core::Core;
 
-// Gives each group its seat, in turn; it rests if it is one core on a thread of its own and has its
-// pass.
+// Gives each group its seat, in turn. A group that is one core on a thread of its own, and has its
+// pass at the bells, may rest.
 pub(crate) fn start_all<'s, E, R: Wait + Sync, G: Gate + Sync>(
     scope: &Scope<'s, E>,
     driving: &Driving<'s, R, G>,
@@ -45,7 +45,7 @@ pub(crate) fn start_all<'s, E, R: Wait + Sync, G: Gate + Sync>(
     drop(resters);
 }
 
-// A turn of each core that is with the caller.
+// Takes a turn of each core that is with the caller.
 pub(crate) fn go_on_here<R, G: Gate>(
     driving: &Driving<'_, R, G>,
     seats: &mut Vec<Seat>,
@@ -62,7 +62,7 @@ pub(crate) fn go_on_here<R, G: Gate>(
     Ok(all)
 }
 
-// A turn of each core of a group that is with the caller and not done.
+// Takes a turn of each core of a group that is with the caller and not done.
 fn go_on_seat<R, G: Gate>(driving: &Driving<'_, R, G>, seat: &mut Seat) -> Result<Round, NoMemory>
     requires fits { EachFits driving.now.shared.now (seat_identities seat.old) }
     ensures same { seat_identities seat.new ≡ seat_identities seat.old }
@@ -78,7 +78,7 @@ fn go_on_seat<R, G: Gate>(driving: &Driving<'_, R, G>, seat: &mut Seat) -> Resul
     }
 }
 
-// Whether a group is with the caller.
+// Checks whether a group is with the caller.
 pub(crate) fn are_some_here(seats: &[Seat]) -> bool
     ensures value { result ≡ are_some_here seats.now }
 {
@@ -90,7 +90,7 @@ pub(crate) fn are_some_here(seats: &[Seat]) -> bool
     false
 }
 
-// Whether a block of a core that is with the caller is away.
+// Checks whether a block of a core that is with the caller is away.
 pub(crate) fn are_some_away(seats: &[Seat]) -> bool
     ensures value { result ≡ are_some_away seats.now }
 {
@@ -104,7 +104,7 @@ pub(crate) fn are_some_away(seats: &[Seat]) -> bool
     false
 }
 
-// Whether each group that is with the caller is done.
+// Checks whether each group that is with the caller is done.
 pub(crate) fn are_done_here(seats: &[Seat]) -> bool
     ensures value { result ≡ are_done_here seats.now }
 {
@@ -118,7 +118,8 @@ pub(crate) fn are_done_here(seats: &[Seat]) -> bool
     true
 }
 
-// The cores of all groups, once their threads have ended, and whether all found that all are done.
+// Returns the cores of all groups, once their threads have ended, and whether all found that all
+// are done.
 pub(crate) fn join_all<R: Threads>(rt: &R, seats: Vec<Seat>, back: &mut Vec<Vec<Core>>) -> bool
     requires room { vec_len back.old + vec_len seats ≤ vec_capacity back.old }
     ensures same { all_of_groups back.new.items ≡ all_of_groups back.old.items ++ all_of_seats seats.items }
@@ -134,7 +135,7 @@ pub(crate) fn join_all<R: Threads>(rt: &R, seats: Vec<Seat>, back: &mut Vec<Vec<
     all
 }
 
-// Whether both are so.
+// Checks whether both hold.
 fn both(one: bool, other: bool) -> bool
     ensures value { result ≡ true → (one ≡ true) × (other ≡ true) }
 {

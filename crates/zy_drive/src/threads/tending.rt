@@ -19,8 +19,8 @@ use zy_base::{Gate, NoMemory};
 use zy_core::Shared;
 use zy_rx::Feeder;
 
-// How many items are offered in a row before the cores that are with the caller take a turn: the most
-// that a core receives in one.
+// How many items are offered in a row before the cores that are with the caller take a turn: the
+// most that a core receives in a turn.
 const ITEMS_A_TURN: u32 = 64;
 
 // How the caller's own loop ended.
@@ -30,7 +30,7 @@ pub(crate) enum How {
     Ended,
     // The feeder is broken.
     Broken,
-    // An allocation was refused.
+    // An allocation failed.
     Stopped,
 }
 
@@ -124,8 +124,8 @@ fn feed_next<F: Feeder>(
     }
 }
 
-// How many items were offered in a row since the cores that are with the caller took a turn: 0 if
-// they are to take one.
+// Returns the number of items offered in a row since the cores that are with the caller took a
+// turn: 0 if they are to take one.
 fn items_after(items: u32, has_offered: bool) -> u32
     ensures value { result ≡ items_after items has_offered }
 {
@@ -136,7 +136,8 @@ fn items_after(items: u32, has_offered: bool) -> u32
     }
 }
 
-// What the caller found to do, by whether an item was offered, and by the round of its own cores.
+// Returns what the caller found to do, by whether an item was offered, and by the round of its own
+// cores.
 fn found(has_offered: bool, round: Round) -> Round
     ensures value { result ≡ with_work has_offered round }
 {
@@ -146,7 +147,7 @@ fn found(has_offered: bool, round: Round) -> Round
     }
 }
 
-// A turn of each core that is with the caller, if `is_due`.
+// Takes a turn of each core that is with the caller, if `is_due`.
 fn go_on_if<R, G: Gate>(
     is_due: bool,
     driving: &Driving<'_, R, G>,
