@@ -1,4 +1,4 @@
--- A record ends after the count alone.
+-- A record ends only after the count.
 use Rattle.std.proofs.Common.{◌≡◌, ℕ, ◌-◌, List, [], ◌∷◌, ◌++◌, length}
 use Rattle.std.specs.Prelude.{nat_lt, Some}
 use Rattle.zy_read.specs.declared.magic.MagicStep.{MagicStep}

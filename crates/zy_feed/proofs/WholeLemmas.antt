@@ -1,4 +1,4 @@
--- What a feeder has done where it ended or broke.
+-- What a feeder has done when it ended or broke.
 use Rattle.std.proofs.Common.{◌≡◌, ℕ, List, [], ◌++◌, sym, ◌∙◌, ap, subst}
 use Rattle.std.specs.Prelude.{Option, Some, ◌≤◌}
 use Rattle.std.specs.Io.KnownBytes.{Consumes}

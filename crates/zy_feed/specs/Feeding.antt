@@ -26,8 +26,8 @@ use Rattle.zy_feed.specs.Reads.{Intake, HasRead, HasReadAll, StopsIntakeBy}
 
 -- ---- inlets
 
--- the one of `cores` cores for which an item is; the end is for every core, and is counted for the
--- first
+-- the core that an item is for, among `cores` cores; the end is for every core, and counts as one
+-- for the first
 abbrev pub home_in : ℕ → Rx → ℕ
 home_in cores (Segment conn bytes) = home_of cores conn
 home_in cores (Close conn) = home_of cores conn
@@ -58,22 +58,22 @@ feeder_state f = feeding f.source.now f.intake f.inlets f.stage
 abbrev pub in_stage : {S : Type 0} → CaptureFeeder S → Stage → Feeding S
 in_stage f stage = feeding f.source.now f.intake f.inlets stage
 
--- the reason why it broke; none if it is not broken
+-- why a feeder broke; none if it is not broken
 abbrev pub stop_in : Stage → Option (Stop CaptureFault)
 stop_in (Broken stop) = Some stop
 stop_in stage = None
 
--- an item waits
+-- an item of a feeder waits
 abbrev pub IsWaiting : Stage → Type 0
 IsWaiting (Waiting item) = ⊤
 IsWaiting stage = ⊥
 
--- it is broken
+-- a feeder is broken
 abbrev pub IsBroken : Stage → Type 0
 IsBroken (Broken stop) = ⊤
 IsBroken stage = ⊥
 
--- the end, if it was offered to this core: it was to the cores below the next one
+-- the end, if it was offered to this core: it was offered to the cores below the next one
 abbrev pub end_before : ℕ → ℕ → List Rx
 end_before core next = if nat_lt core next then End ∷ [] else []
 
@@ -81,27 +81,27 @@ end_before core next = if nat_lt core next then End ∷ [] else []
 abbrev pub kept_for : ℕ → ℕ → Rx → List Rx
 kept_for cores core item = if home_in cores item == core then item ∷ [] else []
 
--- what a core was sent, by a feeder that has cut these records: the items that are for it, without the one that
--- waits, and then the end where it was offered
+-- what a core was sent by a feeder that has cut these records: the items that are for it, without the one that
+-- waits, and then the end if it was offered
 abbrev pub IsSent : ℕ → ℕ → Stage → List Rx → List Record → Type 0
 IsSent cores core (Waiting item) sent records = sent ++ kept_for cores core item ≡ items_for cores core records
 IsSent cores core (Ending next) sent records = sent ≡ items_for cores core records ++ end_before core next
 IsSent cores core Ended sent records = sent ≡ offered_to cores core records
 IsSent cores core stage sent records = sent ≡ items_for cores core records
 
--- each core was sent so
+-- each core was sent that
 abbrev pub AreSent : List (List Rx) → Stage → List Record → Type 0
 AreSent sents stage records =
     (core : ℕ) (sent : List Rx) → slice_get sents core ≡ Some sent → IsSent (length sents) core stage sent records
 
--- it stopped, and this is the cause
+-- a feeder stopped, and this is the cause
 pub record HasStoppedFeeding {S : Type 0} (rest : S → Option (List ℕ)) (faults : S → ℕ) (first now : S)
     (stop : Stop CaptureFault) : Type 0 where
   pub cause : StopsIntakeBy rest faults first now stop
   pub count : faults first ≤ faults now
 
--- what it has read, by its stage: these records in these bytes, the whole capture once its records
--- have ended, or it stopped
+-- what a feeder has read, by its stage: these records in these bytes; the whole capture, once its
+-- records have ended; or it stopped
 abbrev pub IsReadTo : {S : Type 0} → (S → Option (List ℕ)) → (S → ℕ) → S → S → Intake → Stage → List Record → List ℕ
     → Type 0
 IsReadTo rest faults first now intake Cutting records bytes = HasRead rest faults first now intake records bytes
@@ -111,13 +111,14 @@ IsReadTo rest faults first now intake (Ending core) records bytes =
 IsReadTo rest faults first now intake Ended records bytes = HasReadAll rest faults first now intake records bytes
 IsReadTo rest faults first now intake (Broken stop) records bytes = HasStoppedFeeding rest faults first now stop
 
--- since its source was the first one it has cut these records of these bytes, and sent their items
+-- since its source was in the first state, a feeder has cut these records from these bytes, and
+-- sent their items
 pub record Stands {S : Type 0} (rest : S → Option (List ℕ)) (faults : S → ℕ) (first : S) (f : Feeding S)
     (records : List Record) (bytes : List ℕ) : Type 0 where
   pub read : IsReadTo rest faults first f.source f.intake f.stage records bytes
   pub sent : AreSent f.sents f.stage records
 
--- the later feeder has cut further records from further bytes, whatever the earlier one has read
+-- the later feeder has cut more records from more bytes, whatever the earlier one has read
 abbrev pub LeadsTo : {S : Type 0} → (S → Option (List ℕ)) → (S → ℕ) → Feeding S → Feeding S → Type 0
 LeadsTo {S} rest faults f g =
     (first : S) (records : List Record) (bytes : List ℕ) → Stands rest faults first f records bytes

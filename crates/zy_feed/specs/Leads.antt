@@ -1,4 +1,4 @@
--- That a feeder comes after itself, and what comes after a later one after an earlier one.
+-- Coming after is reflexive and transitive.
 use Rattle.std.proofs.Common.{ℕ, List, [], ◌++◌, append_assoc}
 use Rattle.std.specs.Prelude.{Option}
 use Rattle.std.proofs.lemmas.List.{append-nil}
@@ -8,7 +8,7 @@ use Rattle.zy_feed.specs.Feeding.{Feeding, LeadsTo}
 pub leads_same : {S : Type 0} (rest : S → Option (List ℕ)) (faults : S → ℕ) (f : Feeding S) → LeadsTo rest faults f f
 leads_same rest faults f first records bytes stands = ([], ([], rw (append-nil records, append-nil bytes) stands))
 
--- and what comes after a later one comes after an earlier one
+-- what comes after a later feeder comes after an earlier one
 pub leads_on : {S : Type 0} (rest : S → Option (List ℕ)) (faults : S → ℕ) (f g h : Feeding S) → LeadsTo rest faults f g
     → LeadsTo rest faults g h → LeadsTo rest faults f h
 leads_on rest faults f g h one two first records bytes stands =

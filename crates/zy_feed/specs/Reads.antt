@@ -19,7 +19,7 @@ use Rattle.zy_feed.specs.declared.intake.Header.{Header}
 
 -- ---- a capture that is read in pieces
 
--- how far the reader is, and the bytes of the piece that it was not fed yet
+-- how far the reader is, and the bytes of the piece that were not fed to it yet
 pub record Intake : Type 0 where
   pub reader : CaptureProgress
   pub left : List ℕ
@@ -60,7 +60,7 @@ StopsIntakeBy rest faults first now NoMemory = ⊤
 abbrev pub TellsHeader : List ℕ → Header → Type 0
 TellsHeader bytes header = (version_of bytes ≡ Some header.version) × (count_of bytes ≡ Some header.count)
 
--- they cannot be read from the bytes yet
+-- version or count cannot be read from the bytes yet
 abbrev pub TellsNoHeader : List ℕ → Type 0
 TellsNoHeader bytes = (version_of bytes ≡ None) ⊎ (count_of bytes ≡ None)
 
@@ -103,7 +103,6 @@ RefillsIntake rest faults first now intake records bytes (Ok false) =
     HasReadAll rest faults first now intake records bytes
 RefillsIntake rest faults first now intake records bytes (Err stop) = StopsIntakeBy rest faults first now stop
 
--- the bytes that were read end between two records, or before or after all of them, and those left of the piece begin
--- with a whole record; or that is not so
+-- whether the bytes that were read end outside of records, and those left of the piece begin with a whole record
 abbrev pub HoldsRecord : List ℕ → List ℕ → Bool → Type 0
 HoldsRecord bytes left holds = (holds ≡ true) ↔ ((is_within_record bytes ≡ false) × BeginsWithRecord left)

@@ -31,7 +31,7 @@ pub struct CaptureFeeder<'s, S> {
 }
 
 impl<'s, S: Source> CaptureFeeder<'s, S> {
-    /// A feeder of what this intake has begun to read of the source. Takes no memory.
+    /// Makes a feeder of what this intake has begun to read of the source. Takes no memory.
     pub fn new(source: &'s mut S, intake: Intake, inlets: Inlets) -> CaptureFeeder<'s, S>
         ensures source { result.source.ghost_name ≡ source.entry.ghost_name }
         ensures now { result.source.now ≡ source.old }
@@ -47,7 +47,8 @@ impl<'s, S: Source> CaptureFeeder<'s, S> {
         }
     }
 
-    /// The source, the inlets, and the reason why the feeder broke, if it is broken. Takes no memory.
+    /// Returns the source, the inlets, and the reason why the feeder broke, if it is broken. Takes
+    /// no memory.
     pub fn into_parts(self) -> (&'s mut S, Inlets, Option<Stop>)
         ensures source { result.0.ghost_name ≡ self.entry.source.ghost_name }
         ensures now { result.0.now ≡ self.entry.source.now }
@@ -85,7 +86,7 @@ impl<'s, S: Source> CaptureFeeder<'s, S> {
         }
     }
 
-    // Offers the item that waits again.
+    // Offers again the item that waits.
     fn offer_again(&mut self) -> Fed
         requires waiting { IsWaiting self.old.stage }
         ensures source { self.new.source.ghost_name ≡ self.old.source.ghost_name }
@@ -98,7 +99,7 @@ impl<'s, S: Source> CaptureFeeder<'s, S> {
         }
     }
 
-    // Offers an item to the core for which it is, and keeps it if it is handed back.
+    // Offers an item to the core that it is for, and keeps it if it is handed back.
     #[inline(always)]
     fn deliver(&mut self, item: Rx) -> Fed
         requires cutting { self.old.stage ≡ Stages.Cutting }
@@ -116,7 +117,7 @@ impl<'s, S: Source> CaptureFeeder<'s, S> {
         }
     }
 
-    // Offers the end to this core, where there is one.
+    // Offers the end to this core, if there is one.
     fn end(&mut self, core: u32) -> Fed
         ensures source { self.new.source.ghost_name ≡ self.old.source.ghost_name }
         ensures steps { StepsTo self.old.inlets self.new.inlets self.new.stage result }
@@ -159,7 +160,8 @@ impl<'s, S: Source> Feeder for CaptureFeeder<'s, S> {
         }
     }
 
-    // It may wait only to cut a record, and only if the piece does not hold it whole.
+    // Checks whether the next step may wait: only if it cuts a record that the piece does not hold
+    // whole.
     fn may_wait(&self) -> bool
         ensures cutting { result ≡ true → self.now.stage ≡ Stages.Cutting }
         ensures held { result ≡ false → self.now.stage ≡ Stages.Cutting
@@ -187,7 +189,7 @@ impl<'s, S: Source> Feeder for CaptureFeeder<'s, S> {
     ) };
 }
 
-// The item as which a record is offered; its bytes are moved.
+// Makes the item that offers a record; its bytes are moved.
 fn item_of(next: Record) -> Rx
     ensures value { result ≡ Routing.offered_item next }
 {

@@ -29,7 +29,7 @@ impl Model for Inlets {
 }
 
 impl Inlets {
-    /// The inlet of each core, by core.
+    /// Makes the list of each core's inlet, by core.
     pub fn new(items: Vec<Inlet>) -> Inlets
         requires some { 1 ≤ length items.items }
         requires few { length items.items ≤ 64 }
@@ -41,7 +41,7 @@ impl Inlets {
         }
     }
 
-    /// The inlet of each core, by core. Takes no memory.
+    /// Returns the inlet of each core, by core. Takes no memory.
     pub fn into_vec(self) -> Vec<Inlet>
         ensures value { result.items ≡ self }
     {
@@ -49,7 +49,7 @@ impl Inlets {
         items
     }
 
-    // The number of cores.
+    // Returns the number of cores.
     pub(crate) fn count(&self) -> u32
         ensures value { result ≡ length self.now }
         ensures limit { result ≤ 64 }
@@ -57,8 +57,8 @@ impl Inlets {
         self.items.len() as u32
     }
 
-    // Offers an item to the core that it is for. It is handed back if that core's ring
-    // looks full.
+    // Offers an item to the core that it is for. It is handed back if the inlet of that core knows
+    // no free slot.
     #[inline(always)]
     pub(crate) fn deliver(&mut self, item: Rx) -> Option<Rx>
         ensures ok { IfNone result
@@ -72,7 +72,7 @@ impl Inlets {
         self.offer(core, item)
     }
 
-    // The core that an item is for.
+    // Returns the core that an item is for.
     fn home_of(&self, item: &Rx) -> u32
         ensures value { result ≡ home_in (length self.now) item.now }
         ensures within { result < length self.now }

@@ -16,14 +16,14 @@ use zy_read::{Fed, Pieces};
 /// What a capture begins with.
 #[derive(Clone, Copy, PartialEq, Eq)]
 pub struct Header {
-    /// 1 or 2.
+    /// The version, 1 or 2.
     pub version: u32,
     /// How many connections it has.
     pub count: u32,
 }
 
 /// A capture that is read in pieces of 64 KiB. Contracts see how far its reader is, and the bytes
-/// of the piece that the reader was not fed yet.
+/// of the piece that were not fed to it yet.
 #[derive(Drop)]
 pub struct Intake {
     reader: Reader,
@@ -89,7 +89,7 @@ impl Intake {
         unreachable!()
     }
 
-    // Version and count, where both are known.
+    // Returns version and count, if both are known.
     fn header(&self) -> Option<Header>
         ensures some { IfSome result (λ header. (given : List Record) (b : List ℕ)
             → StandsForRecords self.now.reader given b → TellsHeader b header) }
@@ -101,7 +101,7 @@ impl Intake {
         Some(Header { version, count })
     }
 
-    /// Cuts the next record, for which it reads as many pieces as it needs; `None` if the capture
+    /// Cuts the next record, and reads the pieces that it needs for that; `None` if the capture
     /// is whole.
     pub fn cut<S: Source>(&mut self, source: &mut S) -> Result<Option<Record>, Stop>
         ensures value { (first : S) (records : List Record) (bytes : List ℕ)
@@ -121,7 +121,7 @@ impl Intake {
         Err(Stop::Refused(CaptureFault::TooLong))
     }
 
-    // Whether the piece holds the whole next record, so that no read is needed to cut it.
+    // Checks whether the piece holds the whole next record, so that no read is needed to cut it.
     pub(crate) fn holds_record(&self) -> bool
         ensures value { (records : List Record) (bytes : List ℕ) → StandsForRecords self.now.reader records bytes
             → HoldsRecord bytes self.now.left result }
@@ -129,8 +129,8 @@ impl Intake {
         !self.reader.is_within_record() && begins_with_record(self.pieces.left())
     }
 
-    // Reads the next piece if nothing is left of this one. Gives whether there are bytes; if there are
-    // none, the capture is whole.
+    // Reads the next piece if nothing is left of this one. Returns whether there are bytes; if
+    // there are none, the capture is whole.
     fn refill<S: Source>(&mut self, source: &mut S) -> Result<bool, Stop>
         ensures value { (first : S) (records : List Record) (bytes : List ℕ)
             → HasRead S.rest S.faults first source.old self.old records bytes

@@ -1,4 +1,4 @@
-//! What a feeder has done where it ended or broke.
+//! What a feeder has done when it ended or broke.
 ghost use Rattle.std.specs.Prelude.{◌≡◌, Some};
 ghost use Rattle.zy_feed.specs.declared.intake.Header.{Header};
 ghost use Rattle.zy_read.specs.declared.stop.Stop.{Stop};
@@ -10,9 +10,9 @@ ghost use Rattle.zy_feed.specs.Feeding.{LeadsTo};
 
 use zy_base::Source;
 
-/// A feeder of a capture that was begun, whose inlets were fresh, and that has ended: the source
-/// held a capture with the version and the count that were read first, it is at its end, and each
-/// core was sent the items of the records that are for it, followed by the end.
+/// If a feeder began with a capture's header and fresh inlets, and has ended, then the source held
+/// a capture with that version and count and is at its end, and each core was sent the items of the
+/// records that are for it, followed by the end.
 pub fn a_feeder_that_ended_has_offered_the_capture<S: Source>()
     ensures all { (first : S) (header : Header) (f g : Feeding S)
         → HasBegun S.rest S.faults first f.source f.intake header → AreUnsent f.sents
@@ -20,7 +20,7 @@ pub fn a_feeder_that_ended_has_offered_the_capture<S: Source>()
         → HasFedAll S.rest S.faults first g.source header g.sents }
 {}
 
-/// A feeder that has broken has its cause: the fault is the verdict on all that the source held
+/// If a feeder has broken, it has its cause: the fault is the verdict on all that the source held
 /// before the first read, or the source's count of faults rose since, or is at its largest value.
 pub fn a_broken_feeder_has_its_cause<S: Source>()
     ensures cause { (first : S) (header : Header) (f g : Feeding S) (stop : Stop CaptureFault)

@@ -6,7 +6,7 @@ use zy_rx::Rx;
 // Where a feeder is.
 #[derive(Drop)]
 pub(crate) enum Stage {
-    // The next record is to be cut.
+    // The next record is to be cut out.
     Cutting,
     // This item was handed back, and is offered next.
     Waiting(Rx),
