@@ -1,4 +1,4 @@
--- The connections of the cores, one further connection at a time.
+-- The connections of the cores, one more connection at a time.
 use Rattle.std.specs.Prelude.{◌↔◌, ◌||◌, All}
 use Rattle.std.specs.List.{AllByRecursion}
 use Rattle.std.proofs.Common.{◌≡◌, ◌≢◌, ℕ, zero, suc, ◌+◌, ◌<◌, ◌≤◌, List, [], ◌∷◌, ◌++◌, length, true, false, slice_get, set, get_or, sym, ap, ◌∙◌, subst, arith, eq-eqb, ne_eqb, length-append, length-set}

@@ -44,7 +44,7 @@ pub record IsOwnOf (store : TableId) (core cores conn : ℕ) (own : OwnConnectio
   pub rings : rings_of_inlets own.inlets ≡ rings_of_blocks own.blocks
   pub unused : AllByRecursion IsUnused own.inlets
 
--- those of each core
+-- the connections below `conn` of each core
 pub record AreOwns (store : TableId) (cores conn : ℕ) (owns : List OwnConnections) : Type 0 where
   pub count : length owns ≡ cores
   pub each : (core : ℕ) (own : OwnConnections) → slice_get owns core ≡ Some own → IsOwnOf store core cores conn own
@@ -70,7 +70,7 @@ no_passes (suc cores) = no_passes cores ++ pass_list cores [] ∷ []
 abbrev pub others_among : ℕ → ℕ → ℕ
 others_among core cores = if nat_lt core cores then cores - 1 else cores
 
--- the passes of a core on the rings that there are
+-- the passes of a core on the rings made so far
 pub record HasPasses (label : Name) (rings : List Ringed) (core : ℕ) (passes : PassList Blocked) : Type 0 where
   pub core_is : passes.core ≡ core
   pub count : length passes.items ≡ others_among core (length rings)

@@ -9,8 +9,8 @@ use Rattle.zy_steal.specs.Steal.{PassList, ArePasses, AreIdle, seats_of}
 use Rattle.zy_core.specs.Share.{Sharing}
 use Rattle.zy_core.specs.Core.{Cored}
 
--- the home of this core, of this number of cores, on its ring among these, with this label; it was not refused, and has
--- received and published nothing
+-- the home of this core, of this number of cores, on its ring among these, with this label; no allocation failed in it,
+-- and it has received and published nothing
 pub record IsNewHome (rings : List Ringed) (label : Name) (cores core : ℕ) (h : Homed) : Type 0 where
   pub core_is : h.core ≡ core
   pub cores_is : h.cores ≡ cores
@@ -46,6 +46,6 @@ pub record IsUnusedRing (inlet : Offering) : Type 0 where
   pub unused : inlet ≡ offering inlet.ring [] 256
   pub slots : inlet.ring.capacity ≡ 256
 
--- the same of the receive ring of each core
+-- the same holds of the receive ring of each core
 abbrev pub AreUnusedRings : List Offering → Type 0
 AreUnusedRings inlets = (core : ℕ) (inlet : Offering) → slice_get inlets core ≡ Some inlet → IsUnusedRing inlet

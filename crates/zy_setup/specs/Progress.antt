@@ -44,7 +44,7 @@ pub record AddsCore (shared : Sharing) (home : Homed) (passes : PassList Blocked
   pub ring : core.outlet.ring ≡ inlet.ring
   pub fresh : IsUnusedRing inlet
 
--- cores were made of all these homes and passes but those that are left
+-- cores were made of all these homes and passes except for those that are left
 pub record HasMadeCores (shared : Sharing) (homes : List Homed) (passes : List (PassList Blocked)) (m : Making)
     (homes_left : List Homed) (passes_left : List (PassList Blocked)) : Type 0 where
   pub count : length m.inlets.items + length homes_left ≡ length shared.rings

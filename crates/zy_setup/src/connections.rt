@@ -12,7 +12,8 @@ use zy_base::NoMemory;
 use zy_conn::{Block, EventInlet};
 use zy_rx::FlowTable;
 
-// The block and the inlet of a connection that got no pass before, of a run of this number of cores.
+// Makes the block and the inlet of a connection that got no pass before, in a run with this number
+// of cores.
 fn connection(
     alloc: Global,
     store: &StoreTable,
@@ -79,7 +80,7 @@ fn add_connections(
     Ok(())
 }
 
-/// The connections below the count, each with its home core.
+/// Makes the connections below the count, each with its home core.
 pub(crate) fn all_owns(
     alloc: Global,
     count: u32,

@@ -23,7 +23,7 @@ pub(crate) struct CoreParts {
 }
 
 impl CoreParts {
-    /// The parts of all cores, with these connections.
+    /// Makes the parts of all cores, with these connections.
     pub(crate) fn of(
         alloc: Global,
         store: &StoreTable,
@@ -52,7 +52,7 @@ impl CoreParts {
         }
     }
 
-    // No home, and no passes. Takes no memory.
+    // Begins without a home and without passes. Takes no memory.
     fn new(alloc: Global) -> CoreParts
         ensures homes { result.homes.items ≡ [] }
         ensures rings { result.rings ≡ [] }
@@ -126,7 +126,7 @@ impl CoreParts {
                 return Err(e);
             }
         };
-        // Does nothing. The call tells the prover that the places of a ring are the slots of its table.
+        // The call tells the prover that the places of a ring are the slots of its table.
         let _places = ring.places();
         if let Err(e) = give_passes(&ring, &mut pass, core, &mut self.passes) {
             drop(ring);
@@ -161,7 +161,7 @@ impl CoreParts {
     }
 }
 
-// The home of a core on the ring of this pass, with its connections.
+// Makes the home of a core on the ring of this pass, with its connections.
 fn home_of(
     alloc: Global,
     core: u32,

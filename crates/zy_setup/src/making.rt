@@ -59,7 +59,7 @@ pub(crate) fn make_cores(
     }
 }
 
-// Makes the cores, which share this.
+// Makes the cores, which share these parts.
 fn run_on(
     alloc: Global,
     shared: Shared,

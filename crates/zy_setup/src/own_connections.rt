@@ -7,7 +7,7 @@ use zy_base::NoMemory;
 use zy_conn::{Block, EventInlet};
 use zy_home::{Blocks, Inlets};
 
-/// The blocks of a core's connections by rising number, with their inlets, and how many they are.
+/// The blocks of a core's connections by rising number, with their inlets, and their number.
 #[derive(Drop)]
 pub(crate) struct OwnConnections {
     pub(crate) places: u32,
@@ -16,7 +16,7 @@ pub(crate) struct OwnConnections {
 }
 
 impl OwnConnections {
-    /// No connection. Takes no memory.
+    /// Begins without a connection. Takes no memory.
     pub(crate) fn new(alloc: Global) -> OwnConnections
         ensures value { IsEmpty result }
     {

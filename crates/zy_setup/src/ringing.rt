@@ -12,8 +12,8 @@ use zy_conn::Block;
 use zy_shuffle::{HomePass, Label, Ring};
 use zy_steal::Passes;
 
-/// A ring with `places` places, all in the home's hand, whose label is that of the blocks of the store
-/// and this number of cores.
+/// Makes a ring with `places` places, all in the home's hand, whose label is that of the blocks of
+/// the store and this number of cores.
 pub(crate) fn ring_of(
     alloc: Global,
     store: &StoreTable,
@@ -28,7 +28,7 @@ pub(crate) fn ring_of(
     ring_as::<Brand>(alloc, store, cores, places)
 }
 
-// The same, with a marker type that has this label.
+// Makes such a ring, with a marker type that has this label.
 fn ring_as<L: Label>(
     alloc: Global,
     _store: &StoreTable,

@@ -28,7 +28,7 @@ pub fn make_run(alloc: Global, count: u32, cores: u32, shards: u32) -> Result<Ru
     requires some_shards { 1 ≤ shards }
     requires few_shards { shards ≤ 256 }
 
-    // The run, as driving and finishing ask for it.
+    // The run, as driving and finishing require it.
     ensures run { IfOk result (IsRunning count) }
     ensures inlets { IfOk result (λ run. AreInlets (rings_of run.inlets.items) (identities run.cores)) }
     ensures count { IfOk result (λ run. length run.shared.rings ≡ cores) }
@@ -52,7 +52,8 @@ pub fn make_run(alloc: Global, count: u32, cores: u32, shards: u32) -> Result<Ru
     Ok(made)
 }
 
-// The homes, the rings, and the passes on these, with the connections whose passes the root gives.
+// Makes the homes, the rings, and the passes on these, with the connections whose passes the root
+// gives.
 fn parts_of(
     alloc: Global,
     count: u32,
