@@ -1,4 +1,5 @@
--- The calls of entries that are those due of streams' commands are within the bounds of the journal.
+-- The calls of entries that are the expected calls of streams' commands are within the bounds of the
+-- journal.
 use Rattle.std.specs.List.{AllByRecursion}
 use Rattle.std.proofs.Common.{◌≡◌, ℕ, ◌≤◌, List, [], ◌∷◌, length, sym, subst, arith}
 use Rattle.mc_calls.specs.declared.entry.Entry.{Entry}

@@ -1,4 +1,4 @@
--- Where the homes of all cores are settled, the block of each connection is at its place, and idle.
+-- If the homes of all cores are settled, the block of each connection is in its place, and idle.
 use Rattle.std.specs.Prelude.{◌&&◌, not, map, option_map}
 use Rattle.std.specs.List.{AllByRecursion}
 use Rattle.std.proofs.Common.{◌≡◌, ℕ, zero, suc, ◌<◌, List, [], ◌∷◌, length, Bool, true, false, Option, Some, None, slice_get, refl, sym, ap, ◌∙◌, arith}

@@ -60,7 +60,7 @@ pub record IsCarriedOut (shards conn : ℕ) (streams : List (List ℕ)) (calls :
   pub texts_are : left.texts ≡ texts_of (commands_over streams) calls
   -- its sessions ended where their streams do
   pub ends_are : left.ends ≡ ends_of streams
-  -- its holds belong to no other connection
+  -- its holds are all of this connection
   pub holds_are : AreOf conn left.holds
   -- and their counts add up to the number of its commands
   pub held : held_in left.holds ≡ length (commands_over streams)

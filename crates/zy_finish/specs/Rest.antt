@@ -76,7 +76,7 @@ abbrev pub calls_of_block : Option Blocked → List Entry
 calls_of_block None = []
 calls_of_block (Some block) = block.work.calls
 
--- its holds
+-- the holds of a block
 abbrev pub holds_in : Option Blocked → List Hold
 holds_in None = []
 holds_in (Some block) = block.holds
@@ -86,7 +86,7 @@ abbrev pub texts_in : Option EndedOutput → List (List ℕ)
 texts_in None = []
 texts_in (Some end) = end.output.texts
 
--- its ends
+-- the ends of an output
 abbrev pub ends_in : Option EndedOutput → List ℕ
 ends_in None = []
 ends_in (Some end) = end.ends

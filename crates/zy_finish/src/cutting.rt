@@ -5,7 +5,7 @@ ghost use Rattle.zy_finish.specs.Left.{bytes_between};
 
 use zy_calls::Output;
 
-// The first `count` texts, joined; all of them if there are fewer.
+// Returns the first `count` texts, joined; all of them if there are fewer.
 fn first(output: &Output, count: u64) -> &[u8]
     ensures value { result.now ≡ concat (take count output.now.texts) }
 {
@@ -16,7 +16,7 @@ fn first(output: &Output, count: u64) -> &[u8]
     }
 }
 
-/// The texts from one number up to another, joined. Takes no memory.
+/// Returns the texts from one number up to another, joined. Takes no memory.
 pub(crate) fn between(output: &Output, start: u64, stop: u64) -> &[u8]
     ensures value { result.now ≡ bytes_between start stop output.now.texts }
 {
@@ -27,7 +27,7 @@ pub(crate) fn between(output: &Output, start: u64, stop: u64) -> &[u8]
     &first(output, stop)[skipped..]
 }
 
-/// The texts from one number on, joined. Takes no memory.
+/// Returns the texts from one number on, joined. Takes no memory.
 pub(crate) fn behind(output: &Output, start: u64) -> &[u8]
     ensures value { result.now ≡ concat (drop start output.now.texts) }
 {

@@ -36,7 +36,7 @@ pub struct Finished {
 
 /// Takes a run apart when all its cores are settled: joins the passes of all connections with the root,
 /// closes the store, merges its histories with the holds, and cuts the outputs at the ends of the
-/// sessions. The head is that of the capture of which the cores were sent the records.
+/// sessions. The head is that of the capture whose records were sent to the cores.
 ///
 /// `Err` means `NoMemory`; it is also the answer if a connection has more than 2^31 sessions.
 pub fn finish(alloc: Global, header: Header, running: Running) -> Result<Finished, NoMemory>
@@ -65,7 +65,7 @@ pub fn finish(alloc: Global, header: Header, running: Running) -> Result<Finishe
     Ok(finished)
 }
 
-// The same, of the homes of all cores, the store and its root.
+// Takes the homes of all cores, the store and its root apart.
 fn finish_homes(
     alloc: Global,
     header: Header,
@@ -81,7 +81,7 @@ fn finish_homes(
         → IsResultOfRun store.shards header.version header.count records finished) }
     ensures held { IfOk result (λ finished. AllByRecursion (IsHoldBy (length homes.items)) finished.journal.holds) }
 {
-    // Does nothing. The call shows the prover that the shards are the slots of the table, at most 256.
+    // The call tells the prover that the shards are the slots of the table, at most 256.
     let _shards = store.shards();
     let mut rests = match rests_of(alloc, homes) {
         Ok(rests) => rests,
@@ -110,7 +110,7 @@ fn finish_homes(
         holds,
         outputs,
     } = gathered;
-    // Does nothing. The call shows the prover that the outputs are valid.
+    // The call tells the prover that the outputs are valid.
     let _version = outputs.version();
     match journal_of(store, root, Holds::from_vec(holds)) {
         Ok(journal) => Ok(Finished { journal, outputs }),
@@ -121,7 +121,7 @@ fn finish_homes(
     }
 }
 
-// The merged histories of a store whose passes were all joined, with the holds.
+// Makes the journal of a store whose passes were all joined: its merged histories, with the holds.
 fn journal_of(store: StoreTable, root: Root, holds: Holds) -> Result<Journal, NoMemory>
     requires table { root.table ≡ store.id }
     requires all { (conn : ℕ) → is_in conn root.given ≡ true → is_joined conn root.joined ≡ true }

@@ -49,7 +49,7 @@ impl Rest {
     }
 }
 
-/// The rests of homes, with what each home kept.
+/// Makes the rests of homes, with all that each home keeps.
 pub(crate) fn rests_of(alloc: Global, homes: Vec<Home>) -> Result<Vec<Rest>, NoMemory>
     ensures value { IfOk result (λ rests. rests.items ≡ map rest_of_home homes.items) }
     ensures keeps { OnOk result (AllByRecursion IsSoundHome homes.items) }

@@ -14,8 +14,8 @@ use zy_capture::Outputs;
 // The most ends of sessions that a connection may have.
 const END_LIMIT: usize = 1 << 31;
 
-/// Adds the outputs of the next connection's sessions, which are its texts cut at these ends. In
-/// version 1, and where a connection has one session, its bytes are not copied.
+/// Adds the outputs of the next connection's sessions, which are its texts, cut at these ends. In
+/// version 1, and if a connection has one session, its bytes are not copied.
 pub(crate) fn add_sessions(
     alloc: Global,
     outputs: &mut Outputs,

@@ -9,8 +9,8 @@ use zy_core::{Core, Cores};
 use zy_home::Home;
 use zy_rx::{Inlet, both_ends};
 
-/// Takes each core apart, and puts its home into this list, which has room for all. Both ends of each
-/// receive ring show what was sent and not taken.
+/// Takes each core apart, and puts its home into this list, which has room for all. The two ends of
+/// each receive ring show what was sent and not taken.
 pub(crate) fn take_homes(cores: Cores, inlets: Vec<Inlet>, homes: Vec<Home>) -> Vec<Home>
     requires rings { rings_of inlets.items ≡ rings_in (identities cores) }
     requires none { homes.items ≡ [] }
@@ -29,7 +29,7 @@ pub(crate) fn take_homes(cores: Cores, inlets: Vec<Inlet>, homes: Vec<Home>) -> 
     homes
 }
 
-// Takes a core apart. Both ends of its receive ring show what was sent and not taken.
+// Takes a core apart. The two ends of its receive ring show what was sent and not taken.
 fn take_one(core: Core, inlet: Inlet) -> Home
     requires ring { inlet.ring ≡ core.outlet.ring }
     ensures home { result ≡ core.home }
