@@ -35,15 +35,15 @@ front Both journal = journal_bytes journal
 abbrev pub written : Out → Journal → AllOutputs → List ℕ
 written out journal outputs = front out journal ++ replies_bytes outputs
 
--- the journal is that of a served run of the capture that these bytes are, on the number of shards and cores that were
--- asked for, and these are its outputs
+-- the bytes are a capture, the journal is that of a served run of it on the requested numbers of shards and cores, and
+-- these are its outputs
 pub record IsServed (asked : Run) (bytes : List ℕ) (journal : Journal) (outputs : AllOutputs) : Type 0 where
   pub version : ℕ
   pub count : ℕ
   pub records : List Record
   -- the bytes are a capture, with these records
   pub capture : verdict bytes ≡ Good version count records
-  -- and they are the encoding of these
+  -- and the bytes are the encoding of these
   pub spelled : Spells bytes version count records
   -- the entries are one legal run of its commands: each is executed once, in the order of
   -- arrival, none after quit, and none is left
@@ -58,10 +58,10 @@ pub record IsServed (asked : Run) (bytes : List ℕ) (journal : Journal) (output
   pub replies : outputs ≡ outputs_of_records version count records journal.entries
   -- the journal is within the bounds of its format, so it can be written and read again
   pub readable : IsReadable journal
-  -- so are the outputs
+  -- the outputs are within the bounds of their format
   pub lawful : AreOutputs outputs
 
--- the same, and this is so of the text that is expected of it
+-- the same, and this holds of the text that is expected of it
 pub record IsWritten (asked : Run) (out : Out) (bytes : List ℕ) (journal : Journal)
     (Writes : List ℕ → Type 0) : Type 0 where
   pub outputs : AllOutputs

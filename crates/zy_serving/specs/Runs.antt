@@ -10,7 +10,7 @@ use Rattle.zy_command_line.specs.declared.request.Run.{Run}
 use Rattle.zy_serving.specs.Seen.{Side, HasRisen, OfGiven}
 use Rattle.zy_serving.specs.Headline.{IsServed}
 
--- it stopped for its cause: the bytes have this fault, if they are reported, or a read failed
+-- a call stopped for its cause: the bytes have this fault, if they are reported, or a read failed
 abbrev pub StopsFor : {F : Type 0} → (F → List ℕ → Type 0) → Side → Stop F → Type 0
 StopsFor HasFault source (Stops.Refused fault) = IfSome source.before (HasFault fault)
 StopsFor HasFault source Stops.ReadFault = HasRisen source

@@ -29,11 +29,11 @@ side bytes faults old new = record {
 abbrev pub both_sides : Side → Side → Seen
 both_sides source sink = record { source = source; sink = sink }
 
--- the count of faults rose, or is at its last value
+-- the count of faults rose, or is at its largest value
 abbrev pub HasRisen : Side → Type 0
 HasRisen of = Rose of.faults_before of.faults_after
 
--- neither count rose, or is at its last value
+-- neither count rose, and neither is at its largest value
 abbrev pub NoneRose : Seen → Type 0
 NoneRose call = (HasRisen call.source → ⊥) × (HasRisen call.sink → ⊥)
 
@@ -45,12 +45,12 @@ WasWritten sink bytes = Grew sink.before sink.after bytes
 abbrev pub TakesPart : Side → List ℕ → Type 0
 TakesPart sink bytes = GrewByPrefix sink.before sink.after bytes
 
--- this is so of the bytes that the source gave, and it is at its end
+-- this holds of the bytes that the source gave, and the source is at its end
 abbrev pub OfGiven : Side → (List ℕ → Type 0) → Type 0
 OfGiven source Holds = (bytes : List ℕ) × ReadsAll source.before source.after bytes × Holds bytes
 
--- this is so of all bytes that the source reported before the call, and none of them is left; of a source that
--- reports none it says nothing
+-- this holds of all bytes that the source reported before the call, and none of them is left; nothing is said
+-- of a source that reports none
 abbrev pub OfReported : Option (List ℕ) → Option (List ℕ) → (List ℕ → Type 0) → Type 0
 OfReported None after Holds = ⊤
 OfReported (Some bytes) after Holds = (after ≡ Some []) × Holds bytes

@@ -101,7 +101,7 @@ pub(crate) fn drive_capture<R: Threads + Wait + Sync, S: Source, G: Gate + Sync>
     }
 }
 
-// Drives the cores on one thread, by the order that the words ask for, or on several.
+// Drives the cores on one thread, by the requested order, or on several.
 pub(crate) fn drive_cores<R: Threads + Wait + Sync, F: Feeder, G: Gate + Sync>(
     rt: &R,
     alloc: Global,
@@ -173,8 +173,8 @@ fn drive_threads<R: Threads + Wait + Sync, F: Feeder, G: Gate + Sync>(
     driven
 }
 
-// Who drives the first group. The caller does if there are as many threads as processors, so that none is
-// left for a feeder on a thread of its own, and no core rests.
+// Returns who drives the first group. The caller does if no core rests and there are as many
+// threads as processors, so that none is left for a feeder on a thread of its own.
 fn first_group<R: Threads>(rt: &R, run: Run) -> FirstGroup
     ensures caller { result ≡ FirstGroup.Caller
         → (1 < run.threads) × (idle_turns_before_rest run.threads run.cores run.rest ≡ 0) }

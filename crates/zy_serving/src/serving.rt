@@ -16,7 +16,7 @@ use zy_finish::{Finished, finish};
 use zy_setup::make_run;
 
 /// Serves a capture on the requested cores: reads it to its end, executes its commands, and
-/// puts together what that leaves. The call may wait.
+/// collects the journal and the outputs. The call may wait.
 pub fn serve_capture<R: Threads + Wait + Sync, S: Source, G: Gate + Sync>(
     rt: &R,
     alloc: Global,
@@ -30,7 +30,7 @@ pub fn serve_capture<R: Threads + Wait + Sync, S: Source, G: Gate + Sync>(
 {
     a_capture_is_good_exactly_where_it_is_a_spelling();
     let (intake, header) = Intake::begin(alloc, source)?;
-    // A reader reports no higher count.
+    // A reader never reports a higher count.
     if header.count > CONNECTION_LIMIT {
         drop(intake);
         return Err(Stop::NoMemory);
