@@ -1,4 +1,4 @@
--- A byte after a journal is a fault, and the byte that ends a journal reports its end; what this means where the journal
+-- A byte after a journal is a fault, and the byte that ends a journal reports its end; what this means if the journal
 -- ends with the source.
 use Rattle.std.proofs.Common.{◌≡◌, inl, ℕ, ◌-◌, ◌==◌, Bool, true, false, true≢false, List, [], ◌∷◌, ◌++◌, length, get_or, refl, sym, ◌∙◌, ap}
 use Rattle.std.specs.Prelude.{if◌then◌else◌, Option, Some, None, Result, Err, ⊤}

@@ -1,5 +1,5 @@
--- What a part keeps of a text while it is read: of the records of a capture the streams, of those of a replies file the
--- outputs. No public clause cites this module.
+-- What a part keeps of a text while it is read: the streams of a capture's records, and the outputs of those of a
+-- replies file. No public clause cites this module.
 use Rattle.std.specs.Prelude.{◌≡◌, ℕ, List, [], ◌∷◌, ◌++◌, Option, None, Some, option_to_list, Bool, Result}
 use Rattle.std.specs.Prelude.{Ok, Err, ⊤}
 use Rattle.zy_read.specs.declared.not_taken.NotTaken.{NotTaken}
@@ -11,8 +11,8 @@ use Rattle.zy_read.specs.Bytes.{AreBytes}
 use Rattle.zy_read.specs.Format.{Format, fault_met}
 use Rattle.zy_read.specs.Standing.{StandsAs}
 
--- what is kept of the texts of a format: it is made when a number is known, with which they begin, and then it is made
--- of the number and the records
+-- what is kept of the texts of a format: it is made once the number that begins the text is known, and depends on the
+-- number and the records
 pub record Keeper (P G F V K : Type 0) : Type 1 where
   pub format : Format P G F V
   -- the number, once it was read
@@ -20,13 +20,13 @@ pub record Keeper (P G F V K : Type 0) : Type 1 where
   -- this is kept of a number and some records
   pub holds : K → ℕ → List G → Type 0
 
--- this is kept of the records, by the number that was read; before it was read nothing is, and there is no record
+-- this is kept of the records, by the number that was read; before that nothing is kept, and there is no record
 abbrev pub KeepsRecords : {P G F V K : Type 0} → Keeper P G F V K → Option K → Option ℕ → List G → Type 0
 KeepsRecords keeping None None given = given ≡ []
 KeepsRecords keeping (Some kept) (Some number) given = keeping.holds kept number given
 KeepsRecords keeping kept number given = ⊥
 
--- the same, but nothing may have been made yet
+-- the same, except that nothing may have been made yet
 abbrev pub KeepsSoFar : {P G F V K : Type 0} → Keeper P G F V K → Option K → Option ℕ → List G → Type 0
 KeepsSoFar keeping None number given = given ≡ []
 KeepsSoFar keeping (Some kept) number given = KeepsRecords keeping (Some kept) number given
@@ -49,7 +49,7 @@ pub record IsKeeping {P G F V K : Type 0} (keeping : Keeper P G F V K) (place : 
   pub clean : fault_met keeping.format bytes ≡ None
   pub kept : KeepsSoFar keeping made (keeping.number_of bytes) given
 
--- the same, where what is kept was made if the number is known, and there is one further record
+-- the same, with one more record; what is kept was made if the number is known
 pub record IsAdding {P G F V K : Type 0} (keeping : Keeper P G F V K) (place : P) (made : Option K)
     (item : G) : Type 0 where
   pub given : List G

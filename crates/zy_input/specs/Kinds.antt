@@ -32,7 +32,7 @@ use Rattle.zy_input.specs.Keeping.{Keeper, HasKept}
 
 -- ---- captures
 
--- of a capture its streams are kept, with notes on its records, from its count on
+-- what is kept of a capture: its streams, with notes on its records, once its count was read
 abbrev pub capture_keeping : {N : Type 0} → (N → ℕ → List Record → Type 0)
     → Keeper CaptureSteps.CaptureProgress Record CaptureFault Captures.Verdict (Noted N)
 capture_keeping Holds = record {
@@ -75,7 +75,7 @@ journal_kind until =
 
 -- ---- replies files, which end with the source
 
--- of a replies file its outputs are kept, from its version on
+-- what is kept of a replies file: its outputs, once its version was read
 abbrev pub replies_keeping : Keeper RepliesSteps.RepliesPlace SessionBytes FileFault Replies.Verdict AllOutputs
 replies_keeping = record {
   format = Replies.replies;

@@ -23,7 +23,7 @@ pub record Kind (P T : Type 0) : Type 1 where
   -- the text has this fault, and doesn't begin with a whole part
   pub faulty : List ℕ → Refusal → Type 0
 
--- the bytes that were taken have no fault, and the part goes on; the part is of one of these kinds
+-- the bytes that were taken have no fault, and the part, which has one of these kinds, goes on
 abbrev pub IsPartOpen : {C P T : Type 0} → (C → Kind P T) → P → Type 0
 IsPartOpen {C} kind part =
     (setting : C) × (bytes : List ℕ) × (kind setting).stands part bytes × (kind setting).goes_on bytes

@@ -28,7 +28,7 @@ pub(crate) struct CapturePart<N: Notes> {
 }
 
 impl<N: Notes> CapturePart<N> {
-    // No byte was taken yet.
+    // Begins before the first byte.
     pub(crate) fn new(alloc: Global) -> CapturePart<N>
         ensures reader { StandsForRecords result.reader [] [] }
         ensures none { result.kept ≡ None }
@@ -78,7 +78,8 @@ impl<N: Notes> Part for CapturePart<N> {
 
     ghost kind = { λ u. capture_kind N.holds };
 
-    // Within a record the end of the capture doesn't come; elsewhere it may be the next byte.
+    // Takes bytes up to the end of a record within one, and a single byte elsewhere, which may end
+    // the capture.
     fn take(&mut self, next: &[u8]) -> Taken {
         if self.reader.is_within_record() {
             return self.take_piece(next);
@@ -89,7 +90,7 @@ impl<N: Notes> Part for CapturePart<N> {
     fn end(self) -> Result<Noted<N>, Stop> {
         match (self.reader.end(), self.kept) {
             (Ok(()), Some(kept)) => Ok(kept),
-            // The count of a capture that is whole was read.
+            // The count of a whole capture was read.
             (Ok(()), None) => unreachable!(),
             (Err(fault), _) => Err(Stop::Refused(Refusal::Capture(fault))),
         }

@@ -29,7 +29,7 @@ pub(crate) struct JournalPart {
 }
 
 impl JournalPart {
-    // No byte was taken yet.
+    // Begins before the first byte.
     pub(crate) fn new(alloc: Global, until: Until) -> JournalPart
         ensures value { StandsForJournal result.reader [] [] }
         ensures until { result.until ≡ until }
@@ -40,7 +40,7 @@ impl JournalPart {
         }
     }
 
-    // Whether the journal is whole, whatever follows.
+    // Checks whether the journal is whole, whatever follows.
     fn is_whole(&self) -> bool
         ensures value { (until : Until) (bytes : List ℕ) → StandsForJournalPart until self.now bytes
             → result ≡ is_whole until (journal_verdict bytes) }

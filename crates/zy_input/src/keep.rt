@@ -31,15 +31,15 @@ pub(crate) trait Keep: Drop {
     // How a fault is reported.
     ghost refused: { Self.Fault → Refusal };
 
-    // The fault as it is reported.
+    // Returns the fault as it is reported.
     fn refusal(fault: Self::Fault) -> Refusal
         ensures value { result ≡ refused fault };
 
-    // The number with which the text begins, once it was read.
+    // Returns the number with which the text begins, once it was read.
     fn number(reader: &Self::Reader) -> Option<u32>
         ensures value { AnswersBy keeping.format reader.now keeping.number_of result };
 
-    // What is kept of no record.
+    // Makes what is kept before any record.
     fn make(alloc: Global, number: u32) -> Result<Self, NoMemory>
         requires known { (bytes : List ℕ) × AreBytes bytes × (Some number ≡ keeping.number_of bytes) }
         ensures value { IfOk result (λ made. keeping.holds made number []) };
@@ -107,7 +107,7 @@ fn keep_next<K: Keep>(
     }
 }
 
-// Makes what is kept if the number is known and it was not made.
+// Makes what is kept, once the number is known, if it was not made yet.
 fn begin<K: Keep>(alloc: Global, reader: &K::Reader, made: &mut Option<K>) -> Result<(), NoMemory>
     requires keeping { (gave : Option K.Item) × IsKeeping K.keeping reader.now made.old gave }
     ensures value { (given all : List K.Item) (bytes : List ℕ)

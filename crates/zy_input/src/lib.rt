@@ -1,5 +1,5 @@
-//! The inputs of the program, read from one source: a capture, a journal and a replies file, one after the other; a
-//! capture or a journal alone; and recorded packets.
+//! The inputs of the program, read from one source: a capture, a journal and a replies file, one
+//! after the other; only a capture or a journal; and recorded packets.
 #![tactic(auto)]
 
 mod capture_part;

@@ -10,10 +10,10 @@ use zy_capture::{Record, Streams};
 
 /// Notes on the records of a capture, which are taken while it is read.
 pub trait Notes: Drop {
-    /// These are the notes on the records of a capture with this many connections.
+    /// These are notes on the records of a capture with this many connections.
     ghost holds: { Self → ℕ → List Record → Type 0 };
 
-    /// Notes on no record, in a capture with this many connections.
+    /// Begins the notes, without a record, on a capture with this many connections.
     fn begin(alloc: Global, count: u32) -> Result<Self, NoMemory>
         requires few { count ≤ connection_limit }
         ensures none { IfOk result (λ notes. holds notes count []) };
@@ -52,7 +52,7 @@ pub struct Noted<N: Notes> {
 }
 
 impl<N: Notes> Noted<N> {
-    // The streams alone.
+    // Returns only the streams.
     pub(crate) fn into_streams(self) -> Streams
         ensures value { result ≡ self.streams }
     {

@@ -15,7 +15,7 @@ pub(crate) struct PacketsPart {
 }
 
 impl PacketsPart {
-    // No byte was taken yet.
+    // Begins before the first byte.
     pub(crate) fn new(alloc: Global, port: u16) -> PacketsPart
         requires port { 1 ≤ port }
         ensures port { result.reader.port ≡ port }
@@ -34,7 +34,7 @@ impl Part for PacketsPart {
 
     ghost kind = { packets_kind };
 
-    // The file ends with the source.
+    // Takes all of the bytes, since the file ends with the source.
     fn take(&mut self, next: &[u8]) -> Taken {
         let Fed { taken, answer } = self.reader.feed_piece(next);
         let answer = match answer {

@@ -20,7 +20,8 @@ pub(crate) trait Part: Drop {
     /// What the part gives.
     type Gives;
 
-    // What its bytes are read by: of a journal, where it ends; of recorded packets, their port.
+    // The setting with which its bytes are read: for a journal, where it ends; for recorded
+    // packets, their port.
     ghost Setting: { Type 0 };
 
     // What its bytes mean.
@@ -37,7 +38,7 @@ pub(crate) trait Part: Drop {
             → TakesInPart (kind setting) self.new (bytes ++ take result.count next.now)
             result.answer };
 
-    // What the bytes give that were taken, or what they lack.
+    // Returns what the taken bytes give, or their fault.
     fn end(self) -> Result<Self::Gives, Stop>
         requires fed { IsPartFed kind self }
         ensures whole { (setting : Setting) (bytes : List ℕ) → (kind setting).stands self bytes
@@ -108,7 +109,7 @@ fn feed_all<P: Part, S: Source>(
     Err(Stop::NoMemory)
 }
 
-// Feeds the reader some bytes. Returns whether there is nothing further to feed.
+// Feeds the reader some bytes. Returns whether there is nothing more to feed.
 fn advance<P: Part, S: Source>(
     part: &mut P,
     pieces: &mut Pieces,

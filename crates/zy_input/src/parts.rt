@@ -1,4 +1,5 @@
-//! The inputs of the program: the parts of a check's, a capture, a journal, and recorded packets.
+//! The inputs of the program: the parts of a check's input, a capture, a journal, and recorded
+//! packets.
 ghost use Rattle.std.specs.Prelude.{◌≤◌};
 ghost use Rattle.zy_input.specs.Parts.{HasReadParts, HasReadNotedParts, HasReadStreams, HasReadJournal, HasReadPackets};
 
@@ -60,7 +61,7 @@ pub fn read_parts<S: Source>(alloc: Global, source: &mut S) -> Result<Parts, Sto
     }
 }
 
-/// The same, with notes on the records of the capture.
+/// Reads the same, and takes notes on the records of the capture.
 pub fn read_noted_parts<N: Notes, S: Source>(
     alloc: Global,
     source: &mut S,
@@ -91,7 +92,7 @@ pub fn read_noted_parts<N: Notes, S: Source>(
     })
 }
 
-/// Reads a capture, and gives its streams. The source may give up to 64 KiB after the capture,
+/// Reads a capture, and returns its streams. The source may give up to 64 KiB after the capture,
 /// which are dropped.
 pub fn read_streams<S: Source>(alloc: Global, source: &mut S) -> Result<Streams, Stop>
     ensures streams { HasReadStreams S.rest S.faults source.old source.new result }
@@ -111,7 +112,7 @@ pub fn read_journal<S: Source>(alloc: Global, source: &mut S) -> Result<Journal,
     read_alone(alloc, JournalPart::new(alloc, Until::SourceEnd), source)
 }
 
-/// Reads recorded packets to the end of the source, and gives the streams of those to a port.
+/// Reads recorded packets to the end of the source, and returns the streams of those to a port.
 pub fn read_packets<S: Source>(alloc: Global, port: u16, source: &mut S) -> Result<Flows, Stop>
     requires port { 1 ≤ port }
     ensures packets { HasReadPackets port S.rest S.faults source.old source.new result }

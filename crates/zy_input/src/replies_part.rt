@@ -21,7 +21,7 @@ pub(crate) struct RepliesPart {
 }
 
 impl RepliesPart {
-    // No byte was taken yet.
+    // Begins before the first byte.
     pub(crate) fn new(alloc: Global) -> RepliesPart
         ensures reader { StandsForReplies result.reader [] [] }
         ensures none { result.outputs ≡ None }
@@ -41,7 +41,7 @@ impl Part for RepliesPart {
 
     ghost kind = { λ u. replies_kind };
 
-    // The file ends with the source.
+    // Takes all of the bytes, since the file ends with the source.
     fn take(&mut self, next: &[u8]) -> Taken {
         let fed = self.reader.feed_piece(next);
         keep_taken(self.alloc, &self.reader, &mut self.outputs, false, fed)
@@ -50,7 +50,7 @@ impl Part for RepliesPart {
     fn end(self) -> Result<Outputs, Stop> {
         match (self.reader.end(), self.outputs) {
             (Ok(()), Some(outputs)) => Ok(outputs),
-            // The version of a replies file that is whole was read.
+            // The version of a whole replies file was read.
             (Ok(()), None) => unreachable!(),
             (Err(fault), _) => Err(Stop::Refused(Refusal::Replies(fault))),
         }

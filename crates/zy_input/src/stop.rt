@@ -4,8 +4,8 @@ use zy_base::FileFault;
 use zy_capture::CaptureFault;
 use zy_pcap::PcapFault;
 
-/// Why an input is refused: the first fault, of the part that has it. Places count from the start of
-/// that part.
+/// Why an input is rejected: its first fault, by the part that has it. Places count from the start
+/// of that part.
 #[derive(Clone, Copy, PartialEq, Eq)]
 pub enum Refusal {
     /// The capture has this fault. It is not `Trailing`: what follows the capture is the journal.
