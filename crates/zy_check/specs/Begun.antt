@@ -12,7 +12,7 @@ pub record Begun : Type 0 where
   pub shards : ℕ
   pub replies : List CallReply
 
--- its calls
+-- the calls of a command
 abbrev pub asked_in : Begun → List ShardCall
 asked_in a = calls_of a.shards a.command
 

@@ -10,13 +10,13 @@ use Rattle.zy_check.specs.Given.{Given, IsNextAt, IsAnsweredAt, AreRightBelow, A
 
 -- ---- entries
 
--- this is the first entry that is not right, and it is not the next call of its connection
+-- this is the first wrong entry: it is not the next call of its connection
 pub record IsNotNext (g : Given) (at : ℕ) : Type 0 where
   pub within : at < length g.entries
   pub first : AreRightBelow g at
   pub wrong : IsNextAt g at → ⊥
 
--- this is the first entry that is not right; it is the next call of its connection, and its reply is wrong
+-- this is the first wrong entry: it is the next call of its connection, and its reply is wrong
 pub record IsWrongReply (g : Given) (at : ℕ) : Type 0 where
   pub within : at < length g.entries
   pub first : AreRightBelow g at
@@ -41,13 +41,13 @@ pub record IsComplete (g : Given) : Type 0 where
 
 -- ---- outputs
 
--- how many first bytes agree
+-- the number of first bytes of two texts that agree
 abbrev pub agreeing : List ℕ → List ℕ → ℕ
 agreeing [] ys = 0
 agreeing (x ∷ xs) [] = 0
 agreeing (x ∷ xs) (y ∷ ys) = if x == y then suc (agreeing xs ys) else 0
 
--- how many first bytes of two outputs agree, if both are there
+-- the number of first bytes of two outputs that agree, if both exist
 abbrev pub agreeing_in : Option (List ℕ) → Option (List ℕ) → ℕ
 agreeing_in None due = 0
 agreeing_in (Some found) None = 0
@@ -57,7 +57,7 @@ agreeing_in (Some found) (Some due) = agreeing found due
 abbrev pub ComesBefore : ℕ → ℕ → ℕ → ℕ → Type 0
 ComesBefore c s conn session = (c < conn) ⊎ ((c ≡ conn) × (s < session))
 
--- this is the first session whose output is not the expected one, and `at` first bytes agree
+-- this is the first session whose output is not the expected one, and the first `at` bytes agree
 pub record IsWrongOutput (g : Given) (conn session at : ℕ) : Type 0 where
   pub complete : IsComplete g
   pub first : (c s : ℕ) → ComesBefore c s conn session → IsOutput g c s

@@ -1,4 +1,4 @@
--- A verdict, and of a run which of its commands are answered.
+-- A verdict and, for a run, which of its commands are answered.
 use Rattle.zy_check.specs.declared.answered.Checked.{Checked}
 use Rattle.zy_check.specs.declared.answered.Checked.TheVariants as Found
 use Rattle.zy_check.specs.declared.verdict.Verdict.TheVariants.{Yes, No}

@@ -9,11 +9,11 @@ abbrev pub HasFirst : Option (List ℕ) → List ℕ → ℕ → Type 0
 HasFirst None made at = (made ≡ []) × (at ≡ 0)
 HasFirst (Some found) made at = (at ≤ length found) × (take at found ≡ made)
 
--- the output that was found is not the expected one, and `at` first bytes agree
+-- the output that was found is not the expected one, and the first `at` bytes agree
 abbrev pub DiffersAt : Option (List ℕ) → List ℕ → ℕ → Type 0
 DiffersAt found due at = (found ≢ Some due) × (agreeing_in found (Some due) ≡ at)
 
--- this was made so far and is found, or the output differs, whatever is made after it
+-- the text made so far is found, or the output differs, whatever is made after it
 abbrev pub AddedTo : Option (List ℕ) → ℕ → List ℕ → ℕ → Option Differing → Type 0
 AddedTo found session made at None = HasFirst found made at
 AddedTo found session made at (Some d) =
@@ -25,7 +25,7 @@ pub record AddsText (found : Option (List ℕ)) (session : ℕ) (text : List ℕ
   pub added : before.differing ≡ None → (made : List ℕ) → HasFirst found made before.at
       → AddedTo found session (made ++ text) after.at after.differing
 
--- this was made and is what was found, or the output is another
+-- the text made is what was found, or the output differs
 abbrev pub EndedWith : Option (List ℕ) → ℕ → List ℕ → ℕ → Option Differing → Type 0
 EndedWith found session made at None = (found ≡ Some made) × (at ≡ 0)
 EndedWith found session made at (Some d) = (d.session ≡ session) × DiffersAt found made d.at

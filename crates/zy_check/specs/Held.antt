@@ -9,7 +9,7 @@ pub record AreSums (count : ℕ) (holds : List Hold) (sums : List ℕ) : Type 0 
   pub count_is : length sums ≡ count
   pub each : (conn : ℕ) → conn < count → get_or sums conn 0 ≡ held_of conn holds
 
--- from `count` on no connection has a sum of holds above 0, or this is the first that has
+-- no connection from `count` on has a sum of holds above 0, or this is the first one that has
 abbrev pub FoundStray : ℕ → List Hold → Option ℕ → Type 0
 FoundStray count holds None = (conn : ℕ) → count ≤ conn → held_of conn holds ≡ 0
 FoundStray count holds (Some stray) =

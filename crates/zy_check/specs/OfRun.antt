@@ -10,7 +10,7 @@ use Rattle.zy_run.specs.Output.{connection_outputs, all_outputs}
 use Rattle.zy_run.specs.Spans.{Spans}
 use Rattle.zy_check.specs.Given.{Given, all_given}
 
--- what was given is a run's
+-- the files are those of a run
 pub record IsGivenByRun (g : Given) : Type 0 where
   -- the entries are one run of the commands of all streams
   pub run : IsRun g.shards g.entries (length g.streams) (commands_held g.streams)

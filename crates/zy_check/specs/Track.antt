@@ -23,12 +23,12 @@ use Rattle.zy_check.specs.Output.{IsDiffering}
 
 -- ---- the command that is begun
 
--- it, if there is one
+-- the command that is begun, if there is one
 abbrev pub begun_in : Option Begun → List Command
 begun_in None = []
 begun_in (Some b) = b.command ∷ []
 
--- its calls that are answered, as the command with this index
+-- its calls that are answered, as those of the command with this index
 abbrev pub answered_in : ℕ → ℕ → ℕ → Option Begun → List Due
 answered_in shards conn index None = []
 answered_in shards conn index (Some b) = take (length b.replies) (due_at shards conn index b.command)
@@ -53,7 +53,7 @@ abbrev pub HasNoCallLeft : Option Begun → Type 0
 HasNoCallLeft None = ⊤
 HasNoCallLeft (Some b) = length (asked_in b) ≡ length b.replies
 
--- with one more reply
+-- the command with one more reply
 abbrev pub with_reply : Option Begun → CallReply → Option Begun
 with_reply None reply = None
 with_reply (Some b) reply = Some (record b { replies = b.replies ++ reply ∷ [] })
@@ -64,11 +64,11 @@ with_reply (Some b) reply = Some (record b { replies = b.replies ++ reply ∷ []
 abbrev pub stream_of : Given → ℕ → ℕ → List ℕ
 stream_of g conn session = slice_index_or (sessions_of g.streams conn) session []
 
--- the commands of the sessions before it
+-- the commands of the sessions before one
 abbrev pub commands_past : Given → ℕ → ℕ → List Command
 commands_past g conn session = commands_over (take session (sessions_of g.streams conn))
 
--- the texts of commands, joined, if the first has this index
+-- the texts of commands, joined; the first command has this index
 abbrev pub made_of : ℕ → List Command → List Entry → List ℕ
 made_of index commands own = concat (texts_from index commands own)
 
@@ -86,8 +86,8 @@ AreCompared g conn session done at None =
     × HasFirst (found_output g conn session) (made_in g conn session done) at
 AreCompared g conn session done at (Some d) = IsDiffering g conn d.session d.at
 
--- where the entries are complete: the replies are those of the entries, the outputs were compared so far, and of each
--- command that is done it is known whether it is answered
+-- when the entries are complete: the replies are those of the entries, the outputs were compared so far, and it is
+-- known of each finished command whether it is answered
 pub record AreWritten (g : Given) (conn session : ℕ) (done : List Command) (begun : Option Begun)
     (compared : Compared) (flags : List Bool) : Type 0 where
   pub replies : HasReplies (of_connection conn g.entries)
@@ -118,6 +118,6 @@ HasMadeCalls g conn t made =
 abbrev pub flags_of : List Track → List (List Bool)
 flags_of tracks = map (λ (t : Track). t.answered.items) tracks
 
--- it has no further session to read
+-- the connection has no more sessions to read
 abbrev pub IsAtEnd : Given → ℕ → Track → Type 0
 IsAtEnd g conn t = (t.begun ≡ None) × (length (sessions_of g.streams conn) ≤ t.session)

@@ -27,7 +27,7 @@ impl Model for Answered {
 }
 
 impl Answered {
-    // What connections at their ends know of their commands.
+    // Makes it of connections that are at their ends.
     pub(crate) fn of_tracks(files: &Files, tracks: Vec<Track>) -> Answered
         requires complete { IsComplete files.now }
         requires ended { AreEnded files.now tracks.items }
@@ -36,7 +36,7 @@ impl Answered {
         Answered { tracks }
     }
 
-    /// Which of the commands of a connection are answered, in their order.
+    /// Returns which of the commands of a connection are answered, in their order.
     pub fn of(&self, conn: usize) -> &[bool]
         requires within { conn < length self.now }
         ensures value { slice_get self.now conn ≡ Some result.now }
@@ -45,7 +45,7 @@ impl Answered {
     }
 }
 
-/// A verdict, and of a run which commands are answered.
+/// A verdict and, for a run, which commands are answered.
 #[derive(Drop)]
 pub enum Checked {
     /// A journal and outputs are those of a run.

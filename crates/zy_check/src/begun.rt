@@ -34,7 +34,7 @@ impl Model for Begun {
 }
 
 impl Begun {
-    /// A command, before any of its calls was answered.
+    /// Makes a command, before any of its calls is answered.
     pub fn new(alloc: Global, command: Command, shards: u32) -> Result<Begun, NoMemory>
         requires some { 1 ≤ shards }
         requires limit { shards ≤ 256 }
@@ -55,7 +55,7 @@ impl Begun {
         }
     }
 
-    /// Whether each of its calls is answered.
+    /// Checks whether each of its calls is answered.
     pub fn is_done(&self) -> bool
         ensures done { result ≡ true → length (asked_in self.now) ≡ length self.now.replies }
         ensures more { result ≡ false → length self.now.replies < length (asked_in self.now) }
@@ -63,7 +63,7 @@ impl Begun {
         self.replies.items().len() == self.calls.items().len()
     }
 
-    /// Whether an entry is its next call, as the command with this index of a connection.
+    /// Checks whether an entry is its next call, as the command with this index of a connection.
     pub fn is_due(&self, entry: &Entry, conn: u32, index: u64) -> bool
         ensures exact { result ≡ true ↔ slice_get (due_at self.now.shards conn index self.now.command)
             (length self.now.replies) ≡ Some (due_of entry.now) }
@@ -95,7 +95,7 @@ impl Begun {
         }
     }
 
-    /// Its text.
+    /// Makes its text.
     pub fn text(&self, alloc: Global) -> Result<Blob, NoMemory>
         requires done { length (asked_in self.now) ≡ length self.now.replies }
         ensures value { IfOk result (λ made. made ≡ text self.now.command self.now.replies) }
@@ -111,7 +111,7 @@ impl Begun {
     }
 }
 
-// Whether an entry is this part of a command.
+// Checks whether an entry is this part of a command.
 fn is_call(entry: &Entry, conn: u32, index: u64, part: usize, call: &ShardCall) -> bool
     ensures exact { result ≡ true
         ↔ due_of entry.now ≡ record { tag = tag_of conn index part; call = call.now } }

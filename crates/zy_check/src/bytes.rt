@@ -2,7 +2,7 @@
 ghost use Rattle.std.specs.Prelude.{◌≡◌, ◌≤◌, length};
 ghost use Rattle.zy_check.specs.Cause.{agreeing};
 
-/// How many first bytes of two texts agree.
+/// Counts the first bytes of two texts that agree.
 pub fn agreeing(one: &[u8], other: &[u8]) -> usize
     ensures value { result ≡ agreeing one.now other.now }
     ensures few { result ≤ length one.now }
@@ -14,7 +14,7 @@ pub fn agreeing(one: &[u8], other: &[u8]) -> usize
     first_difference(one, other)
 }
 
-// How many first bytes of two texts agree, byte by byte.
+// Counts the first bytes of two texts that agree, byte by byte.
 fn first_difference(one: &[u8], other: &[u8]) -> usize
     ensures value { result ≡ agreeing one.now other.now }
     ensures few { result ≤ length one.now }

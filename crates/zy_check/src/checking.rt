@@ -1,4 +1,4 @@
-//! Whether a journal and outputs are those of a run.
+//! Checking whether a journal and outputs are those of a run.
 ghost use Rattle.std.specs.Prelude.{◌≡◌, ◌≤◌, length, IfOk};
 ghost use Rattle.zy_check.specs.Given.{Given, all_given};
 ghost use Rattle.zy_check.specs.Cause.{HasVerdict};
@@ -19,9 +19,9 @@ use zy_base::NoMemory;
 use zy_capture::{Outputs, Streams};
 use zy_journal::Journal;
 
-/// Whether a journal and outputs are those of a run of these streams on `shards` shards, and the
-/// first cause if they are not. May answer `NoMemory`, and does if the commands or the holds of a
-/// connection do not fit in 64 bits.
+/// Checks whether a journal and outputs are those of a run of these streams on `shards` shards;
+/// answers the first cause if they are not. May answer `NoMemory`, and does so if the commands or
+/// the holds of a connection do not fit in 64 bits.
 pub fn check(
     alloc: Global,
     streams: &Streams,
@@ -43,7 +43,7 @@ pub fn check(
     }
 }
 
-/// The same, and of a run which of its commands are answered.
+/// Checks the same, and answers for a run which of its commands are answered.
 pub fn check_answered(
     alloc: Global,
     streams: &Streams,
@@ -70,7 +70,7 @@ pub fn check_answered(
     }
 }
 
-// `count` connections at the start of their first sessions.
+// Makes `count` connections at the start of their first sessions.
 fn at_start(alloc: Global, count: u32) -> Result<Vec<Track>, NoMemory>
     ensures none { IfOk result (λ tracks. (g : Given) → length g.streams ≡ count
         → AreTracked g 0 tracks.items) }
@@ -84,8 +84,8 @@ fn at_start(alloc: Global, count: u32) -> Result<Vec<Track>, NoMemory>
     Ok(tracks)
 }
 
-// The first cause among the entries and the calls without an entry, if there is one. If there is
-// none, each connection is at its end.
+// Returns the first cause among the entries and the calls without an entry, if there is one. If
+// there is none, each connection is at its end.
 fn first_of_calls(
     alloc: Global,
     files: &Files,

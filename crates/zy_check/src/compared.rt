@@ -11,7 +11,8 @@ pub struct Differing {
     pub at: u64,
 }
 
-/// How many first bytes of the output that is compared agree, until a session's output is another.
+/// The number of first bytes that agree of the output that is compared, until a session's output
+/// differs.
 #[derive(Drop)]
 pub struct Compared {
     pub at: usize,
@@ -38,7 +39,7 @@ impl Compared {
         }
     }
 
-    /// The output of this session is whole.
+    /// Ends the output of this session.
     pub fn end(&mut self, found: Option<&[u8]>, session: u32)
         ensures ended { Finishes (option_map (λ bytes. bytes.now) found.entry) session
             self.old self.new }
@@ -57,7 +58,7 @@ impl Compared {
         }
     }
 
-    // The output of this session differs after the bytes that agree.
+    // Notes that the output of this session differs after the bytes that agree.
     fn differ(&mut self, session: u32)
         ensures value { self.new ≡ record self.old {
           differing = Some (record { session = session; at = self.old.at });
@@ -68,7 +69,7 @@ impl Compared {
     }
 }
 
-// The bytes from a place on.
+// Returns the bytes from a place on.
 fn behind(found: &[u8], at: usize) -> &[u8]
     ensures value { result.now ≡ drop at found.now }
 {

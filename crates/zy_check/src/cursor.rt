@@ -13,8 +13,8 @@ use zy_frame::{Framer, Frames, meaning};
 // and each connection has one.
 const PIECE: usize = 512;
 
-/// A place in a stream. Contracts see what its framer is in the middle of, the frames that wait,
-/// and how many bytes it has read.
+/// A place in a stream. Contracts see the unfinished frame of its framer, the frames that wait, and
+/// the number of bytes read.
 #[derive(Drop)]
 pub struct Cursor {
     alloc: Global,
@@ -32,7 +32,7 @@ impl Model for Cursor {
 }
 
 impl Cursor {
-    /// At the start of a stream. Takes no memory.
+    /// Begins at the start of a stream. Takes no memory.
     pub fn new(alloc: Global) -> Cursor
         ensures none { (stream : List ℕ) → HasGivenCommands result stream [] }
     {
@@ -44,7 +44,8 @@ impl Cursor {
         }
     }
 
-    /// The next command of the stream, which is the same in all calls; `None` after the last one.
+    /// Returns the next command of the stream; `None` after the last one. All calls are given the
+    /// same stream.
     pub fn next(&mut self, stream: &[u8]) -> Result<Option<Command>, NoMemory>
         ensures gave { IfOk result (GaveNext self.old self.new stream.now) }
     {
@@ -81,7 +82,7 @@ impl Cursor {
     }
 }
 
-// Where the piece of a text that begins at a place ends.
+// Returns the end of the piece of a text that begins at a place.
 fn piece_end(at: usize, length: usize) -> usize
     requires more { at < length }
     ensures some { at < result }

@@ -30,7 +30,7 @@ impl<'a> Model for Files<'a> {
 }
 
 impl<'a> Files<'a> {
-    /// These, on `shards` shards.
+    /// Makes it of these, on `shards` shards.
     pub fn new(
         streams: &'a Streams,
         journal: &'a Journal,
@@ -49,7 +49,7 @@ impl<'a> Files<'a> {
         }
     }
 
-    /// The number of shards.
+    /// Returns the number of shards.
     pub fn shards(&self) -> u32
         ensures value { result ≡ self.now.shards }
         ensures some { 1 ≤ result }
@@ -58,28 +58,28 @@ impl<'a> Files<'a> {
         self.shards
     }
 
-    /// The entries of the journal.
+    /// Returns the entries of the journal.
     pub fn entries(&self) -> Walk<'a>
         ensures value { result ≡ self.now.entries }
     {
         self.journal.entries()
     }
 
-    /// The holds of the journal.
+    /// Returns the holds of the journal.
     pub fn holds(&self) -> &'a [Hold]
         ensures value { result.now ≡ self.now.holds }
     {
         self.journal.holds()
     }
 
-    /// The number of connections that have a stream.
+    /// Returns the number of connections that have a stream.
     pub fn count(&self) -> u32
         ensures value { result ≡ length self.now.streams }
     {
         self.streams.count()
     }
 
-    /// The number of sessions of a connection.
+    /// Returns the number of sessions of a connection.
     pub fn sessions(&self, conn: u32) -> u32
         requires within { conn < length self.now.streams }
         ensures value { result ≡ length (sessions_of self.now.streams conn) }
@@ -88,7 +88,7 @@ impl<'a> Files<'a> {
         self.streams.sessions(conn)
     }
 
-    /// The stream of a session of a connection.
+    /// Returns the stream of a session of a connection.
     pub fn stream(&self, conn: u32, session: u32) -> &'a [u8]
         requires within { conn < length self.now.streams }
         requires session { session < length (sessions_of self.now.streams conn) }
@@ -97,7 +97,7 @@ impl<'a> Files<'a> {
         self.streams.stream(conn, session)
     }
 
-    /// How many outputs of a connection there are.
+    /// Returns the number of outputs of a connection.
     pub fn output_count(&self, conn: u32) -> u32
         ensures value { result ≡ length (sessions_of self.now.outputs conn) }
         ensures there { 0 < result → conn < length self.now.outputs }
@@ -110,7 +110,7 @@ impl<'a> Files<'a> {
         }
     }
 
-    /// The output of a session of a connection, if there is one.
+    /// Returns the output of a session of a connection, if there is one.
     pub fn output(&self, conn: u32, session: u32) -> Option<&'a [u8]>
         ensures value { option_map (λ bytes. bytes.now) result ≡ found_output self.now conn session }
     {

@@ -11,7 +11,8 @@ use mc_calls::Hold;
 use std::alloc::Global;
 use zy_base::NoMemory;
 
-/// The first connection whose holds do not add up to the number of its commands, if there is one.
+/// Returns the first connection whose holds do not add up to the number of its commands, if there
+/// is one.
 pub fn first_unheld(alloc: Global, files: &Files, tracks: &[Track]) -> Result<Option<u32>, NoMemory>
     requires ended { AreEnded files.now tracks.now }
     ensures found { IfOk result (FoundUnheld files.now) }
@@ -26,7 +27,7 @@ pub fn first_unheld(alloc: Global, files: &Files, tracks: &[Track]) -> Result<Op
     Ok(first_stray(files.holds(), count))
 }
 
-// The sums of the holds of the first `count` connections.
+// Returns the sums of the holds of the first `count` connections.
 fn sums(alloc: Global, holds: &[Hold], count: u32) -> Result<Vec<u64>, NoMemory>
     ensures sums { IfOk result (λ sums. AreSums count holds.now sums.items) }
 {
@@ -54,7 +55,7 @@ fn add(sums: &mut Vec<u64>, hold: Hold) -> Result<(), NoMemory>
     Ok(())
 }
 
-// The first connection from `count` on whose sum of holds is above 0, if there is one.
+// Returns the first connection from `count` on whose sum of holds is above 0, if there is one.
 fn first_stray(holds: &[Hold], count: u32) -> Option<u32>
     ensures found { FoundStray count holds.now result }
 {
@@ -65,7 +66,7 @@ fn first_stray(holds: &[Hold], count: u32) -> Option<u32>
     found
 }
 
-// The same with one more hold.
+// Returns this first connection after one more hold.
 fn lower_stray(found: Option<u32>, hold: Hold, count: u32) -> Option<u32>
     ensures found { (before : List Hold) → FoundStray count before found
         → FoundStray count (before ++ hold ∷ []) result }

@@ -8,8 +8,8 @@ ghost use Rattle.zy_check.specs.declared.verdict.Verdict.TheVariants.{Yes};
 ghost use Rattle.zy_check.specs.Cause.{HasVerdict};
 ghost use Rattle.zy_check.specs.OfRun.{AreOfRun, given_by_records};
 
-/// Where a journal and outputs are those of a run of a capture's records, the verdict on them and
-/// the capture's streams is yes, and no other is.
+/// If a journal and outputs are those of a run of a capture's records, the only verdict on them and
+/// the capture's streams is yes.
 pub fn served_runs_check()
     ensures right { (shards count : ℕ) (records : List Record) (journal : Journal)
         (outputs : AllOutputs) → AreOfRun shards count records journal outputs

@@ -1,5 +1,5 @@
-//! Checks whether a journal and outputs are those of a run of some streams, and gives the first cause if they are
-//! not.
+//! Checks whether a journal and outputs are those of a run of some streams, and finds the first
+//! cause if they are not.
 #![tactic(auto)]
 
 mod answered;

@@ -9,8 +9,8 @@ use crate::track::Track;
 use crate::verdict::Cause;
 use zy_base::NoMemory;
 
-/// The cause at the first connection with a call that has no entry, if there is one. If there is
-/// none, each connection is at its end.
+/// Returns the cause at the first connection with a call that has no entry, if there is one. If
+/// there is none, each connection is at its end.
 pub fn first_missing(files: &Files, tracks: &mut [Track]) -> Result<Option<Cause>, NoMemory>
     requires right { AreRight files.now }
     requires tracked { AreTracked files.now (length files.now.entries) tracks.old }

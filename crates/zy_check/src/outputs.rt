@@ -12,7 +12,7 @@ use crate::files::Files;
 use crate::track::Track;
 use crate::verdict::Cause;
 
-/// The cause at the first session whose output is not the expected one, if there is one.
+/// Returns the cause at the first session whose output is not the expected one, if there is one.
 pub fn first_output(files: &Files, tracks: &[Track]) -> Option<Cause>
     requires complete { IsComplete files.now }
     requires ended { AreEnded files.now tracks.now }
@@ -35,7 +35,7 @@ pub fn first_output(files: &Files, tracks: &[Track]) -> Option<Cause>
     None
 }
 
-// The first session of a connection whose output is not the expected one, if there is one.
+// Returns the first session of a connection whose output is not the expected one, if there is one.
 fn first_differing(files: &Files, track: &Track, conn: u32) -> Option<Differing>
     requires within { conn < length files.now.streams }
     requires complete { IsComplete files.now }

@@ -37,7 +37,7 @@ pub struct Track {
 }
 
 impl Track {
-    /// At the start of a connection's first session. Takes no memory.
+    /// Begins at the start of a connection's first session. Takes no memory.
     pub fn new(alloc: Global) -> Track
         ensures none { (g : Given) (conn : ℕ) → HasMadeCalls g conn result [] }
     {
@@ -55,21 +55,21 @@ impl Track {
         }
     }
 
-    /// How many commands have all their calls.
+    /// Returns how many commands have all their calls.
     pub fn commands(&self) -> u64
         ensures value { result ≡ self.now.commands }
     {
         self.commands
     }
 
-    /// The first session whose output differs, among those that were read.
+    /// Returns the first session whose output differs, among those that were read.
     pub fn differing(&self) -> Option<Differing>
         ensures value { result ≡ self.now.compared.differing }
     {
         self.compared.differing
     }
 
-    /// Which of the commands that have all their calls are answered.
+    /// Returns which of the commands that have all their calls are answered.
     pub fn answered(&self) -> &[bool]
         ensures value { result.now ≡ self.now.answered.items }
     {
@@ -97,7 +97,7 @@ impl Track {
         Err(NoMemory)
     }
 
-    /// Whether an entry is the call that is next.
+    /// Checks whether an entry is the call that is next.
     pub fn is_due(&self, entry: &Entry, conn: u32) -> bool
         ensures exact { (b : Begun) → self.now.begun ≡ Some b → (result ≡ true
             ↔ slice_get (due_at b.shards conn self.now.commands b.command) (length b.replies)
@@ -125,7 +125,7 @@ impl Track {
 }
 
 impl Track {
-    // Whether a call is next of the command that is begun.
+    // Checks whether the command that is begun has a call left.
     fn is_at_call(&self) -> bool
         ensures call { result ≡ true → IsAtCall self.now.begun }
         ensures done { result ≡ false → HasNoCallLeft self.now.begun }
@@ -136,7 +136,7 @@ impl Track {
         }
     }
 
-    // Compares the text of the command that is begun, if there is one. Its calls are answered.
+    // Compares the text of the command that is begun, if there is one; all its calls are answered.
     fn finish(&mut self, files: &Files, conn: u32) -> Result<(), NoMemory>
         requires done { HasNoCallLeft self.old.begun }
         ensures kept { OnOk result ((made : List Due) → HasMadeCalls files.now conn self.old made
@@ -199,7 +199,7 @@ impl Track {
     }
 }
 
-// Notes of a command with this text whether it is answered.
+// Notes whether a command with this text is answered.
 fn note(answered: &mut Vec<bool>, text: &[u8]) -> Result<(), NoMemory>
     ensures more { OnOk result (answered.new.items ≡ answered.old.items ++ has_bytes text.now ∷ []) }
 {

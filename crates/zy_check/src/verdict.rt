@@ -9,8 +9,8 @@ pub enum Verdict {
     No(Cause),
 }
 
-/// Why a journal and outputs are not those of a run. Of several causes the first of these counts;
-/// but of the first two the one with the smaller entry.
+/// Why a journal and outputs are not those of a run. If there are several causes, the first one in
+/// this list counts, but among the first two the one with the smaller entry.
 #[derive(Clone, Copy, PartialEq, Eq)]
 pub enum Cause {
     /// This entry is not the next call of its connection.

@@ -14,8 +14,8 @@ use mc_shard::Replay;
 use std::alloc::Global;
 use zy_base::NoMemory;
 
-/// The cause at the first entry that is not right, if there is one. If there is none, each
-/// connection is after its last entry.
+/// Returns the cause at the first wrong entry, if there is one. If there is none, each connection
+/// is after its last entry.
 pub fn first_wrong(
     alloc: Global,
     files: &Files,
@@ -38,7 +38,7 @@ pub fn first_wrong(
     Err(NoMemory)
 }
 
-// The cause at an entry, if there is one.
+// Returns the cause at an entry, if there is one.
 fn wrong_at(
     files: &Files,
     at: u64,
@@ -60,7 +60,7 @@ fn wrong_at(
     Ok(None)
 }
 
-// Whether an entry is the next call of its connection. The connection goes on to that call.
+// Checks whether an entry is the next call of its connection. The connection goes on to that call.
 fn is_next(files: &Files, tracks: &mut [Track], entry: &Entry) -> Result<bool, NoMemory>
     requires same { length tracks.old ≡ length files.now.streams }
     ensures kept { OnOk result ((at : ℕ) → AreTracked files.now at tracks.old
@@ -92,14 +92,14 @@ fn answers(state: &mut Replay, entry: &Entry) -> Result<bool, NoMemory>
     Ok(same)
 }
 
-// Whether two replies are the same.
+// Checks whether two replies are the same.
 fn are_same(one: &CallReply, other: &CallReply) -> bool
     ensures same { result ≡ true ↔ one.now ≡ other.now }
 {
     one == other
 }
 
-// `shards` shards on which no call was made.
+// Makes `shards` shards on which no call was made.
 fn empty_shards(alloc: Global, shards: u32) -> Result<Vec<Replay>, NoMemory>
     requires limit { shards ≤ 256 }
     ensures none { IfOk result (λ states. AreReplayed shards [] states.items) }
