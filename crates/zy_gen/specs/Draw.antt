@@ -1,5 +1,5 @@
--- What is drawn for generated traffic, docs/FORMATS.md, "Generated traffic": words of PCG32 on the stream 54,
--- modulo a bound.
+-- The random numbers of generated traffic, docs/FORMATS.md, "Generated traffic": those of PCG32 on the stream
+-- 54, modulo a bound.
 use Rattle.std.specs.Prelude.{ℕ, ◌%◌, ◌==◌, nat_lt, if◌then◌else◌, Bool, true, false}
 use Rattle.rand_pcg.specs.Lcg.{Lcg, started, increment_of}
 use Rattle.rand_pcg.specs.Pcg.{pcg32, multiplier_64}
@@ -9,16 +9,16 @@ use Rattle.zy_gen.specs.declared.request.Command.{Command}
 
 -- ---- words
 
--- the words for a number
+-- the generator for a number
 abbrev pub words_of : ℕ → Lcg
 words_of number = started 64 multiplier_64 number (increment_of 64 54)
 
--- a number that was drawn, and the words that are left
+-- a number that was drawn, and the generator after it
 pub record Drawn : Type 0 where
   pub value : ℕ
   pub left : Lcg
 
--- the next word, modulo a bound
+-- the generator's next number, modulo a bound
 unfoldable pub draw : ℕ → Lcg → Drawn
 draw below words = record { value = (pcg32 words).0 % below; left = (pcg32 words).1 }
 
@@ -42,7 +42,7 @@ draw_set quiet words =
       left = (draw 256 (draw 65536 words).left).left;
     }
 
--- a request without further draws
+-- a request that needs no more numbers
 abbrev pub plain : Request → Lcg → DrawnRequest
 plain request words = record { request = request; left = words }
 

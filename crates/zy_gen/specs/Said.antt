@@ -41,7 +41,7 @@ pub record IsKeyOf (conn : ℕ) (text : List ℕ) : Type 0 where
 
 -- ---- texts
 
--- a text is a line of words that ask for something at the connection's own keys, and the block that
+-- a text is a line whose words ask for something at the connection's own keys, with the block that
 -- belongs to it
 pub record Says (conn : ℕ) (text : List ℕ) : Type 0 where
   pub name : List ℕ

@@ -51,14 +51,14 @@ request_text connection item Delete = codes "delete " ++ (traffic_key connection
 abbrev pub command_text : ℕ → Command → List ℕ
 command_text connection command = request_text connection command.item command.request
 
--- flags and blocks are as small as those that are drawn
+-- flags and blocks are as small as generated ones
 abbrev pub IsSmall : Request → Type 0
 IsSmall (Set flags size quiet) = (flags < 65536) × (size < 256)
 IsSmall request = Unit {0}
 
 -- ---- segments
 
--- segments that were made, and the words that are left
+-- segments that were made, and the generator after them
 pub record Made : Type 0 where
   pub items : List Record
   pub left : Lcg
@@ -75,7 +75,7 @@ segment_record connection bytes = Kinds.Segment (record { conn = connection; byt
 abbrev pub cut : ℕ → List ℕ → ℕ → List Record
 cut connection bytes at = segment_record connection (take at bytes) ∷ segment_record connection (drop at bytes) ∷ []
 
--- one command of a connection, in two segments that are cut at a place that is drawn
+-- one command of a connection, in two segments, cut at a random place
 unfoldable pub one_command : ℕ → Lcg → Made
 one_command connection words =
     let drawn = draw_command words in
@@ -106,7 +106,7 @@ head connections = capture_magic 1 ++ to_be_bytes w32 connections
 abbrev pub traffic_records : ℕ → ℕ → ℕ → List Record
 traffic_records number connections commands = (rounds connections commands (words_of number)).items
 
--- its capture, of version 1
+-- the capture of the traffic, of version 1
 abbrev pub gen_bytes : ℕ → ℕ → ℕ → List ℕ
 gen_bytes number connections commands = spelling 1 connections (traffic_records number connections commands)
 

@@ -1,4 +1,4 @@
-//! The draws of a command.
+//! The numbers from which a command is made.
 ghost use Rattle.std.specs.Prelude.{◌≡◌, ◌<◌};
 ghost use Rattle.zy_gen.specs.Draw.{draw, draw_command, draw_request, draw_set};
 ghost use Rattle.zy_gen.specs.Traffic.{IsSmall};
@@ -7,7 +7,7 @@ use crate::request::{Command, Request};
 use rand_core::utils::NextWord;
 use rand_pcg::Lcg64Xsh32;
 
-// The next word, modulo a number.
+// Returns the generator's next number, modulo `below`.
 #[tactic(auto, unfolding(crate::specs::Draw::draw))]
 pub(crate) fn draw(words: &mut Lcg64Xsh32, below: u32) -> u32
     requires some { 0 < below }
@@ -18,7 +18,7 @@ pub(crate) fn draw(words: &mut Lcg64Xsh32, below: u32) -> u32
     words.next_word() % below
 }
 
-// The next command.
+// Generates the next command.
 pub(crate) fn draw_command(words: &mut Lcg64Xsh32) -> Command
     ensures value { result ≡ (draw_command words.old).command }
     ensures left { words.new ≡ (draw_command words.old).left }
@@ -31,7 +31,7 @@ pub(crate) fn draw_command(words: &mut Lcg64Xsh32) -> Command
     Command { item, request }
 }
 
-// The request of a kind, with the draws that it needs.
+// Generates the request of a kind, from the numbers that it needs.
 fn draw_request(words: &mut Lcg64Xsh32, kind: u32) -> Request
     ensures value { result ≡ (draw_request kind words.old).request }
     ensures left { words.new ≡ (draw_request kind words.old).left }
@@ -52,7 +52,7 @@ fn draw_request(words: &mut Lcg64Xsh32, kind: u32) -> Request
     }
 }
 
-// The flags and the size of a block.
+// Generates a `set`: its flags and the size of its block.
 fn draw_set(words: &mut Lcg64Xsh32, quiet: bool) -> Request
     ensures value { result ≡ (draw_set quiet words.old).request }
     ensures left { words.new ≡ (draw_set quiet words.old).left }

@@ -10,9 +10,9 @@ use rand_pcg::Lcg64Xsh32;
 use std::alloc::Global;
 use zy_base::{Blob, NoMemory};
 
-/// The capture made from this number: `conns` connections with `commands` commands each, one
-/// command of each connection in turn. Each command comes in two segments, either of which may be
-/// empty.
+/// Generates the capture of this number: `conns` connections with `commands` commands each,
+/// one command of each connection in turn. Each command comes in two segments, either of which may
+/// be empty.
 pub fn generate(alloc: Global, number: u32, conns: u32, commands: u32) -> Result<Blob, NoMemory>
     requires traffic { IsTraffic number conns commands }
     ensures value { IfOk result (λ made. made ≡ gen_bytes number conns commands) }
