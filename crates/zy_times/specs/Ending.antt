@@ -4,7 +4,7 @@ use Rattle.std.specs.List.{slice_get}
 use Rattle.zy_run.specs.Commands.{commands_in}
 use Rattle.zy_times.specs.Times.{Recording, IsEnded}
 
--- a moment is no earlier than the first; without a first no moment is
+-- there is a first moment, and this one is not before it
 abbrev pub IsFrom : Option ℕ → ℕ → Type 0
 IsFrom None moment = ⊥
 IsFrom (Some first) moment = first ≤ moment
@@ -19,6 +19,6 @@ pub record AreEndsBelow (r : Recording) (conn count : ℕ) (ends : List (Option 
   pub size : length ends ≡ count
   pub each : (index : ℕ) (first : Option ℕ) → slice_get ends index ≡ Some first → IsEndedFrom r conn index first
 
--- all its commands
+-- all commands of a connection are ended from these moments on
 abbrev pub AreEnds : Recording → ℕ → List (Option ℕ) → Type 0
 AreEnds r conn ends = AreEndsBelow r conn (length (commands_in r.records conn)) ends

@@ -14,7 +14,7 @@ abbrev pub AreGood : Recording → ℕ → ℕ → List ℕ → ℕ → Type 0
 AreGood r conn session marks count = (number moment : ℕ) → number < count → slice_get marks number ≡ Some moment
     → number < answered_between r conn (first_in r conn session) (sent_until r conn session moment)
 
--- it does at every moment, or this is the first at which it does not
+-- the marks fit at every moment, or this is the first moment at which they do not
 abbrev pub IsUnfitAt : Recording → (ℕ → Type 0) → Option ℕ → Type 0
 IsUnfitAt r Fits None = (moment : ℕ) → Fits moment
 IsUnfitAt r Fits (Some first) =

@@ -1,4 +1,4 @@
--- What is kept of the records of a capture while it is read. No public clause cites this module but for `TimesHold`.
+-- What is kept of the records of a capture while it is read. Public clauses cite only `TimesHold` of this module.
 use Rattle.std.specs.Prelude.{◌≡◌, ℕ, ◌+◌, ◌≤◌, List, length, take, Some}
 use Rattle.std.specs.List.{slice_get}
 use Rattle.zy_capture.specs.declared.record.Record.{Record}

@@ -1,4 +1,4 @@
--- What the times of a recording are found from. No public clause cites this module but for `IsRecorded`.
+-- What the times of a recording are found from. Public clauses cite only `IsRecorded` of this module.
 use Rattle.std.specs.Prelude.{◌≡◌, ℕ, ◌<◌, ◌≤◌, Bool, List, length, Option, None, Some}
 use Rattle.std.specs.List.{slice_get}
 use Rattle.mc_calls.specs.declared.entry.Entry.{Entry}
@@ -28,7 +28,7 @@ pub record HasLines (r : Recording) (count : ℕ) (times : Times) : Type 0 where
   pub times_hold : TimesHold times count r.records
   pub of_run : IsOfRun r count
 
--- all of these
+-- the recording, its times, its answered commands and its entries belong together
 pub record IsRecorded (r : Recording) (count : ℕ) (times : Times) (answered : List (List Bool)) (entries : List Entry)
     : Type 0 where
   pub kept : IsKept r count times answered
@@ -71,8 +71,8 @@ pub record IsFirstUnsent (r : Recording) (moment at : ℕ) : Type 0 where
   pub unsent : IsEntrySent r e moment → ⊥
   pub before : (p : ℕ) (other : Entry) → p < at → slice_get r.entries p ≡ Some other → IsEntrySent r other moment
 
--- what came before an entry, when it is looked at: no earlier one is late, and the command of each was sent at the
--- latest moment, but of some one not before it
+-- what came before an entry when it is checked: no earlier one is late, and `latest` is the first moment at which
+-- the commands of all earlier ones were sent
 pub record CameBefore (r : Recording) (at latest : ℕ) : Type 0 where
   pub none : (p q : ℕ) → p < q → q < at → AreLate r p q → ⊥
   pub sent : (p : ℕ) (e : Entry) → p < at → slice_get r.entries p ≡ Some e → IsEntrySent r e latest

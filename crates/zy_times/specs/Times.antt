@@ -17,13 +17,13 @@ pub record Recording : Type 0 where
   pub records : List Record
   pub entries : List Entry
 
--- what had come at a moment: the moment is the number of the first records that had
+-- what had come at a moment; the moment is the number of records that had come
 abbrev pub come_at : Recording → ℕ → List Record
 come_at r moment = take moment r.records
 
 -- ---- sent
 
--- how many commands a connection had sent at a moment
+-- the number of commands that a connection had sent at a moment
 abbrev pub sent_by : Recording → ℕ → ℕ → ℕ
 sent_by r conn moment = length (commands_in (come_at r moment) conn)
 
@@ -52,7 +52,7 @@ marks_after before conn session (Kinds.Close other ∷ items) =
 abbrev pub marks_in : List Record → ℕ → ℕ → ℕ
 marks_in records conn session = marks_after 0 conn session records
 
--- how many marks of a session had come at a moment
+-- the number of marks of a session that had come at a moment
 abbrev pub marks_by : Recording → ℕ → ℕ → ℕ → ℕ
 marks_by r conn session moment = marks_in (come_at r moment) conn session
 
@@ -81,14 +81,14 @@ trues_between flags from to = trues (take (to - from) (drop from flags))
 abbrev pub answered_between : Recording → ℕ → ℕ → ℕ → ℕ
 answered_between r conn from to = trues_between (answered_in r conn) from to
 
--- the index of the first command of a session; that of the next session is where its commands end
+-- the index of the first command of a session; its commands end at that of the next session
 abbrev pub first_in : Recording → ℕ → ℕ → ℕ
 first_in r conn session = commands_before session (streams_in r.records conn)
 
 -- ---- ended
 
--- the command with this index, of this connection, is ended at a moment: more marks of its session had come than there
--- are answered commands of the session before it
+-- the command with this index, of this connection, is ended at a moment: more marks of its session had come than the
+-- session has answered commands before it
 pub record IsEnded (r : Recording) (conn index moment : ℕ) : Type 0 where
   pub session : ℕ
   pub from : first_in r conn session ≤ index
@@ -107,6 +107,6 @@ FitAt r moment = (conn session : ℕ)
     → marks_by r conn session moment
     ≤ answered_between r conn (first_in r conn session) (sent_until r conn session moment)
 
--- so it is at every moment
+-- the marks fit at every moment
 abbrev pub MarksFit : Recording → Type 0
 MarksFit r = (moment : ℕ) → FitAt r moment

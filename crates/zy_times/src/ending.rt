@@ -9,7 +9,8 @@ use crate::moments::{moment_at, number_if};
 use std::alloc::Global;
 use zy_base::NoMemory;
 
-// For each command of a connection, the first moment at which it had ended, if it ever had.
+// Returns, for each command of a connection, the first moment at which it had ended, if it ever
+// had.
 pub(crate) fn ends(
     alloc: Global,
     line: &Line,
@@ -29,7 +30,7 @@ pub(crate) fn ends(
     Ok(ends)
 }
 
-// Appends those of the commands of a session.
+// Appends these moments for the commands of a session.
 fn add_ends(
     line: &Line,
     answered: &[bool],

@@ -1,4 +1,4 @@
-//! Whether marks fit.
+//! Checking whether marks fit.
 ghost use Rattle.std.specs.Prelude.{◌≡◌, ◌≤◌, ◌<◌, ℕ, length};
 ghost use Rattle.zy_times.specs.Times.{Recording, answered_in};
 ghost use Rattle.zy_times.specs.Line.{LineHolds};
@@ -7,7 +7,8 @@ ghost use Rattle.zy_times.specs.Fitting.{FoundUnfit, FoundUnfitSession, earlier_
 use crate::line::Line;
 use crate::moments::{moment_at, number_if};
 
-// The first moment at which the marks of some session of a connection do not fit, if there is one.
+// Returns the first moment at which the marks of some session of a connection do not fit, if there
+// is one.
 pub(crate) fn first_unfit(line: &Line, answered: &[bool]) -> Option<u32>
     requires holds { (r : Recording) × (conn : ℕ) × LineHolds r.records conn line.now
         × (answered.now ≡ answered_in r conn) }
@@ -21,7 +22,7 @@ pub(crate) fn first_unfit(line: &Line, answered: &[bool]) -> Option<u32>
     found
 }
 
-// The earlier of two moments, if there are any.
+// Returns the earlier of two moments, if there are any.
 pub(crate) fn earlier(found: Option<u32>, other: Option<u32>) -> Option<u32>
     ensures value { result ≡ earlier_of found other }
 {
@@ -32,7 +33,7 @@ pub(crate) fn earlier(found: Option<u32>, other: Option<u32>) -> Option<u32>
     }
 }
 
-// The first moment at which the marks of a session do not fit, if there is one.
+// Returns the first moment at which the marks of a session do not fit, if there is one.
 fn unfit_session(line: &Line, answered: &[bool], session: usize) -> Option<u32>
     requires holds { (r : Recording) × (conn : ℕ) × LineHolds r.records conn line.now
         × (answered.now ≡ answered_in r conn) }

@@ -1,4 +1,4 @@
-//! Whether a journal fits the times of a recording.
+//! Checking whether a journal fits the times of a recording.
 ghost use Rattle.std.specs.Prelude.{◌≡◌, ◌<◌, ℕ, length, IfOk};
 ghost use Rattle.zy_times.specs.Times.{Recording};
 ghost use Rattle.zy_times.specs.InTime.{HasTiming};
@@ -13,7 +13,7 @@ use zy_base::NoMemory;
 use zy_check::Answered;
 use zy_journal::Journal;
 
-/// Whether a journal fits the times of a recording. May answer `NoMemory`.
+/// Checks whether a journal fits the times of a recording. May answer `NoMemory`.
 pub fn judge(
     alloc: Global,
     times: &Times,

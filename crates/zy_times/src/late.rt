@@ -19,7 +19,8 @@ pub(crate) struct Late {
     pub(crate) moment: u32,
 }
 
-// The first entry whose command had ended before the command of an earlier entry was sent, if there is one.
+// Returns the first entry whose command had ended before the command of an earlier entry was sent,
+// if there is one.
 pub(crate) fn first_late(
     times: &Times,
     spans: &Spans,
@@ -46,7 +47,7 @@ pub(crate) fn first_late(
     Err(NoMemory)
 }
 
-// The first moment at which the command of an entry had ended, if it ever had.
+// Returns the first moment at which the command of an entry had ended, if it ever had.
 fn end_of(spans: &Spans, entry: &Entry) -> Option<u32>
     requires holds { (r : Recording) × (count : ℕ) × (p : ℕ) × IsOfRun r count × AreSpans r count spans.now
         × (slice_get r.entries p ≡ Some entry.now) }
@@ -56,7 +57,7 @@ fn end_of(spans: &Spans, entry: &Entry) -> Option<u32>
     spans.ends[entry.tag.conn as usize][entry.tag.index as usize]
 }
 
-// An end that is before a moment.
+// Returns the end, if it is not after a moment.
 fn end_before(end: Option<u32>, latest: u32) -> Option<u32>
     ensures some { (moment : ℕ) → result ≡ Some moment → (end ≡ Some moment) × (moment < latest) }
     ensures none { result ≡ None → (moment : ℕ) → end ≡ Some moment → latest ≤ moment }
@@ -67,14 +68,14 @@ fn end_before(end: Option<u32>, latest: u32) -> Option<u32>
     }
 }
 
-// The later of two moments.
+// Returns the later of two moments.
 fn later_of(one: u32, other: u32) -> u32
     ensures value { result ≡ max one other }
 {
     if one < other { other } else { one }
 }
 
-// The moment with which the command of an entry was sent.
+// Returns the moment with which the command of an entry was sent.
 fn sent_of(times: &Times, entry: &Entry) -> u32
     requires holds { (r : Recording) × (count : ℕ) × (p : ℕ) × HasLines r count times.now
         × (slice_get r.entries p ≡ Some entry.now) }
@@ -85,7 +86,7 @@ fn sent_of(times: &Times, entry: &Entry) -> u32
     times.lines[entry.tag.conn as usize].sent[entry.tag.index as usize]
 }
 
-// The first entry whose command was not sent at a moment.
+// Returns the first entry whose command was not sent at a moment.
 pub(crate) fn first_unsent(times: &Times, journal: &Journal, moment: u32) -> Result<u64, NoMemory>
     requires holds { (r : Recording) × (count : ℕ) × HasLines r count times.now × (r.entries ≡ journal.now.entries) }
     ensures found { IfOk result (λ found. (r : Recording) (count : ℕ) → HasLines r count times.now

@@ -23,7 +23,7 @@ pub struct Line {
 }
 
 impl Line {
-    // Nothing came yet.
+    // Begins before any record.
     pub(crate) fn new(alloc: Global) -> Result<Line, NoMemory>
         ensures none { IfOk result (λ line. (conn : ℕ) → LineHolds [] conn line) }
     {
@@ -87,7 +87,7 @@ impl Line {
         Ok(())
     }
 
-    // The end of a session's commands.
+    // Returns the end of a session's commands.
     pub(crate) fn end_of(&self, session: usize) -> usize
         requires within { session < length self.now.sessions.items }
         ensures value { (records : List Record) (conn : ℕ) → LineHolds records conn self.now

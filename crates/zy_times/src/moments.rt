@@ -5,7 +5,7 @@ ghost use Rattle.zy_times.specs.Times.{number_if};
 
 use zy_base::NoMemory;
 
-/// Appends the same moment again and again.
+/// Appends the same moment this number of times.
 pub(crate) fn push_many(moments: &mut Vec<u32>, moment: u32, number: usize) -> Result<(), NoMemory>
     ensures more { OnOk result (moments.new.items ≡ moments.old.items ++ replicate number moment) }
 {
@@ -15,7 +15,7 @@ pub(crate) fn push_many(moments: &mut Vec<u32>, moment: u32, number: usize) -> R
     Ok(())
 }
 
-/// The moment at an offset, if there is one.
+/// Returns the moment at an offset, if there is one.
 pub(crate) fn moment_at(moments: &Vec<u32>, at: usize) -> Option<u32>
     ensures value { result ≡ slice_get moments.now.items at }
 {
@@ -26,7 +26,7 @@ pub(crate) fn moment_at(moments: &Vec<u32>, at: usize) -> Option<u32>
     }
 }
 
-/// One if the flag is true.
+/// Returns 1 if the flag is true, and 0 otherwise.
 pub(crate) fn number_if(flag: bool) -> usize
     ensures value { result ≡ number_if flag }
 {

@@ -18,7 +18,7 @@ pub(crate) struct Spans {
     pub(crate) ends: Vec<Vec<Option<u32>>>,
 }
 
-// The first moment at which marks do not fit, if there is one.
+// Returns the first moment at which marks do not fit, if there is one.
 pub(crate) fn first_unfit_of_all(times: &Times, answered: &Answered) -> Option<u32>
     requires kept { (r : Recording) × (count : ℕ) × IsKept r count times.now answered.now }
     ensures found { (r : Recording) (count : ℕ) → IsKept r count times.now answered.now
@@ -31,7 +31,7 @@ pub(crate) fn first_unfit_of_all(times: &Times, answered: &Answered) -> Option<u
     found
 }
 
-// When the commands of all connections had ended.
+// Finds when the commands of all connections had ended.
 pub(crate) fn find_spans(
     alloc: Global,
     times: &Times,
@@ -51,7 +51,7 @@ pub(crate) fn find_spans(
 }
 
 impl Spans {
-    // The number of commands, and of those that some mark ends.
+    // Returns the number of commands, and of those that some mark ends.
     pub(crate) fn numbers(&self, times: &Times) -> Result<Timing, NoMemory>
         ensures value { IfOk result (λ timing. (r : Recording) (count : ℕ) → AreSpans r count self.now
             → HasNumbers r count timing) }
@@ -72,7 +72,7 @@ impl Spans {
     }
 }
 
-// How many have an end.
+// Counts the commands that have an end.
 fn ended_in(ends: &[Option<u32>]) -> u64
     ensures value { result ≡ trues (map is_some ends.now) }
 {

@@ -19,7 +19,7 @@ pub struct Times {
 }
 
 impl Times {
-    /// No record of these connections came yet.
+    /// Begins before any record, with this number of connections.
     pub fn new(alloc: Global, count: u32) -> Result<Times, NoMemory>
         ensures none { IfOk result (λ times. TimesHold times count []) }
     {
