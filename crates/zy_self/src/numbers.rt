@@ -15,7 +15,7 @@ use zy_capture::Outputs;
 use zy_finish::Finished;
 use zy_run::Summary;
 
-/// The numbers of a served run.
+/// Returns the numbers of a served run.
 pub(crate) fn summary_of(done: &Finished) -> Result<Summary, NoMemory>
     ensures value { IfOk result (λ summary. (count version : ℕ) (records : List Record)
         → Spans done.now.journal.holds count (commands_in records)
@@ -32,7 +32,7 @@ pub(crate) fn summary_of(done: &Finished) -> Result<Summary, NoMemory>
     })
 }
 
-// The counts of all holds, added up.
+// Adds up the counts of all holds.
 fn all_held(holds: &[Hold]) -> Result<u64, NoMemory>
     ensures value { IfOk result (λ n. n ≡ all_held holds.now) }
 {
@@ -43,7 +43,7 @@ fn all_held(holds: &[Hold]) -> Result<u64, NoMemory>
     Ok(total)
 }
 
-// How many bytes the outputs of all connections have.
+// Returns how many bytes the outputs of all connections have.
 fn all_bytes(outputs: &Outputs) -> Result<u64, NoMemory>
     ensures value { IfOk result (λ n. n ≡ count_of_bytes outputs.now.sessions) }
 {
@@ -54,7 +54,7 @@ fn all_bytes(outputs: &Outputs) -> Result<u64, NoMemory>
     Ok(total)
 }
 
-// How many bytes the outputs of a connection have.
+// Returns how many bytes the outputs of a connection have.
 fn bytes_of(outputs: &Outputs, conn: u32) -> Result<u64, NoMemory>
     requires within { conn < length outputs.now.sessions }
     ensures value { IfOk result (λ n. n ≡ sum_by length (sessions_of outputs.now.sessions conn)) }
@@ -66,7 +66,7 @@ fn bytes_of(outputs: &Outputs, conn: u32) -> Result<u64, NoMemory>
     Ok(total)
 }
 
-// Two numbers added up, where 64 bits hold the sum.
+// Adds two numbers, if their sum fits in 64 bits.
 fn sum(first: u64, second: u64) -> Result<u64, NoMemory>
     ensures value { IfOk result (λ n. n ≡ first + second) }
 {

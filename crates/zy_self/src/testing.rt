@@ -1,4 +1,4 @@
-//! Test runs: generated traffic is served, and what came is checked.
+//! Test runs: generated traffic is served, and the result is checked.
 ghost use Rattle.std.specs.Prelude.{◌≡◌, ℕ, List, IfOk};
 ghost use Rattle.zy_capture.specs.declared.record.Record.{Record};
 ghost use Rattle.zy_capture.specs.Streams.{no_bytes, with_records};
@@ -25,8 +25,8 @@ use zy_journal::Journal;
 use zy_run::Summary;
 use zy_serving::serve_capture;
 
-/// Serves generated traffic, and checks what came. Returns the journal and the numbers of the run. The
-/// call may wait.
+/// Serves generated traffic, and checks the result. Returns the journal and the numbers of the run.
+/// The call may wait.
 pub fn run_test<R: Threads + Wait + Sync, G: Gate + Sync>(
     rt: &R,
     alloc: Global,
@@ -49,7 +49,7 @@ pub fn run_test<R: Threads + Wait + Sync, G: Gate + Sync>(
     Ok((done.journal, summary))
 }
 
-// The streams of a capture.
+// Returns the streams of a capture.
 fn streams_of(alloc: Global, capture: Blob) -> Result<Streams, NoMemory>
     ensures value { IfOk result (λ streams. (version count : ℕ) (records : List Record)
         → verdict capture ≡ Good version count records

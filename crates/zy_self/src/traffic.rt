@@ -9,7 +9,7 @@ use zy_base::{Blob, NoMemory};
 use zy_command_line::Traffic;
 use zy_gen::generate;
 
-/// The capture of some traffic, which is within the bounds of traffic that can be made.
+/// Makes the capture of some traffic, which is within the bounds of generated traffic.
 pub fn capture_of(alloc: Global, traffic: Traffic) -> Result<Blob, NoMemory>
     requires makeable { IsMakeable traffic }
     ensures value { IfOk result (λ capture. capture ≡ traffic_bytes traffic) }
