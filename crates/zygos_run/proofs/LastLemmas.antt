@@ -1,4 +1,4 @@
--- A last text whose writing failed, and which was not finished.
+-- A last text whose writing failed and was not finished.
 use Rattle.std.proofs.Common.{ℕ, List}
 use Rattle.std.specs.Prelude.{Bool, Option, ⊤, Result, Ok, Err, IsErr}
 use Rattle.zy_base.specs.Outside.{Writes, WritesLast}

@@ -10,7 +10,7 @@ use Rattle.zygos_run.specs.Reported.{IsReported}
 use Rattle.zygos_run.specs.Input.{Input, IsRefusedFor}
 use Rattle.zygos_run.specs.Input.Input.{CheckInput, JournalInput}
 
--- the input was read no further, for its cause: it is refused for this fault, or a read failed
+-- the input was read no further, for its cause: it is rejected for this fault, or a read failed
 abbrev pub StopsAs : Input → Side → Stop Refusal → Type 0
 StopsAs input source (Stops.Refused refusal) = IsRefusedFor input source.before refusal
 StopsAs input source Stops.ReadFault = HasRisen source

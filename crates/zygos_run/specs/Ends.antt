@@ -8,18 +8,18 @@ use Rattle.zygos_run.specs.declared.answer.Answer.TheVariants.{Served, Checked, 
 use Rattle.zygos_run.specs.Input.{Input, IsRefusedFor}
 use Rattle.zygos_run.specs.Task.{Task, task_of, input_of}
 
--- ---- what was carried out
+-- ---- what was executed
 
--- the words are valid, and this is so of the task of their command
+-- the words are valid, and this holds of the task of their command
 abbrev pub OfTask : Option Request → (Task → Type 0) → Type 0
 OfTask request Holds = IsSomeAnd request (λ asked. Holds (task_of asked))
 
--- this is so of the bytes of the input, of which `Of` says which they are; without an input, of no bytes
+-- this holds of the bytes of the input, which `Of` selects; without an input, of no bytes
 abbrev pub OfInput : Option Input → ((List ℕ → Type 0) → Type 0) → (List ℕ → Type 0) → Type 0
 OfInput None Of Holds = Holds []
 OfInput (Some input) Of Holds = Of Holds
 
--- the answer is that of the command when it is done; what the answer has was found in its input, and this is so of the
+-- the answer is the one when the command is done; what the answer has was found in its input, and this holds of the
 -- text that it writes
 abbrev pub CarriesOut : Option Request → Answer → ((List ℕ → Type 0) → Type 0) → (List ℕ → Type 0) → Type 0
 CarriesOut request answer Of Writes =
@@ -41,7 +41,7 @@ IsSuccess answer = ⊥
 abbrev pub DoneHolds : Option Request → Seen → Answer → Type 0
 DoneHolds request call answer = CarriesOut request answer (OfGiven call.source) (WasWritten call.sink)
 
--- what was requested was done of bytes that the source gave, if it reads any, and a prefix of what is expected was
+-- the request was executed on bytes that the source gave, if it reads any, and a prefix of the expected text was
 -- written
 abbrev pub HasPart : Option Request → Seen → Type 0
 HasPart request call =

@@ -1,4 +1,4 @@
--- What commands of the program read, and which faults that may have.
+-- What commands of the program read, and the faults that it may have.
 use Rattle.std.specs.Prelude.{◌≡◌, ℕ, List, Option, ⊤, IfSome}
 use Rattle.zy_capture.specs.Verdict as Captures
 use Rattle.zy_input.specs.declared.stop.Refusal.{Refusal}
@@ -31,7 +31,8 @@ HasInputFault (PacketsInput port) (Pcap fault) bytes = Recorded.packets port byt
 HasInputFault JournalInput (Journal fault) bytes = Journals.journal_verdict bytes ≡ Journals.JournalVerdict.Bad fault
 HasInputFault input refusal bytes = ⊥
 
--- such an input is refused for this fault: it may have it, and the bytes have it if they are reported
+-- an input of this kind is rejected for this fault: it may have the fault, and the bytes have it if
+-- they are reported
 abbrev pub IsRefusedFor : Input → Option (List ℕ) → Refusal → Type 0
 IsRefusedFor input reported refusal =
     MayHaveFault input refusal × IfSome reported (λ bytes. HasInputFault input refusal bytes)

@@ -1,4 +1,4 @@
--- The lines of the program: those that are said of an answer, that of a verdict, and that of a test run.
+-- The lines of the program: those of answers, that of a verdict, and that of a test run.
 use Rattle.std.specs.Prelude.{ℕ, zero, suc, List, [], ◌++◌, codes, decimal}
 use Rattle.zy_base.specs.declared.file_fault.FileFault.{FileFault}
 use Rattle.zy_base.specs.declared.file_fault.FileFault.TheVariants as Files
@@ -81,7 +81,7 @@ replies_text (Files.Form at) = codes "zygos: replies: form at "
 replies_text (Files.Truncated at) = codes "zygos: replies: truncated at "
 replies_text Files.TooLong = codes "zygos: replies: too-long\n"
 
--- the line of a fault of a file that begins so
+-- the line of a fault of a file, which begins with this text
 abbrev pub file_line : List ℕ → FileFault → List ℕ
 file_line text (Files.Form at) = line_with text at
 file_line text (Files.Truncated at) = line_with text at
@@ -160,7 +160,7 @@ verdict_line (No cause) = cause_line cause
 
 -- ---- what is written of a test run
 
--- the line of its numbers
+-- the line of a test run's numbers
 abbrev pub summary_line : Summary → List ℕ
 summary_line summary =
     line_with_three (codes "commands ") summary.commands (codes " calls ") summary.calls

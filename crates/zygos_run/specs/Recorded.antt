@@ -6,7 +6,7 @@ use Rattle.zy_pcap.specs.Packets.{packets}
 use Rattle.zy_pcap.specs.Packets.FoundPackets.{Packets}
 use Rattle.zy_pcap.specs.Made.{pcap_capture, pcap_verdict}
 
--- the bytes are recorded packets to the port, and this is so of their capture
+-- the bytes are recorded packets to the port, and this holds of their capture
 pub record IsOfRecordedPackets (port : ℕ) (bytes : List ℕ) (Holds : List ℕ → Type 0) : Type 0 where
   pub given : List Packet
   pub are : packets port bytes ≡ Packets given

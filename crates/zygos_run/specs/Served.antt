@@ -1,4 +1,4 @@
--- What the clauses of the top call say besides: of the bytes that a source reports, and of answers that must come.
+-- What other clauses of the top call say: of the bytes that a source reports, and of answers that must come.
 use Rattle.std.specs.Prelude.{◌≡◌, ◌⊎◌, ℕ, List, Option, IfSome, IsSome, IsSomeAnd}
 use Rattle.zy_input.specs.declared.stop.Refusal.{Refusal}
 use Rattle.zy_command_line.specs.declared.request.Request.{Request}
@@ -23,7 +23,8 @@ abbrev pub IsToldBad : Option Request → Option (List ℕ) → Refusal → Type
 IsToldBad request reported refusal =
     IsSomeAnd reported (λ bytes. IsSomeAnd (input_of request) (λ input. HasInputFault input refusal bytes))
 
--- the bytes are reported, and have no fault as what the request reads; a request that reads nothing asks for none
+-- the bytes are reported, and have no fault as what the request reads; no bytes need be reported to a request
+-- that reads nothing
 abbrev pub IsToldGood : Option Request → Option (List ℕ) → Type 0
 IsToldGood request reported =
     OfTask request (λ task. IfSome task.reads (λ input. IsSomeAnd reported (λ bytes. IsFaultless input bytes)))
@@ -32,7 +33,7 @@ IsToldGood request reported =
 abbrev pub IsDone : Option Request → Answer → Type 0
 IsDone request answer = OfTask request (λ task. IsSome (task.found_in answer))
 
--- the same, unless memory ran out
+-- the answer is that of the command that was executed, unless memory ran out
 abbrev pub IsDoneOr : Option Request → Answer → Type 0
 IsDoneOr request answer = IsDone request answer ⊎ (answer ≡ OutOfMemory)
 

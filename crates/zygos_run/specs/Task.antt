@@ -28,7 +28,7 @@ abbrev pub verdict_checked : Answer → Option Certified
 verdict_checked (Checked verdict) = Some verdict
 verdict_checked answer = None
 
--- no more than that something was made
+-- only that something was made
 abbrev pub only_made : Answer → Option ⊤
 only_made Made = Some tt
 only_made answer = None
@@ -48,7 +48,7 @@ pub record Task : Type 1 where
   pub Found : Type 0
   -- what this answer says that it found, if it is the answer when the task is done
   pub found_in : Answer → Option Found
-  -- of an input of these bytes it finds this, and this is so of the text that it writes
+  -- for an input of these bytes it finds this, and this holds of the text that it writes
   pub Does : List ℕ → Found → (List ℕ → Type 0) → Type 0
 
 -- the task of each command; one that reads nothing has an input of no bytes

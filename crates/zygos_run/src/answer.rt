@@ -14,9 +14,10 @@ pub enum Answer {
     /// The journal has every call on the store with its reply, and for each hold its core, its
     /// connection and the number of commands finished in it.
     Served(Journal),
-    /// `check`: the input was read to its end, this is the verdict on it, and its line was written.
+    /// `check`: the input was read to its end. This is the verdict on it, whose line was written.
     Checked(Verdict),
-    /// `gen` or `pcap`: the capture was made and written. `report`: the report was.
+    /// `gen` or `pcap`: the capture was made and written. `report`: the report was made and
+    /// written.
     Made,
     /// `self`: the capture was made, served and checked, and the line of these numbers was written.
     Tested(Journal, Summary),
@@ -28,11 +29,11 @@ pub enum Answer {
     ReadFault,
     /// Writing failed. A prefix of the output was written.
     WriteFault,
-    /// Memory was refused. Nothing was written.
+    /// An allocation failed. Nothing was written.
     OutOfMemory,
 }
 
-/// The exit status of an answer.
+/// Returns the exit status of an answer.
 pub fn status(answer: &Answer) -> u8
     ensures value { result ≡ status_of answer.now }
 {

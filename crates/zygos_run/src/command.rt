@@ -1,4 +1,4 @@
-//! The command that the words ask for.
+//! The requested command.
 ghost use Rattle.std.specs.Prelude.{◌≡◌, ◌≤◌};
 ghost use Rattle.zy_command_line.specs.Request.{request_of};
 ghost use Rattle.zy_serving.specs.Seen.{side, both_sides};
@@ -19,7 +19,7 @@ use zy_base::{Blob, Gate, Sink, Source};
 use zy_command_line::laws::requests_are_in_their_ranges;
 use zy_command_line::{Request, request_of};
 
-/// Carries out the command that the words ask for.
+/// Executes the command that the words ask for.
 pub(crate) fn carry_out<R: Threads + Wait + Sync, S: Source, K: Sink, G: Gate + Sync>(
     rt: &R,
     alloc: Global,

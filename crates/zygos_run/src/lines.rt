@@ -118,7 +118,7 @@ fn write_output<K: Sink>(
     }
 }
 
-// The beginning of the line of a cause.
+// Returns the beginning of the line of a cause.
 fn cause_text(cause: Cause) -> &'static [u8]
     ensures value { result.now ≡ cause_text cause }
 {

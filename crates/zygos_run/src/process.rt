@@ -12,17 +12,17 @@ const OUT_OF_MEMORY: u8 = 6;
 
 const OUT_OF_MEMORY_LINE: &[u8] = b"zygos: out of memory\n";
 
-/// Writes to standard error that there is no memory for the arguments or for a buffer; the exit status. Takes no
-/// memory.
+/// Writes to standard error that there is no memory for the arguments or for a buffer, and returns
+/// the exit status. Takes no memory.
 pub fn without_memory<W: Write + Drop>(error: W) -> ExitCode {
     let mut says = StdSink::new(error);
-    // The status is the same if the line cannot be written.
+    // The status is the same even if the line cannot be written.
     let _ = write_whole(&mut says, OUT_OF_MEMORY_LINE);
     drop(says);
     ExitCode::from(OUT_OF_MEMORY)
 }
 
-/// The arguments, as bytes.
+/// Returns the arguments, as bytes.
 pub fn words<R: Env>(rt: &R, alloc: Global) -> Result<Vec<Blob>, NoMemory> {
     let mut words = Vec::new(alloc);
     match add_words(rt, alloc, &mut words) {
@@ -44,7 +44,7 @@ fn add_words<R: Env>(rt: &R, alloc: Global, words: &mut Vec<Blob>) -> Result<(),
     Ok(())
 }
 
-// One word, by a buffer that doubles until the word fits.
+// Returns one argument, by a buffer that doubles until it fits.
 fn word<R: Env>(rt: &R, alloc: Global, i: usize) -> Result<Option<Blob>, NoMemory> {
     let mut size = 256usize;
     for _ in 0..usize::BITS {

@@ -1,4 +1,4 @@
-//! Serving a capture, and writing what came.
+//! Serving a capture, and writing the result.
 ghost use Rattle.std.specs.Prelude.{◌≡◌, ◌≤◌, Some};
 ghost use Rattle.zy_base.specs.Outside.{Writes, WritesLast};
 ghost use Rattle.zy_capture.specs.Outputs.{AreOutputs};

@@ -38,7 +38,7 @@ pub fn say_line<E: Sink>(says: &mut E, answer: &Answer) -> Result<(), Failed>
     }
 }
 
-// The number of a fault of recorded packets.
+// Returns the number of a fault of recorded packets.
 fn pcap_number(fault: PcapFault) -> u64
     ensures value { result ≡ pcap_number fault }
 {
@@ -59,7 +59,7 @@ fn pcap_number(fault: PcapFault) -> u64
     }
 }
 
-// The line of an answer that is not a refusal.
+// Returns the line of an answer that is not `Refused`.
 fn plain_line(answer: &Answer) -> &'static [u8]
     ensures value { result.now ≡ plain_line answer.now }
 {
@@ -73,7 +73,7 @@ fn plain_line(answer: &Answer) -> &'static [u8]
     }
 }
 
-// The line of a fault of a capture.
+// Writes the line of a fault of a capture.
 fn say_fault<E: Sink>(says: &mut E, fault: CaptureFault) -> Result<(), Failed>
     ensures writes { Writes E.holds E.faults E.finishes says.old says.new result (fault_line fault) }
 {
@@ -93,7 +93,7 @@ fn say_fault<E: Sink>(says: &mut E, fault: CaptureFault) -> Result<(), Failed>
     }
 }
 
-// The beginning of the line of a fault of a capture.
+// Returns the beginning of the line of a fault of a capture.
 fn fault_text(fault: CaptureFault) -> &'static [u8]
     ensures value { result.now ≡ fault_text fault }
 {
@@ -109,7 +109,7 @@ fn fault_text(fault: CaptureFault) -> &'static [u8]
     }
 }
 
-// What is between the two numbers of a line, if it has two.
+// Returns the text between the two numbers of a line, if it has two.
 fn fault_middle(fault: CaptureFault) -> &'static [u8]
     ensures value { result.now ≡ fault_middle fault }
 {
@@ -119,7 +119,7 @@ fn fault_middle(fault: CaptureFault) -> &'static [u8]
     }
 }
 
-// The line of a fault of a journal or a replies file, which begins with this text.
+// Writes the line of a fault of a journal or a replies file, which begins with this text.
 fn say_file_fault<E: Sink>(
     says: &mut E,
     text: &'static [u8],
@@ -133,7 +133,7 @@ fn say_file_fault<E: Sink>(
     }
 }
 
-// The beginning of the line of a fault of a journal.
+// Returns the beginning of the line of a fault of a journal.
 fn journal_text(fault: FileFault) -> &'static [u8]
     ensures value { result.now ≡ journal_text fault }
 {
@@ -144,7 +144,7 @@ fn journal_text(fault: FileFault) -> &'static [u8]
     }
 }
 
-// The beginning of the line of a fault of a replies file.
+// Returns the beginning of the line of a fault of a replies file.
 fn replies_text(fault: FileFault) -> &'static [u8]
     ensures value { result.now ≡ replies_text fault }
 {

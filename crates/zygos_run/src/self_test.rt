@@ -1,4 +1,4 @@
-//! Test runs: generated traffic is served, and what came is checked.
+//! Test runs: generated traffic is served, and the result is checked.
 ghost use Rattle.std.specs.Prelude.{◌≡◌, ◌≤◌, Some};
 ghost use Rattle.zy_base.specs.Outside.{WritesLast};
 ghost use Rattle.zy_command_line.specs.Range.{IsMakeable, IsRunnable};
@@ -19,7 +19,7 @@ use zy_command_line::{Run, Traffic};
 use zy_run::Summary;
 use zy_self::run_test;
 
-/// Serves generated traffic, checks what came, and writes the line of its numbers.
+/// Serves generated traffic, checks the result, and writes the line of its numbers.
 pub(crate) fn test_traffic<R: Threads + Wait + Sync, K: Sink, G: Gate + Sync>(
     rt: &R,
     alloc: Global,

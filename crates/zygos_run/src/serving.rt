@@ -20,20 +20,21 @@ use std::thread::Threads;
 use zy_base::{Blob, Gate, Sink, Source};
 use zy_input::{parts_have_no_fault, there_is_one_part_fault};
 
-/// Carries out the command that the words ask for.
+/// Executes the command that the words ask for.
 ///
 /// `words` are the words after the program's name. `run` reads a capture from `source` to its end,
 /// executes its commands on the cores that the words ask for, and writes the replies file of all
-/// sessions to `sink`, with `--out both` after the journal. `check` reads a capture, a journal and a
-/// replies file, and writes a line with the verdict on them. `gen` writes the capture of generated
-/// traffic. `self` makes that capture, serves it, checks what came, and writes a line with its
-/// numbers: that the check says yes is proved. `pcap` reads recorded packets to the end of the source,
-/// and writes the capture of those to one port. `report` reads a journal to the end of the source,
-/// and writes a table of what its entries count, by shard. The sink is finished once, after the last write.
+/// sessions to `sink`, with `--out both` after the journal. `check` reads a capture, a journal and
+/// a replies file, and writes a line with the verdict on them. `gen` writes the capture of
+/// generated traffic. `self` makes that capture, serves it, checks the result, and writes a line
+/// with its numbers; it is proved that the check says yes. `pcap` reads recorded packets to the end
+/// of the source, and writes the capture of those to one port. `report` reads a journal to the end
+/// of the source, and writes a table of what its entries count, by shard. The sink is finished
+/// once, after the last write.
 ///
-/// A line on an answer that is no success goes to `says`; a fault there changes nothing. `gate` is
-/// passed once for each command, when it begins. The answer may always be `OutOfMemory`, but only before
-/// the first byte is written.
+/// The line of an answer that is no success goes to `says`; a failure there changes nothing. `gate`
+/// is passed once for each command, when it begins. The answer may always be `OutOfMemory`, but
+/// only before the first byte is written.
 pub fn serve<R: Threads + Wait + Sync, S: Source, K: Sink, E: Sink, G: Gate + Sync>(
     rt: &R,
     alloc: Global,
