@@ -7,7 +7,7 @@ use std::process::ExitCode;
 use zy_base::{NoMemory, Ungated};
 use zygos_run::{StdSink, StdSource, serve, status, without_memory, words};
 
-// The size of the buffer of standard output; longer pieces are not held back.
+// The size of the buffer of standard output; longer pieces are written at once.
 const BUFFER: usize = 65_536;
 
 fn main(rt: HostRuntime) -> ExitCode {
