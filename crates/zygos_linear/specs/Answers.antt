@@ -9,7 +9,7 @@ use Rattle.zygos_linear.specs.declared.answer.Answer.{Answer}
 use Rattle.zygos_linear.specs.declared.answer.Answer.TheVariants.{Judged, Usage, Refused, ReadFault, WriteFault, OutOfMemory}
 use Rattle.zygos_linear.specs.declared.finding.Finding.TheVariants.{NoRun, Run}
 
--- the answer of `zygos check` to the same
+-- the answer that `zygos check` gives in the same case
 abbrev pub answer_of_check : Answer → Checking
 answer_of_check (Judged (NoRun cause)) = Check.Checked (No cause)
 answer_of_check (Judged (Run timing)) = Check.Checked Yes
@@ -19,7 +19,7 @@ answer_of_check ReadFault = Check.ReadFault
 answer_of_check WriteFault = Check.WriteFault
 answer_of_check OutOfMemory = Check.OutOfMemory
 
--- the exit status: after a finding 0 or 1, else that of `zygos check`
+-- the exit status: 0 or 1 after a finding, otherwise that of `zygos check`
 abbrev pub status_for : Answer → ℕ
 status_for (Judged (Run (InTime commands ended))) = 0
 status_for (Judged finding) = 1

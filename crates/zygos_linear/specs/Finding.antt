@@ -23,7 +23,8 @@ pub record IsLinearizable (g : Given) (r : Recording) (count commands ended : �
   pub commands_are : commands ≡ commands_of_all r count
   pub ended_are : EndedOfAll r count ended
 
--- the definition of each finding, if `check` is given this, and the recording is this one, of `count` connections
+-- the definition of each finding, when `check` is given this, and the recording is this one, of `count`
+-- connections
 abbrev pub HasFinding : Given → Recording → ℕ → Finding → Type 0
 HasFinding g r count (NoRun cause) = HasVerdict g (No cause)
 HasFinding g r count (Run (EarlyEnd at)) = HasVerdict g Yes × IsEarlyEnd r at

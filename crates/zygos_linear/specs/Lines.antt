@@ -25,7 +25,7 @@ finding_line (Run timing) = timing_line timing
 
 -- ---- standard error
 
--- the line of an answer: for invalid arguments one of its own, else that of `zygos check`
+-- the line of an answer: for invalid arguments one of its own, otherwise that of `zygos check`
 abbrev pub line_for : Answer → List ℕ
 line_for Usage = codes "linear: usage: linear [--shards N]\n"
 line_for answer = answer_line (answer_of_check answer)

@@ -10,7 +10,7 @@ use zy_times::Timing;
 /// How the top call ended.
 #[derive(Clone, Copy, PartialEq, Eq)]
 pub enum Answer {
-    /// The input was read to its end, this was found of it, and its line was written.
+    /// The input was read to its end. This was found of it, and its line was written.
     Judged(Finding),
     /// The arguments are invalid. Nothing was read or written.
     Usage,
@@ -24,8 +24,8 @@ pub enum Answer {
     OutOfMemory,
 }
 
-/// The exit status of an answer: 0 if the recording is linearizable, and 1 if it is not. That of another answer is the
-/// status that `zygos check` has for it.
+/// Returns the exit status of an answer: 0 if the recording is linearizable, and 1 if it is not.
+/// The status of another answer is the one that `zygos check` has for it.
 pub fn status(answer: &Answer) -> u8
     ensures value { result ≡ status_for answer.now }
 {
@@ -36,7 +36,7 @@ pub fn status(answer: &Answer) -> u8
     }
 }
 
-// The answer of `zygos check` to the same.
+// Returns the answer that `zygos check` gives in the same case.
 pub(crate) fn answer_of_check(answer: &Answer) -> zygos_run::Answer
     ensures value { result ≡ answer_of_check answer.now }
 {

@@ -8,6 +8,6 @@ use zy_times::Timing;
 pub enum Finding {
     /// The journal and the replies are not those of a run of the capture, for this cause.
     NoRun(Cause),
-    /// They are, and so the journal fits the times of the capture, or does not.
+    /// They are. This says whether the journal fits the times of the capture.
     Run(Timing),
 }

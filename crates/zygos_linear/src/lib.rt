@@ -1,4 +1,5 @@
-//! The top call of `linear`: arguments and a recording in; whether it is linearizable out.
+//! The top call of `linear`: arguments and a recording in; an answer whether it is linearizable
+//! out.
 #![tactic(auto)]
 
 mod answer;

@@ -26,14 +26,14 @@ use std::alloc::Global;
 use zy_base::{Blob, Sink, Source};
 use zy_input::{parts_have_no_fault, there_is_one_part_fault};
 
-/// Judges a recording: whether `check` says yes, and each call can be given a moment between its command and its
-/// answer, in the order of the journal.
+/// Judges a recording: whether `zygos check` says yes, and whether each call can be given a moment
+/// between its command and its answer, in the order of the journal.
 ///
 /// `words` are the arguments: the options of `zygos check`. A capture, a journal and a replies
 /// file are read from `source` to its end, and one line is written to `sink`, which is finished once.
 ///
-/// A line on an answer that is no finding goes to `says`; a failure there changes nothing. The answer may always be
-/// `OutOfMemory`, but only before the first byte is written.
+/// The line of an answer that is no finding goes to `says`; a failure there changes nothing. The
+/// answer may always be `OutOfMemory`, but only before the first byte is written.
 pub fn serve_linear<S: Source, K: Sink, E: Sink>(
     alloc: Global,
     words: &[Blob],
