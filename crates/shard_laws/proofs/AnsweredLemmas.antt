@@ -1,4 +1,4 @@
--- A list is legal exactly where each entry is answered as after the entries before it.
+-- A list is legal if and only if each entry is answered as after the entries before it.
 use Rattle.std.proofs.Common.{◌≡◌, ℕ, List, [], ◌∷◌, ◌++◌, refl, sym, ap, ◌∙◌, subst}
 use Rattle.std.proofs.lemmas.List.{append_assoc, append-nil}
 use Rattle.std.specs.FinMap.{len}

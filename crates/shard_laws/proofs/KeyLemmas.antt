@@ -1,4 +1,5 @@
--- The replies to the calls on one key, uniques aside, depend on these calls and the flushes alone.
+-- The replies to the calls on one key, CAS values aside, depend only on these calls and the
+-- flushes.
 use Rattle.std.proofs.Common.{◌≡◌, ℕ, Bool, true, false, cond, List, [], ◌∷◌, ◌++◌, length, refl, sym, ap, ◌∙◌, subst}
 use Rattle.std.specs.Prelude.{is_some, unwrap_or, ◌&&◌, Option, None, Some, nat_lt}
 use Rattle.std.specs.Ordering.{nat_cmp, is_eq}

@@ -10,7 +10,8 @@ use Rattle.mc_calls.specs.Shard.{empty_state, reply_to}
 use Rattle.mc_calls.specs.History.{replayed}
 use Rattle.mc_calls.specs.Order.{at_shard}
 
--- what a shard answers to a call after these entries of it: to a tally, what is counted of them
+-- what a shard answers to a call after these entries of its own; a tally is answered by what is
+-- counted of them
 abbrev pub answer_after : ℕ → ℕ → List Entry → Call → CallReply
 answer_after shards number before Tally = tally (counted before)
 answer_after shards number before call = reply_to (replayed shards number empty_state before) call

@@ -24,7 +24,7 @@ UniquesDiffer =
 
 -- ---- one call
 
--- a call whose reply is not that it stored is counted, and changes nothing else
+-- a call whose reply is not `Stored` is counted, and changes nothing else
 abbrev pub KeepsUnlessStored : Call → Type 0
 KeepsUnlessStored call =
     (shards number : ℕ) (state : State) → reply_to state call ≢ Stored

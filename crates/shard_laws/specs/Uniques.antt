@@ -18,7 +18,7 @@ given_by after (stores key flags value) = unique_in (get after key)
 given_by after (removes key) = []
 given_by after empties = []
 
--- the CAS value that an entry's call gives, if the shards are in these states
+-- the CAS value that an entry's call gives when the shards are in these states
 abbrev pub given : ℕ → (ℕ → State) → Entry → List ℕ
 given shards states e =
     given_by (state_after shards e.shard (states e.shard) e.call).items
@@ -31,8 +31,8 @@ uniques_from shards number states (e ∷ es) =
     (if e.shard == number then given shards states e else [])
     ++ uniques_from shards number (states_after shards states e) es
 
--- the CAS values that the calls on one shard give, in the list's order, if all shards are empty at
--- first
+-- the CAS values that the calls on one shard give, in the list's order, when all shards are empty
+-- at first
 abbrev pub uniques_at : ℕ → ℕ → List Entry → List ℕ
 uniques_at shards number es = uniques_from shards number (λ number. empty_state) es
 

@@ -30,7 +30,7 @@ exchanges =
     ∷ Calls.Get (codes "a")
     ∷ []
 
--- the replies to these
+-- the replies to these calls
 abbrev pub exchanged : List CallReply
 exchanged =
     Replies.Miss
@@ -44,7 +44,7 @@ exchanged =
 
 -- ---- values that are joined and replaced
 
--- a call needs an item, and then there is one
+-- calls that need an item, first without one and then with one
 abbrev pub joins : List Call
 joins =
     Calls.Replace (codes "b") 0 (codes "x")
@@ -59,7 +59,7 @@ joins =
     ∷ Calls.Get (codes "b")
     ∷ []
 
--- the replies to these
+-- the replies to these calls
 abbrev pub joined : List CallReply
 joined =
     Replies.NotStored
@@ -76,8 +76,8 @@ joined =
 
 -- ---- numbers
 
--- values are counted up past the largest number, up from padded digits, down to 0; and values that
--- are no number
+-- values that are counted up past the largest number, up from padded digits, and down to 0; and
+-- values that are no numbers
 abbrev pub counts : List Call
 counts =
     Calls.Incr (codes "c") 1
@@ -92,7 +92,7 @@ counts =
     ∷ Calls.Decr (codes "d") 5
     ∷ []
 
--- the replies to these
+-- the replies to these calls
 abbrev pub counted : List CallReply
 counted =
     Replies.NotFound
@@ -123,7 +123,7 @@ removals =
     ∷ Calls.Get (codes "a")
     ∷ []
 
--- the replies to these
+-- the replies to these calls
 abbrev pub removed : List CallReply
 removed =
     Replies.NotFound

@@ -5,7 +5,7 @@ ghost use Rattle.zy_base.specs.Limits.{stamp_limit};
 ghost use Rattle.mc_calls.specs.History.{IsLegal, AreHistories};
 ghost use Rattle.mc_calls.specs.Order.{of_connection, AreByShard, StampsRise, AreStampsBelow, history_of, IsMergeOf, AreCallsOf};
 
-/// Histories have one merged list at most.
+/// Histories have at most one merged list.
 pub fn histories_have_one_merge()
     ensures same { (histories : List (List Entry)) (es others : List Entry)
         → IsMergeOf histories es → IsMergeOf histories others → es ≡ others }
@@ -18,7 +18,8 @@ pub fn histories_have_a_merge()
         → (es : List Entry) × IsMergeOf histories es }
 {}
 
-/// Of two entries the one with the lower stamp is first, and of equal stamps that of the lower shard.
+/// Of two entries the one with the lower stamp is first; if the stamps are equal, the one of the
+/// lower shard.
 pub fn two_entries_are_merged_by_stamp_and_shard()
     ensures lower { (x y : Entry) → x.shard ≡ 0 → y.shard ≡ 1 → y.stamp < x.stamp
         → IsMergeOf ((x ∷ []) ∷ (y ∷ []) ∷ []) (y ∷ x ∷ []) }

@@ -26,8 +26,8 @@ pub fn replies_are_within_their_bounds()
         → AllByRecursion (λ (e : Entry). IsReply e.reply) es }
 {}
 
-/// If shards have the same at a call's key, apart from CAS values, they give a steady call the same
-/// reply, apart from the CAS value that it shows.
+/// If two shards have the same at a call's key, except for CAS values, they give a steady call the
+/// same reply, except for the CAS value that it shows.
 pub fn steady_calls_tell_no_other_unique()
     ensures reply { (state other : State) (call : Call) (key : List ℕ) → IsSteady call
         → key_of call ≡ Some key → seen_at key state ≡ seen_at key other
