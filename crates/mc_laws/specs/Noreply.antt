@@ -17,27 +17,27 @@ use Rattle.mc_parse.specs.Form.{metas, Form, form_of, line_form, faulty, asks}
 abbrev pub with_noreply : List ℕ → List ℕ
 with_noreply line = line ++ codes " noreply"
 
--- what is asked for may be asked for without an answer: its command is then not answered, with a block or without
+-- a request may be quiet: its command is then not answered, with a block or without
 abbrev pub may_be_quiet : Ask → Bool
 may_be_quiet (metas ask) = false
 may_be_quiet ask =
     is_unsaid (says_of (alone_command ask true)) || is_unsaid (says_of (value_command ask true []))
 
--- what a line says may be asked for without an answer, but asks for one
+-- what a line says may be quiet, and is not
 abbrev pub is_loud : Form → Bool
 is_loud (faulty line) = false
 is_loud (asks ask quiet) = may_be_quiet ask && not quiet
 
--- a line without a fault that may ask for no answer, but asks for one
+-- a line without a fault that may be quiet, and is not
 abbrev pub takes_noreply : List ℕ → Bool
 takes_noreply line = is_loud (line_form line)
 
--- what a line says is requested without an answer
+-- what a line says is quiet
 abbrev pub is_quiet : Form → Bool
 is_quiet (faulty line) = false
 is_quiet (asks ask quiet) = quiet
 
--- the same, asked for without an answer
+-- the same, asked for quietly
 abbrev pub silent : Form → Form
 silent (faulty line) = faulty line
 silent (asks ask quiet) = asks ask true
@@ -47,9 +47,9 @@ pub record EndsInNoreply (line : List ℕ) : Type 0 where
   pub front : List (List ℕ)
   -- the words are those before it, and noreply
   pub ends : words line ≡ front ++ codes "noreply" ∷ []
-  -- those before it say something that may be asked for without an answer
+  -- those before it say something that may be quiet, and is not
   pub loud : is_loud (form_of front) ≡ true
-  -- with it they say the same, without an answer
+  -- with it they say the same, quietly
   pub says : line_form line ≡ silent (form_of front)
 
 -- ---- commands

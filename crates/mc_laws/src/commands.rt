@@ -40,7 +40,7 @@ pub fn calls_are_at_their_keys()
     ensures within { (n : ℕ) (command : Command) → 1 ≤ n → All (IsOnShard n) (calls_of n command) }
 {}
 
-/// The keys that a command calls are those of its calls, in their order.
+/// The keys of a command are those of its calls, in their order.
 pub fn a_command_calls_its_keys()
     ensures value { (shards : ℕ) (command : Command)
         → filter_map key_of (asked_by (calls_of shards command)) ≡ keys_of command }
@@ -73,7 +73,7 @@ pub fn commands_are_due_in_order()
         → All (IsDueOn n) (due n c commands) }
 {}
 
-/// The calls of more entries come after those of the entries before them.
+/// The expected calls that entries show are in the order of the entries.
 pub fn entries_tell_what_was_due()
     ensures none { dues_of [] ≡ [] }
     ensures more { (entries : List Entry) (last : Entry)
@@ -134,7 +134,7 @@ pub fn worked_blocks()
         ≡ Command.Fault Errors.BadChunk true }
 {}
 
-/// Worked storage lines whose value is too large.
+/// Example storage lines whose value is too large.
 #[tactic(auto, unfolding(mc_meta::specs::Words::words, mc_parse::specs::Meaning::large_command))]
 pub fn worked_large_values()
     ensures set { large_command (codes "set b 0 0 1048577")
@@ -169,7 +169,7 @@ pub fn worked_calls()
     ensures none { calls_of 16 Command.Version ≡ [] }
 {}
 
-/// Worked shards of keys.
+/// Example keys, and their shards.
 pub fn worked_shards()
     ensures one { shards_of 1 get_of_two ≡ 0 ∷ 0 ∷ [] }
     ensures few { shards_of 16 get_of_two ≡ 12 ∷ 5 ∷ [] }

@@ -30,7 +30,8 @@ pub fn spaces_part_words()
     ensures only { (line : List ℕ) → list_all is_word (words line) ≡ true }
 {}
 
-/// A line without a fault to which the word noreply may be added means the same with it, but is quiet.
+/// A line without a fault to which the word noreply may be added means the same with that word, but
+/// is quiet.
 pub fn noreply_only_silences()
     ensures value { (line : List ℕ) → takes_noreply line ≡ true → OnlyFallsSilent line }
 {}
@@ -41,8 +42,8 @@ pub fn noreply_is_a_last_word()
     ensures value { (line : List ℕ) → is_quiet (line_form line) ≡ true → EndsInNoreply line }
 {}
 
-/// A line is checked in this order: its name, the number of words after it, the noreply that is
-/// required if their number is the largest allowed, its keys, its numbers.
+/// A line is checked in this order: its name; the number of words after it; noreply, which is
+/// required if their number is the largest allowed; its keys; its numbers.
 pub fn lines_are_checked_in_order()
     ensures empty { form_of [] ≡ faulty Errors.Unknown }
     ensures name { (name : List ℕ) (words : List (List ℕ)) → name_of name ≡ None

@@ -16,7 +16,7 @@ ghost use Rattle.mc_reply.specs.StatsText.{sum_in, stat_line};
 ghost use Rattle.mc_reply.specs.Text.{text};
 ghost use Rattle.mc_reply.specs.Texts.{texts_from, texts_of};
 
-/// Example answers: what the definition computes.
+/// Example answers, as the definition computes them.
 pub fn worked_answers()
     ensures stored { text (Command.Store Verbs.Set (codes "a") 0 (codes "x") false) (Replies.Stored ∷ [])
         ≡ codes "STORED\r\n" }
@@ -38,7 +38,7 @@ pub fn worked_answers()
         ≡ codes "SERVER_ERROR object too large for cache\r\n" }
 {}
 
-/// The line of each reply, worked, as the answer to a command that can get it.
+/// Example lines: each reply as the answer to a command that can get it.
 #[tactic(auto, unfolding(mc_reply::specs::Text::text))]
 pub fn worked_lines()
     ensures not_stored { text (Command.Store Verbs.Add (codes "a") 0 (codes "x") false)
@@ -61,7 +61,7 @@ pub fn worked_lines()
         ≡ codes "OK\r\n" }
 {}
 
-/// The line of each fault, worked.
+/// Example lines: each fault.
 #[tactic(auto, unfolding(mc_reply::specs::Text::text))]
 pub fn worked_faults()
     ensures unknown { text (Command.Fault Errors.Unknown false) [] ≡ codes "ERROR\r\n" }

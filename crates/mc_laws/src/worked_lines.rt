@@ -16,8 +16,8 @@ ghost use Rattle.mc_laws.specs.Worked.{nameless_lines, other_commands, short_lin
 ghost use Rattle.mc_laws.specs.Worked.{lines_without_noreply, bad_deletions, bad_amounts, bad_levels, bad_flags};
 ghost use Rattle.mc_laws.specs.Worked.{bad_exptimes, bad_lengths, bad_uniques, deletions_of_a, sets_of_a};
 
-/// Example lines of no command: an unknown name, too few or too many words, another word in the
-/// place of noreply.
+/// Example lines that are no command: an unknown name, too few or too many words, or another word
+/// in place of noreply.
 pub fn worked_lines_of_no_command()
     ensures nameless { AllSay (faulty Errors.Unknown) nameless_lines }
     ensures other { AllSay (faulty Errors.Unknown) other_commands }
@@ -48,7 +48,7 @@ pub fn worked_keys()
         ≡ faulty Errors.Unknown }
 {}
 
-/// Worked retrievals: a key is any word, and noreply is one.
+/// Example retrievals: a key may be any word, also noreply.
 pub fn worked_retrievals()
     ensures one { line_form (codes "get a") ≡ asks (gets (codes "a" ∷ []) false) false }
     ensures unique { line_form (codes "gets a") ≡ asks (gets (codes "a" ∷ []) true) false }
@@ -64,7 +64,7 @@ pub fn worked_retrievals()
         ≡ asks (gets ((codes "a" ++ 0 ∷ 9 ∷ 255 ∷ []) ∷ []) false) false }
 {}
 
-/// Worked deletions.
+/// Example deletions.
 pub fn worked_deletions()
     ensures loud { AllSay (asks (deletes (codes "a")) false) deletions_of_a }
     ensures quiet { AllSay (asks (deletes (codes "a")) true)
@@ -100,7 +100,7 @@ pub fn worked_lines_without_a_key()
     ensures quit { AllSay (asks quits false) (codes "quit" ∷ codes " quit " ∷ []) }
 {}
 
-/// Worked storage lines: the verbs.
+/// Example storage lines: the verbs.
 pub fn worked_verbs()
     ensures set { AllSay (asks (sets 0 1) false) sets_of_a }
     ensures add { line_form (codes "add a 7 0 1") ≡ asks (stores Verbs.Add (codes "a") 7 1) false }
@@ -114,7 +114,7 @@ pub fn worked_verbs()
         ≡ asks (exchanges (codes "a") 3 1 99) false }
 {}
 
-/// Worked storage lines: numbers at their limits, and noreply.
+/// Example storage lines: numbers at their limits, and noreply.
 pub fn worked_storage_lines()
     ensures flags { line_form (codes "set a 4294967295 0 1") ≡ asks (sets 4294967295 1) false }
     ensures padded { line_form (codes "set a 00000000000000000005 0 1") ≡ asks (sets 5 1) false }
@@ -146,7 +146,7 @@ pub fn worked_meta_lines()
     ensures bad { line_form (codes "ms a 2 ME c") ≡ faulty Errors.BadLine }
 {}
 
-/// Worked needs.
+/// Example lines, and what must come with them.
 pub fn worked_needs()
     ensures none { need (codes "get a") ≡ Need.Nothing }
     ensures faulty { need (codes "set a x 0 1") ≡ Need.Nothing }
