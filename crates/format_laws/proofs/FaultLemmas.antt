@@ -1,4 +1,5 @@
--- A text of fields is bad with a fault exactly if it has it, if the wrong fields of its format are known.
+-- For formats whose wrong fields are known, a text of fields is bad with a fault if and only if it has
+-- that fault.
 use Rattle.std.proofs.Common.{◌≡◌, inl, inr, ℕ, List, ◌∷◌, ◌++◌, length, sym, ◌∙◌, ap, subst, arith}
 use Rattle.std.specs.Prelude.{◌↔◌}
 use Rattle.std.specs.List.{concat}

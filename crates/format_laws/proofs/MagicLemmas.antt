@@ -1,4 +1,4 @@
--- A byte of a magic is wrong exactly where it continues no magic.
+-- A byte of a magic is wrong if and only if it continues no magic.
 use Rattle.zy_read.proofs.MagicFieldLemmas.{digit_next, part_over}
 use Rattle.std.proofs.Common.{◌≡◌, inl, inr, ℕ, zero, suc, ◌+◌, ◌<◌, ◌≤◌, true, false, List, [], ◌∷◌, ◌++◌, length}
 use Rattle.std.proofs.Common.{take, drop, get_or, refl, sym, ◌∙◌, ap, subst, arith, append_assoc, length-append}

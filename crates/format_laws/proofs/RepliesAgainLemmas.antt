@@ -1,4 +1,4 @@
--- What is written of outputs is the spelling of their sessions, which are in order.
+-- What is written of outputs is the encoding of their sessions, which are in order.
 use Rattle.std.proofs.Common.{◌≡◌, ◌⊎◌, inl, inr, ℕ, ◌+◌, ◌<◌, ◌≤◌, ◌^◌, List, [], ◌∷◌, ◌++◌, length, refl, sym, ◌∙◌}
 use Rattle.std.proofs.Common.{ap, arith}
 use Rattle.std.specs.Prelude.{flat_map}

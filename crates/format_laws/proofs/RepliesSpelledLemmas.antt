@@ -1,4 +1,5 @@
--- A spelling of outputs that is not too long is the fields of a replies file, so it is read as what it spells.
+-- An encoding of outputs that is not too long is the fields of a replies file, so it is read as what it
+-- encodes.
 use Rattle.zy_capture.proofs.RepliesSpelledLemmas.{in_state, part_state, after_state, reads_magic, due}
 use Rattle.std.proofs.Common.{◌≡◌, inl, inr, ℕ, ◌+◌, ◌-◌, ◌<◌, ◌≤◌, ◌^◌, true, false, List, [], ◌∷◌, ◌++◌, length}
 use Rattle.std.proofs.Common.{refl, sym, ◌∙◌, ap, subst, arith, append_assoc, length-append}

@@ -1,6 +1,6 @@
--- The faults of a capture, docs/FORMATS.md, "Capture": what a text is that has one of them. Each comes after bytes that
--- encode the beginning of a capture, if the first wrong byte or number follows. That the verdict on a text is bad
--- with a fault if and only if the text has it is a law in src/captures.rt.
+-- The faults of a capture, docs/FORMATS.md, "Capture": which texts have one of them. Each is the first wrong byte or
+-- number, after bytes that encode the beginning of a capture. That the verdict on a text is bad with a fault if and
+-- only if the text has it is a law in src/captures.rt.
 use Rattle.zy_capture.specs.Capture.{front_text, letters, capture_magic, spelling, IsCapture, Spells, capture_limit}
 use Rattle.zy_capture.specs.Capture.{connection_limit, segment_limit}
 use Rattle.std.specs.Prelude.{◌≡◌, ◌⊎◌, ℕ, ◌+◌, ◌^◌, ◌<◌, ◌≤◌, List, ◌∷◌, ◌++◌, length}

@@ -8,10 +8,10 @@ use Rattle.zy_pcap.specs.Session.{byte_of, byte_at, longest}
 abbrev pub stream_of_packets : Packet → List Packet → List ℕ
 stream_of_packets first packets = longest (byte_at first packets)
 
--- where the packet has a byte, one of the others has one, of whatever value
+-- at each offset at which the packet has a byte, one of the others has one, with any value
 abbrev pub IsCovered : Packet → List Packet → Packet → Type 0
 IsCovered first packets packet = (at : ℕ) → IsSome (byte_of first packet at) → IsSome (byte_at first packets at)
 
--- where both packets have a byte, it is the same
+-- at each offset at which both packets have a byte, it is the same
 abbrev pub Agree : Packet → Packet → Packet → Type 0
 Agree first one other = (at a b : ℕ) → byte_of first one at ≡ Some a → byte_of first other at ≡ Some b → a ≡ b

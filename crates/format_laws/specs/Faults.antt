@@ -1,5 +1,5 @@
--- The faults of a text, by which texts are files and what is wrong in others. A text without anything wrong that is no
--- file is cut, or too long.
+-- The faults of a text, in terms of which texts are files and what is wrong in others. A text without anything wrong
+-- that is no file is cut, or too long.
 use Rattle.std.specs.Prelude.{◌≡◌, ◌⊎◌, ℕ, ◌≤◌, List, ◌∷◌, ◌++◌, length}
 use Rattle.zy_base.specs.declared.file_fault.FileFault.{FileFault}
 use Rattle.zy_base.specs.declared.file_fault.FileFault.TheVariants.{Form}

@@ -1,6 +1,6 @@
--- The faults of a journal, docs/FORMATS.md, "Journal": what a text is that has one of them. Each comes after bytes that
--- encode the beginning of a journal, if the first field follows that is invalid there. That the verdict on a text
--- is bad with a fault if and only if the text has it is a law in src/journals.rt.
+-- The faults of a journal, docs/FORMATS.md, "Journal": which texts have one of them. Each is the first invalid field,
+-- after bytes that encode the beginning of a journal. That the verdict on a text is bad with a fault if and only if the
+-- text has it is a law in src/journals.rt.
 use Rattle.zy_journal_reader.specs.Verdict.{journal_front, IsReadable, SpellsJournal}
 use Rattle.std.specs.Prelude.{◌≡◌, ◌⊎◌, ℕ, ◌+◌, ◌^◌, ◌<◌, ◌≤◌, List, [], ◌∷◌, ◌++◌, length}
 use Rattle.std.specs.Int.{to_be_bytes, w32}

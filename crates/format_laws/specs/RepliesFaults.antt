@@ -1,6 +1,6 @@
--- The faults of a replies file, docs/FORMATS.md, "Replies": what a text is that has one of them. Each comes after bytes
--- that encode the beginning of a replies file, if the first wrong byte or number follows. That the verdict on a text
--- is bad with a fault if and only if the text has it is a law in src/replies.rt.
+-- The faults of a replies file, docs/FORMATS.md, "Replies": which texts have one of them. Each is the first wrong byte
+-- or number, after bytes that encode the beginning of a replies file. That the verdict on a text is bad with a fault if
+-- and only if the text has it is a law in src/replies.rt.
 use Rattle.zy_capture.specs.Replies.{front_text, connections_after, sessions_after, letters, spelling, IsNextSession}
 use Rattle.zy_capture.specs.Replies.{IsRepliesFile, SpellsReplies, replies_limit}
 use Rattle.std.specs.Prelude.{◌≡◌, ◌⊎◌, ℕ, ◌+◌, ◌^◌, ◌<◌, ◌≤◌, List, ◌∷◌, ◌++◌, length}
@@ -21,7 +21,7 @@ pub record RepliesGoOn (text : List ℕ) (version : ℕ) (items : List SessionBy
   pub whole : text ≡ front_text version items ++ tail
   pub place : at ≡ length (front_text version items)
 
--- ---- lawful numbers
+-- ---- counts
 
 -- after these records one of this connection is valid: it is the next connection or, in version 2,
 -- the last one again

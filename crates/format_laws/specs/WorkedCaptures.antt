@@ -40,8 +40,8 @@ sessions =
 abbrev pub sessions_text : List ℕ
 sessions_text = codes "ZYGCAP2\n\0\0\0\u{2}S\0\0\0\0\0\0\0\u{2}abC\0\0\0\0C\0\0\0\u{1}S\0\0\0\0\0\0\0\u{1}cE"
 
--- the fault that a text meets after the first `at` bytes of a capture of version 2 with one
--- connection, if a record is expected
+-- the fault that is met in a text after the first `at` bytes of a capture of version 2 with one
+-- connection, when a record is expected
 abbrev pub met_behind : ℕ → List ℕ → Option CaptureFault
 met_behind at text =
     (read_on (step fields) (at_state (state Dues.Tag 2 1) at) text).last.fault
@@ -66,7 +66,7 @@ session_outputs_text =
     codes "ZYGREP2\nR\0\0\0\0\0\0\0\0\0\0\0\0\0\0\0\u{2}ok"
     ++ codes "R\0\0\0\0\0\0\0\u{1}\0\0\0\0\0\0\0\0R\0\0\0\u{1}\0\0\0\0\0\0\0\0\0\0\0\u{1}xE"
 
--- the fault that a text meets after the first `at` bytes of a replies file of version 1, if a
+-- the fault that is met in a text after the first `at` bytes of a replies file of version 1, when a
 -- record is expected
 abbrev pub met_behind_replies : ℕ → List ℕ → Option FileFault
 met_behind_replies at text =

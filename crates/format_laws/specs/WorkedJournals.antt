@@ -1,4 +1,4 @@
--- Worked beginnings of journals, and texts that are near their most bytes.
+-- Beginnings of example journals, and texts that are near their most bytes.
 use Rattle.std.specs.Prelude.{ℕ, List, ◌++◌, codes, Option}
 use Rattle.zy_base.specs.declared.file_fault.FileFault.{FileFault}
 use Rattle.zy_journal_reader.specs.declared.due.Due.TheVariants as Dues
@@ -24,7 +24,8 @@ behind_entry text =
 abbrev pub behind_hold : List ℕ → List ℕ
 behind_hold text = with_magic (codes "H\0\0\0\u{1}\0\0\0\0\0\0\0\u{1}" ++ text)
 
--- the fault that a text meets after the first `at` bytes of a journal, if a record is expected
+-- the fault that is met in a text after the first `at` bytes of a journal, when a record is
+-- expected
 abbrev pub met_in_journal : ℕ → List ℕ → Option FileFault
 met_in_journal at text =
     (journal_read_from (at_state (record journal_start { due = Dues.Byte Fields.Tag }) at) text).last.fault

@@ -60,7 +60,7 @@ pub fn the_first_fault_of_a_capture_counts()
 {}
 
 /// Two readers to which the same bytes were fed gave the same records, and are in the same state.
-/// So it does not matter when memory was refused, or what was asked of them between the bytes.
+/// So it does not matter when an allocation failed, or what they were asked between the bytes.
 pub fn what_is_given_depends_on_the_bytes_alone()
     ensures given { (p q : CaptureProgress) (given others : List Record) (b : List ℕ)
         → StandsForRecords p given b → StandsForRecords q others b → given ≡ others }
@@ -88,7 +88,7 @@ pub fn each_session_holds_its_stream()
         ≡ stream conn session items }
 {}
 
-/// A record after others is added to the streams of these.
+/// One more record is added to the streams of the records before it.
 pub fn a_further_record_is_added_last()
     ensures value { (connections : List (List (List ℕ))) (items : List Record) (item : Record)
         → with_records connections (items ++ item ∷ [])

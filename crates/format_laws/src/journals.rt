@@ -66,7 +66,7 @@ pub fn the_first_fault_of_a_journal_counts()
 {}
 
 /// Two readers of journals to which the same bytes were fed gave the same answers, and are in the
-/// same state. So it does not matter when memory was refused.
+/// same state. So it does not matter when an allocation failed.
 pub fn what_is_read_depends_on_the_bytes_alone()
     ensures given { (p q : JournalProgress) (given others : List ⊤) (b : List ℕ)
         → StandsForJournal p given b → StandsForJournal q others b → given ≡ others }
@@ -125,7 +125,7 @@ pub fn worked_entries()
     ensures cut { journal_verdict (with_call (codes "\u{1}úa")) ≡ Bad (Truncated 40) }
 {}
 
-/// Example journals with a code of no kind of calls or replies: 0, and the first one after the last kind.
+/// Example journals with a code that no kind of call or reply has: 0, and the one after the last.
 #[tactic(auto, unfolding(zy_read::specs::Format::verdict_on, zy_read::specs::Format::reading_of, zy_read::specs::Format::read_on))]
 pub fn worked_codes()
     ensures no_call { journal_verdict (with_call (0 ∷ [])) ≡ Bad (Form 37) }

@@ -19,7 +19,8 @@ pub fn the_worked_file_makes_its_capture()
     ensures capture { pcap_capture worked_packets ≡ worked_capture }
 {}
 
-/// No byte is a file that ended within its header, and the magic of another format is a fault.
+/// The empty text is a file that ended within its header, and the magic of another format is a
+/// fault.
 pub fn the_worked_faults_are_told()
     ensures empty { packets 1766 [] ≡ Bad (Faults.PcapTruncated 0) }
     ensures other { packets 1766 (10 ∷ 13 ∷ 13 ∷ 10 ∷ []) ≡ Bad (Faults.Magic 0) }
