@@ -1,4 +1,4 @@
--- A stream has one cut, and quit is met where its rest begins with a quit line.
+-- A stream has one cut, and quit is met if its rest begins with a quit line.
 use Rattle.zy_frame.proofs.CutLaws.{cut_of-front, frames_of_splits, frames_of_nil}
 use Rattle.std.proofs.Common.{◌≡◌, ℕ, ◌≤◌, true, false, List, [], ◌∷◌, ◌++◌, length, refl, sym, ap, ◌∙◌, append_assoc}
 use Rattle.std.specs.Prelude.{Option, None, Some, nat_lt, if◌then◌else◌, Bool, is_none, ◌↔◌}

@@ -1,4 +1,4 @@
--- Where what is given for a capture's records is right, the journal and the outputs are of a run.
+-- If the files for a capture's records are right, the journal and the outputs are those of a run.
 use Rattle.std.specs.List.{AllByRecursion}
 use Rattle.std.proofs.Common.{◌≡◌, ℕ, zero, suc, ◌<◌, ◌≤◌, List, [], ◌∷◌, length, ap, ◌∙◌, subst, arith}
 use Rattle.std.proofs.lemmas.List.FromFn.{fill_by_all}

@@ -1,4 +1,4 @@
--- The connections of the worked capture are apart, and the worked run is one of its runs.
+-- The connections of the example capture are apart, and the example run is one of its runs.
 use Rattle.std.proofs.Common.{◌≡◌, ℕ, zero, suc, ◌<◌, List, [], ◌∷◌, codes, get_or, Option, Some, refl, sym, ap, ◌∙◌}
 use Rattle.std.proofs.Common.{subst, arith}
 use Rattle.std.specs.Prelude.{All}

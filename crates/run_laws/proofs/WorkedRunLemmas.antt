@@ -1,4 +1,4 @@
--- The worked run is a run.
+-- The example run is a run.
 use Rattle.std.proofs.Common.{◌≡◌, ℕ, List, codes, Option, None, Some, refl, sym, ap, subst, arith}
 use Rattle.std.specs.FinMap.{get, insert, get-empty, get-insert}
 use Rattle.std.specs.Ordering.{nat_cmp}

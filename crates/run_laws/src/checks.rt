@@ -21,7 +21,7 @@ ghost use Rattle.zy_check.specs.Given.{Given};
 ghost use Rattle.zy_check.specs.Cause.{HasVerdict};
 ghost use Rattle.zy_check.specs.OfRun.{IsGivenByRun, AreOfRun, given_by_records};
 
-/// On whatever is given there is one verdict.
+/// There is one verdict on any files.
 pub fn there_is_one_verdict()
     ensures some { (g : Given) → (v : Verdict) × HasVerdict g v }
     ensures same { (g : Given) (a b : Verdict) → HasVerdict g a → HasVerdict g b → a ≡ b }
@@ -29,13 +29,13 @@ pub fn there_is_one_verdict()
 
 // ---- runs
 
-/// If what is given is a run's, the verdict is yes, and no other is.
+/// If the files are those of a run, the only verdict is yes.
 pub fn a_run_is_right()
     ensures right { (g : Given) → IsGivenByRun g → HasVerdict g Yes }
     ensures only { (g : Given) (v : Verdict) → IsGivenByRun g → HasVerdict g v → v ≡ Yes }
 {}
 
-/// If the verdict is yes, what is given is a run's; for holds this is stated if they are in the
+/// If the verdict is yes, the files are those of a run; this includes the holds if they are in the
 /// order of connections and each counts a command.
 pub fn yes_means_a_run()
     ensures run { (g : Given) → 1 ≤ g.shards → HasVerdict g Yes
@@ -48,7 +48,7 @@ pub fn yes_means_a_run()
         → Spans g.holds (length g.streams) (commands_held g.streams) }
 {}
 
-/// Where the verdict on a journal and outputs that have an encoding and a capture's streams is yes,
+/// If the verdict on a journal and outputs that have an encoding and a capture's streams is yes,
 /// they are those of a run of the capture's records, in the order of their stamps.
 pub fn what_checks_is_of_a_run()
     ensures run { (shards count : ℕ) (records : List Record) (journal : Journal)

@@ -93,7 +93,7 @@ pub fn commands_of_a_prefix_come_first()
         → (later : List Command) × (commands_of (stream ++ more) ≡ commands_of stream ++ later) }
 {}
 
-/// However a stream is cut into pieces, what all of them give together are its frames.
+/// However a stream is cut into pieces, all of them together give its frames.
 #[tactic(auto, using(crate::proofs::CutLemmas::given_by_all))]
 pub fn pieces_give_the_frames_of_the_stream()
     ensures law { (pieces : List Fed) → GivesEach [] pieces
@@ -107,7 +107,7 @@ pub fn frame_texts_are_of_three_kinds()
         → IsFrameText text ↔ (IsLongText text ⊎ IsLineText text ⊎ IsBlockText text) }
 {}
 
-/// The frame of each kind of frame text.
+/// Each kind of frame text has this frame.
 pub fn each_kind_of_frame_text_has_its_frame()
     ensures long { (text : List ℕ) (t : IsLongText text) → frame_of text ≡ Kinds.Long }
     ensures line { (text : List ℕ) (t : IsLineText text)
@@ -138,7 +138,7 @@ pub fn worked_frames()
     ensures vast { frames_of (codes "set k 0 0 4294967295\r\nget a\r\n") ≡ [] }
 {}
 
-/// Worked quit lines.
+/// Example quit lines.
 #[tactic(auto, unfolding(zy_frame::specs::Cut::cut_of, zy_frame::specs::Cut::meets_quit, mc_parse::specs::Words::words, mc_parse::specs::Need::need))]
 pub fn worked_quit_lines()
     ensures met { meets_quit (codes "get a\r\n quit \r\nget b\r\n") ≡ true }

@@ -18,7 +18,7 @@ ghost use Rattle.run_laws.specs.Alone.{alone};
 ghost use Rattle.zy_run.specs.Summary.{summary, summary_of_run};
 ghost use Rattle.run_laws.specs.WorkedApart.{apart_records, apart_entries, apart_summary};
 
-/// An example run: the definitions compute what is stated of it.
+/// An example run, as the definitions compute it.
 pub fn the_worked_run_is_one()
     ensures run { IsRun 16 worked_entries 2 (commands_in worked_records) }
     ensures order { IsOrdered None worked_entries }
@@ -62,8 +62,8 @@ pub fn runs_apart_have_the_same_outputs()
         → all_outputs count streams es ≡ all_outputs count streams fs }
 {}
 
-/// In that case the outputs of a connection are those that it has when it alone makes its calls, on
-/// any number of shards.
+/// In that case the outputs of a connection are those that it gets if only it makes calls, on any
+/// number of shards.
 pub fn a_connection_is_answered_as_if_alone()
     ensures value { (shards others count conn : ℕ) (streams : ℕ → List (List ℕ)) (es : List Entry)
         → 1 ≤ others → conn < count → AreApart count (commands_of_all streams)
