@@ -14,15 +14,15 @@ use Rattle.zy_table.specs.declared.name.Name.{Name}
 
 -- ---- the outputs of sessions
 
--- the texts of each of these sessions, if the first command has this index, from the replies of
--- these entries
+-- the texts of each of these sessions, from the replies of these entries; the first command has
+-- this index
 abbrev pub outputs_from : ℕ → List (List ℕ) → List Entry → List (List (List ℕ))
 outputs_from index [] entries = []
 outputs_from index (stream ∷ streams) entries =
     texts_from index (commands_of stream) entries
     ∷ outputs_from (index + length (commands_of stream)) streams entries
 
--- texts cut at these places, which are counted as the first text has this one
+-- texts cut at these places, counted so that the first text has the place `first`
 abbrev pub cut_at : ℕ → List ℕ → List (List ℕ) → List (List (List ℕ))
 cut_at first [] texts = texts ∷ []
 cut_at first (end ∷ ends) texts = take (end - first) texts ∷ cut_at end ends (drop (end - first) texts)
@@ -42,7 +42,7 @@ pub record IsHandedOut (label : Name) (received : ℕ → Sessions) (block : Blo
   pub finished : KeepsCommands block.work
       → ConnEnd block.work.table.slots block.work.calls (received end.output.conn) end.output end.ends
 
--- the same of each connection of a home, by rising number
+-- the same holds of each connection of a home, by rising number
 abbrev pub AreFinished : Name → (ℕ → Sessions) → List Blocked → List EndedOutput → Type 0
 AreFinished label received [] [] = Unit {0}
 AreFinished label received (block ∷ blocks) (end ∷ ends) =

@@ -17,7 +17,8 @@ use Rattle.zy_shuffle.specs.Step.{splitting, newcomer, taken_in}
 use mathlib.Core.Option.{some}
 use lib.ListN.{get_elem?}
 
--- the connection is with this core as before, as many requests of it are finished, and no fewer arrived
+-- the connection is with this core as before, the same number of its requests is finished, and no fewer
+-- have arrived
 pub record StaysHeld (core c : ℕ) (s t : Owners) : Type 0 where
   pub place : t.places c ≡ held core
   pub finished : t.finished c ≡ s.finished c
@@ -71,7 +72,7 @@ module _ {T M : Type 0} {mark : T → M} {label : T → Name} where
   abbrev pub GrowsByAll : List Event → Ruled mark label → Ruled mark label → Type 0
   GrowsByAll acts s t = run_of t ≡ acts ++ run_of s
 
-  -- the same of one event
+  -- the run grew by this event, and by nothing else
   abbrev pub GrowsBy : Event → Ruled mark label → Ruled mark label → Type 0
   GrowsBy e s t = GrowsByAll (e ∷ []) s t
 
@@ -83,7 +84,7 @@ module _ {T M : Type 0} {mark : T → M} {label : T → Name} where
   abbrev pub LeadsBy : Event → Ruled mark label → Ruled mark label → Type 0
   LeadsBy e s t = happens 0 (owners_of s) e (owners_of t)
 
-  -- the home published the place, which was so before
+  -- the home published the place, whose state was this before
   abbrev pub IsPublication : Before → ℕ → Ruled mark label → Ruled mark label → Type 0
   IsPublication before place s t = (v w : View T) × IsStep 0 v w (views_of s) (views_of t) × IsHome v.role
       × MakesAll (λ _. publication before place (marked mark place v.kept)) v.trace w.trace
@@ -120,8 +121,8 @@ module _ {T M : Type 0} {mark : T → M} {label : T → Name} where
   IsJoined id s t = (v w : View T) × HasView (views_of s) 0 v × IsActive v.role × HasView (views_of s) id w
       × (id ≡ 0 → ⊥) × (views_of t ≡ slice_set (slice_set (views_of s) 0 (taken_in v w)) id spent)
 
-  -- if by the run that seat `id` knows it holds the connection, then it holds it, with as many
-  -- finished requests, and no fewer arrived
+  -- if seat `id` holds the connection by the run that it knows, then it still holds it, with the
+  -- same number of finished requests, and no fewer have arrived
   abbrev pub KnowsHeld : ℕ → ℕ → Ruled mark label → Type 0
   KnowsHeld id c s = (v : View T) → HasView (views_of s) id v → IsActive v.role
       → (u : Owners) × Runs 0 no_requests v.trace.run u × (u.places c ≡ held id → StaysHeld id c u (owners_of s))

@@ -1,4 +1,4 @@
--- Batches of texts that are executed one after another.
+-- Batches of texts, one after another.
 use Rattle.zy_calls.specs.Output.{Output, with_batch}
 use Rattle.std.specs.Prelude.{ℕ, List, [], ◌∷◌, ◌++◌}
 use Rattle.zy_calls.specs.Batch.{Batch}

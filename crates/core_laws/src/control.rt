@@ -29,7 +29,7 @@ pub fn the_bit_of_a_core_is_set_exactly_where_it_has_announced_itself()
         → (bit_at (slice_index s.words 2) number ≡ 1) ↔ (announced ≡ true) }
 {}
 
-/// No bit of sleepers is 1 but those of cores that have announced themselves.
+/// Only bits of sleepers of cores that have announced themselves are 1.
 pub fn each_bit_that_is_set_is_of_a_core_that_has_announced_itself()
     ensures value { (cores : ℕ) (s : State ℕ View) (number : ℕ)
         → ControlRule cores s → bit_at (slice_index s.words 2) number ≡ 1

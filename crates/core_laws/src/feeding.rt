@@ -7,7 +7,7 @@ ghost use Rattle.zy_feed.specs.Feeding.{Feeding, AreUnsent, LeadsTo};
 
 use zy_base::Source;
 
-/// However far it is, the count of faults has not fallen since the first read.
+/// However far a feeder is, the count of faults has not fallen since the first read.
 pub fn a_feeder_counts_on<S: Source>()
     ensures count { (first : S) (header : Header) (f g : Feeding S)
         → HasBegun S.rest S.faults first f.source f.intake header → AreUnsent f.sents

@@ -54,17 +54,17 @@ pub fn a_settled_home_is_finished()
         → AreFinished h.pass.label (λ conn. received_by conn items) (blocks_in h.blocks) (map ended_of h.links) }
 {}
 
-/// A connection whose block is in the hand of a home that was not refused memory has finished what
-/// it received. So the block of a connection with a command that is not finished is away.
+/// If no allocation failed in a home, a connection whose block is in the home's hand has finished
+/// what it received. So the block of a connection with an unfinished command is away.
 pub fn a_connection_in_the_hand_is_finished()
     ensures value { (h : Homed) (p : ℕ) (b : Blocked) (l : Link) (items : List Rx) → IsSoundHome h
         → h.refused ≡ false → HomeStands h items → IsInHand h p b l → KeepsCommands b.work
         → ConnEnd b.work.table.slots b.work.calls (received_by (conn_of l) items) l.output l.ends }
 {}
 
-/// A connection that was idle and gets a frame arrives. A block in the hand of a home that was not
-/// refused memory is idle. If an item came for its connection, and the block is away after it, the
-/// home's pass made the events by which an idle connection is published.
+/// An idle connection that gets a frame arrives. If no allocation failed in a home, a block in its
+/// hand is idle. If an item then came for the block's connection, and the block is away after it,
+/// the home's pass made the events by which an idle connection is published.
 pub fn an_idle_connection_that_gets_a_frame_arrives()
     ensures idle { (h : Homed) (p : ℕ) (b : Blocked) (l : Link) → IsSoundHome h → h.refused ≡ false → IsInHand h p b l
         → IsIdleWith b.work l }

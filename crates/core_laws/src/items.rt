@@ -5,7 +5,7 @@ ghost use Rattle.zy_rx.specs.declared.rx.Rx.{Rx};
 ghost use Rattle.zy_rx.specs.Session.{received_by};
 ghost use Rattle.zy_feed.specs.Routing.{offered_item, is_for, items_for, offered_to};
 
-/// The item of another record is offered last, and only to the home of its connection.
+/// The item of one more record is offered last, and only to the home of its connection.
 pub fn items_are_offered_one_by_one()
     ensures none { (cores core : ℕ) → items_for cores core [] ≡ [] }
     ensures here { (cores core : ℕ) (records : List Record) (last : Record)

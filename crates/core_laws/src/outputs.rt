@@ -6,7 +6,7 @@ ghost use Rattle.zy_calls.specs.Output.{Output, nothing_sent, with_batch, bytes_
 ghost use Rattle.core_laws.specs.Sent.{with_batches, texts_sent};
 ghost use Rattle.core_laws.specs.WorkedOutput.{worked};
 
-/// The texts of an output are those of all batches that were executed, in order; and its bytes
+/// The texts of an output are those of all its batches, in order; and its bytes
 /// are the bytes of these texts.
 pub fn texts_are_sent_in_order()
     ensures texts { (output : Output) (batches : List Batch)
@@ -15,13 +15,13 @@ pub fn texts_are_sent_in_order()
         → concat (with_batches (nothing_sent conn) batches).texts ≡ concat (texts_sent batches) }
 {}
 
-/// The first texts of an output stay the same when a batch is executed.
+/// The first texts of an output stay the same when a batch is added.
 pub fn first_texts_stay()
     ensures stays { (output : Output) (batch : Batch) (count : ℕ) → count ≤ length output.texts
         → bytes_upto (with_batch output batch) count ≡ bytes_upto output count }
 {}
 
-/// An example output: what the definitions compute from the texts of three holds.
+/// An example output, as the definitions compute it from the texts of three holds.
 pub fn the_worked_output_has_its_bytes()
     ensures conn { worked.conn ≡ 7 }
     ensures finished { worked.finished ≡ 5 }

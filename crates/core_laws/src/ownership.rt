@@ -82,14 +82,14 @@ pub fn a_step_without_an_event_leaves_the_machine<T: Marked>()
     ensures state { (s t : Ruled T.mark T.label) (id : ℕ) → IsNoEvent id s t → owners_of t ≡ owners_of s }
 {}
 
-/// A step in which a seat made an event is this event: the run grows by it alone, and it leads from
+/// A step in which a seat made an event is this event: the run grows only by it, and it leads from
 /// the state that the table showed to the one that it shows.
 pub fn a_step_with_an_event_is_that_event<T: Marked>()
     ensures run { (s t : Ruled T.mark T.label) (id : ℕ) (e : ℕ → Event) → IsEvent id e s t → GrowsBy (e id) s t }
     ensures state { (s t : Ruled T.mark T.label) (id : ℕ) (e : ℕ → Event) → IsEvent id e s t → LeadsBy (e id) s t }
 {}
 
-/// A step in which a seat made several events is these events: the run grows by them alone, in their
+/// A step in which a seat made several events is these events: the run grows only by them, in their
 /// order, and they lead from the state that the table showed to the one that it shows.
 pub fn a_step_with_events_is_these_events<T: Marked>()
     ensures run { (s t : Ruled T.mark T.label) (id : ℕ) (acts : ℕ → List Event) → AreEvents id acts s t
@@ -127,8 +127,8 @@ pub fn giving_or_joining_a_pass_is_no_event<T: Marked>()
     ensures joined { (s t : Ruled T.mark T.label) (id : ℕ) → IsJoined id s t → run_of t ≡ run_of s }
 {}
 
-/// What a pass knows of a connection that it holds, by the run that it knows, is still so: it holds
-/// it, the same number of its requests is finished, and no fewer have arrived.
+/// What a pass knows of a connection that it holds, by the run that it knows, still holds: the pass
+/// holds it, the same number of its requests is finished, and no fewer have arrived.
 pub fn what_a_pass_knows_of_its_hand_stays<T: Marked>()
     ensures value { (s : Ruled T.mark T.label) (id c : ℕ) → KnowsHeld id c s }
 {}

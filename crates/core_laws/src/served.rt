@@ -59,7 +59,7 @@ pub fn outputs_are_cut_at_the_ends()
 
 // ---- the run
 
-/// Where all connections are served and the histories of the store are merged, the merged list is
+/// If all connections are served and the histories of the store are merged, the merged list is
 /// one run of the capture's commands, in order; it has each connection's calls; the holds span the
 /// commands, and what was sent is the outputs of the run.
 pub fn what_is_served_is_a_run()

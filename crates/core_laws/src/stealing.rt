@@ -12,7 +12,7 @@ pub fn a_stolen_block_has_the_label<T: Marked>()
         → TakesFrom T.mark T.label p q core place block → T.label block ≡ label }
 {}
 
-/// Once a stolen block was given back, the hands of the passes are as before: empty.
+/// After a stolen block was given back, the hands of the passes are as before: empty.
 pub fn a_block_given_back_leaves_the_hands<T: Marked>()
     ensures value { (label : Name) (p q r : PassList T) (core place : ℕ) (block given : T) → q.core ≡ p.core
         → AreIdle label (seats_of p.items) → TakesFrom T.mark T.label p q core place block
