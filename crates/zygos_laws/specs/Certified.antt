@@ -1,4 +1,4 @@
--- What a check says of files: those of a served run, and those that the verdict is yes on.
+-- What a check says of files: of those of a served run, and of those on which the verdict is yes.
 use Rattle.std.specs.Prelude.{◌≡◌, ℕ, List, ◌++◌}
 use Rattle.zy_capture.specs.declared.record.Record.{Record}
 use Rattle.zy_capture.specs.Capture.{Spells}
@@ -32,8 +32,8 @@ pub record IsInputOfRun (shards : ℕ) (bytes : List ℕ) : Type 0 where
   pub of_replies : SpellsReplies replies_text outputs.version (items_of outputs)
   pub run : AreOfRun shards count records journal outputs
 
--- what was requested was written of a served run, and the verdict on the capture with the run's journal and replies
--- after it is yes
+-- the requested output was written of a served run, and the verdict on the capture with the run's journal and
+-- replies after it is yes
 pub record IsCertified (asked : Run) (out : Out) (bytes : List ℕ) (journal : Journal) (sink : Side) : Type 0 where
   pub outputs : AllOutputs
   pub wrote : WasWritten sink (written out journal outputs)

@@ -23,7 +23,7 @@ ghost use Rattle.zygos_run.specs.declared.answer.Answer.TheVariants as Answers;
 ghost use Rattle.zygos_run.specs.Served.{HeadlineHolds};
 ghost use Rattle.zygos_laws.specs.Certified.{IsInputOfRun, IsCertified};
 
-/// The headline says of a run that was requested, and of no other command, that it was served of all bytes
+/// The headline says of a requested run, and of no other command, that it was served from all bytes
 /// that the source reported, and that all of it was written.
 pub fn the_headline_is_of_a_run()
     ensures run { (request : Option Request) (call : Seen) (journal : Journal)
@@ -55,7 +55,7 @@ pub fn what_is_served_checks()
         → IsCertified asked out bytes journal call.sink }
 {}
 
-/// On an input there is one verdict, if it has parts.
+/// An input has one verdict, if it has parts.
 pub fn an_input_has_one_verdict()
     ensures some { (shards : ℕ) (bytes : List ℕ) (streams : List (List (List ℕ)))
         (journal : Journal) (outputs : AllOutputs) → IsMadeOfParts bytes streams journal outputs
