@@ -24,7 +24,7 @@ fn a_history_is_added(rt: HostRuntime) {
     assert!(rt; adds(rt.alloc()));
 }
 
-// The outputs that a replies file gives, byte by byte, if none of its bytes is refused.
+// Returns the outputs that a replies file gives, byte by byte, if it has no fault.
 fn outputs_given(reader: &mut RepliesReader, text: &[u8]) -> Option<u32> {
     let mut given = 0u32;
     for byte in text {
@@ -51,7 +51,7 @@ fn a_replies_file_is_read_byte_by_byte(rt: HostRuntime) {
     assert!(rt; given == Some(2) && is_done);
 }
 
-// Whether none of these bytes is refused.
+// Checks whether the reader takes all of these bytes.
 fn takes(reader: &mut JournalReader, text: &[u8]) -> bool {
     for byte in text {
         if reader.feed(*byte).is_err() {

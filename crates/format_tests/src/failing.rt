@@ -4,7 +4,7 @@ ghost use Rattle.std.specs.Prelude.{◌≤◌};
 use std::alloc::Global;
 use zy_base::{Blob, CallNumbers, MemSink, MemSource, NoMemory};
 
-// The number of one call.
+// Returns the number of one call.
 fn only(alloc: Global, number: u64) -> Result<CallNumbers, NoMemory> {
     let mut numbers = CallNumbers::new(alloc);
     match numbers.push(number) {
@@ -17,7 +17,8 @@ fn only(alloc: Global, number: u64) -> Result<CallNumbers, NoMemory> {
     }
 }
 
-/// A source of these bytes that gives at most `most` bytes a read, and whose read of this number fails.
+/// Makes a source of these bytes that gives at most `most` bytes a read, and whose read of this
+/// number fails.
 pub fn source_of(
     alloc: Global,
     bytes: &[u8],
@@ -36,7 +37,7 @@ pub fn source_of(
     }
 }
 
-/// A sink that takes at most `most` bytes a call, and whose call of this number fails.
+/// Makes a sink that takes at most `most` bytes a call, and whose call of this number fails.
 pub fn sink_of(alloc: Global, most: usize, number: u64) -> Result<MemSink, NoMemory>
     requires some { 1 ≤ most }
 {

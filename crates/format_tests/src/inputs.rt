@@ -1,4 +1,4 @@
-//! The input of a check, from sources one read of which fails.
+//! The input of a check, from sources of which one read fails.
 use crate::failing::source_of;
 use std::alloc::Global;
 use zy_base::NoMemory;
@@ -7,7 +7,7 @@ use zy_input::{Stop, read_parts, read_streams};
 // A capture of one segment, a journal without records, and a replies file: 42 bytes.
 const INPUT: &[u8] = b"ZYGCAP1\n\0\0\0\x01S\0\0\0\0\0\0\0\x02geEZYGJRN1\nEZYGREP1\nE";
 
-// The reason why an input is read no further.
+// Returns why an input is read no further.
 fn stop_of<T: Drop>(read: Result<T, Stop>) -> Option<Stop> {
     match read {
         Ok(value) => {
@@ -18,7 +18,7 @@ fn stop_of<T: Drop>(read: Result<T, Stop>) -> Option<Stop> {
     }
 }
 
-// Ten bytes a read, and the read of this number fails.
+// Reads the input of a check, ten bytes a read; the read of this number fails.
 fn check_stop(alloc: Global, number: u64) -> Result<Option<Stop>, NoMemory> {
     let mut source = source_of(alloc, INPUT, 10, number)?;
     let stop = stop_of(read_parts(alloc, &mut source));
@@ -34,7 +34,7 @@ fn a_check_stops_at_the_read_that_fails(rt: HostRuntime) {
     assert!(rt; matches!(check_stop(rt.alloc(), 6), Ok(None)));
 }
 
-// The same when only the streams are read.
+// Reads only the streams of that input, in the same way.
 fn capture_stop(alloc: Global, number: u64) -> Result<Option<Stop>, NoMemory> {
     let mut source = source_of(alloc, INPUT, 10, number)?;
     let stop = stop_of(read_streams(alloc, &mut source));

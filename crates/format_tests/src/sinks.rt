@@ -18,7 +18,7 @@ fn a_sure_sink_finds_its_room(rt: HostRuntime) {
 
 const REPLIES: &[u8] = b"ZYGREP1\nR\0\0\0\0\0\0\0\0\0\0\0\x02okE";
 
-// The output of one connection.
+// Returns the output of one connection.
 fn one_output(alloc: Global) -> Result<Outputs, NoMemory> {
     let bytes = Blob::copy_of(alloc, b"ok")?;
     let mut outputs = Outputs::new(alloc, 1);
@@ -32,7 +32,8 @@ fn one_output(alloc: Global) -> Result<Outputs, NoMemory> {
     }
 }
 
-// The bytes of the replies that a sink took, byte by byte, when its call of this number fails.
+// Returns the bytes of the replies that a sink took, byte by byte, when its call of this number
+// fails.
 fn replies_are(
     alloc: Global,
     outputs: &Outputs,
@@ -46,7 +47,8 @@ fn replies_are(
     Ok(took && is_whole == (text.len() == REPLIES.len()))
 }
 
-// Cut at the call that fails, and whole if that is the call after the last byte.
+// Checks whether the replies are cut at the call that fails, and whole if that is the call after
+// the last byte.
 fn replies_are_cut(alloc: Global, outputs: &Outputs) -> Result<bool, NoMemory> {
     let is_cut = replies_are(alloc, outputs, 16, &REPLIES[..16])?;
     let is_whole = replies_are(alloc, outputs, REPLIES.len() as u64, REPLIES)?;
