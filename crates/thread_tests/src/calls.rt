@@ -17,7 +17,7 @@ use zy_base::Blob;
 
 const CALLS: u64 = 1_000;
 
-// Makes `CALLS` calls on the one shard. If the shard was busy, or memory was refused, the call is
+// Makes `CALLS` calls on the one shard. If the shard was busy, or an allocation failed, the call is
 // tried again.
 fn make_calls<R: Wait>(rt: &R, store: &StoreTable, pass: &mut Pass, call: &Call)
     requires table { pass.old.table ≡ store.now.id }
@@ -44,7 +44,7 @@ fn make_calls<R: Wait>(rt: &R, store: &StoreTable, pass: &mut Pass, call: &Call)
     }
 }
 
-// The calls of one thread.
+// Makes the calls of one thread.
 fn call_on<R: Wait>(rt: &R, store: &StoreTable, mut pass: Pass, call: Call) -> Pass
     requires table { pass.table ≡ store.now.id }
     requires one { store.now.shards ≡ 1 }
@@ -56,7 +56,7 @@ fn call_on<R: Wait>(rt: &R, store: &StoreTable, mut pass: Pass, call: Call) -> P
     pass
 }
 
-// The calls of two passes, on two threads.
+// Makes the calls of two passes, on two threads.
 fn call_on_two<R: Threads + Wait + Sync>(
     rt: &R,
     store: &StoreTable,
@@ -85,7 +85,7 @@ fn call_on_two<R: Threads + Wait + Sync>(
     )
 }
 
-// A get of a key.
+// Returns a get of a key.
 fn get_of<R: Abort>(rt: &R, alloc: Global, key: &[u8]) -> Call {
     match Blob::copy_of(alloc, key) {
         Ok(key) => Call::Get { key },
@@ -93,7 +93,7 @@ fn get_of<R: Abort>(rt: &R, alloc: Global, key: &[u8]) -> Call {
     }
 }
 
-// The pass of a connection.
+// Returns the pass of a connection.
 fn pass_of<R: Abort>(rt: &R, store: &StoreTable, root: &mut Root, conn: u32) -> Pass
     requires table { root.old.table ≡ store.now.id }
     requires within { conn < 4096 }
@@ -127,7 +127,7 @@ fn serve_two<R: Threads + Wait + Abort + Sync>(
     store.join(root, two);
 }
 
-// All calls of both connections are in the history, each connection's in its order.
+// Checks whether all calls of both connections are in the history, each connection's in its order.
 fn are_in_order(history: &[Entry]) -> bool {
     let mut next = [0u64; 2];
     for entry in history {
@@ -139,7 +139,7 @@ fn are_in_order(history: &[Entry]) -> bool {
     next[0] == CALLS && next[1] == CALLS
 }
 
-// A store with `shards` shards, and its root.
+// Makes a store with `shards` shards, and its root.
 fn new_store<R: Abort>(rt: &R, alloc: Global, shards: u32) -> (StoreTable, Root)
     requires some { 1 ≤ shards }
     requires few { shards ≤ 256 }
@@ -152,7 +152,7 @@ fn new_store<R: Abort>(rt: &R, alloc: Global, shards: u32) -> (StoreTable, Root)
     }
 }
 
-// The histories of a store whose passes were joined.
+// Returns the histories of a store whose passes were joined.
 fn histories_of<R: Abort>(rt: &R, store: StoreTable, root: Root) -> Histories
     requires table { root.table ≡ store.id }
     requires all { (conn : ℕ) → is_in conn root.given ≡ true → is_joined conn root.joined ≡ true }

@@ -26,7 +26,7 @@ fn claim_all<R: Wait>(rt: &R, ring: &Ring<Block>, mut pass: CorePass<Block>) -> 
     seen
 }
 
-// Claims once, and returns whether there may be further places.
+// Claims once, and returns whether there may be more places.
 fn claim_once(ring: &Ring<Block>, pass: &mut CorePass<Block>, seen: &mut Seen) -> bool
     requires within { pass.old.table ≡ ring.now.id }
     requires empty { pass.old.hand ≡ [] }
@@ -54,7 +54,7 @@ fn note(seen: &mut Seen, place: u32, block: &Block) {
     }
 }
 
-// One thread claims.
+// Claims on one thread.
 fn claim_on_one<R: Wait>(rt: &R, ring: &Ring<Block>, home: &mut HomePass<Block>) -> Seen
     requires within { home.old.table ≡ ring.now.id }
     ensures kept { home.new.table ≡ home.old.table }
@@ -65,7 +65,7 @@ fn claim_on_one<R: Wait>(rt: &R, ring: &Ring<Block>, home: &mut HomePass<Block>)
     claim_all(rt, ring, pass)
 }
 
-// Two threads claim.
+// Claims on two threads.
 fn claim_on_two<R: Threads + Wait + Sync>(
     rt: &R,
     ring: &Ring<Block>,
@@ -109,7 +109,7 @@ fn count_wrong(ring: &Ring<Block>, home: &mut HomePass<Block>, places: u32) -> u
     wrong
 }
 
-// How often each place was claimed by one or the other.
+// Returns how often each place was claimed by one or the other.
 fn both(one: &Seen, two: &Seen) -> Seen {
     let mut sum = [0u32; 128];
     for place in 0..128usize {
@@ -118,7 +118,7 @@ fn both(one: &Seen, two: &Seen) -> Seen {
     sum
 }
 
-// The places below this one were claimed once each, and no others.
+// Checks whether the places below this one were claimed once each, and no others.
 fn are_below(seen: &Seen, places: usize) -> bool {
     for place in 0..128usize {
         if seen[place] != (place < places) as u32 {

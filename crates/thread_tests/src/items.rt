@@ -53,7 +53,7 @@ fn take_all<R: Wait>(rt: &R, mut outlet: Outlet, items: u32) -> (Outlet, u32)
     (outlet, wrong)
 }
 
-// The number of the item, or one that no item has.
+// Returns the number of the item, or one that no item has.
 fn number_of(item: &Option<Rx>) -> Option<u32> {
     match item {
         Some(Rx::Close { conn }) => Some(*conn),

@@ -1,7 +1,7 @@
 //! How a test that fails is ended.
 use std::process::Abort;
 
-/// Ends the run, since memory was refused.
+/// Ends the run, since an allocation failed.
 pub(crate) fn no_memory<R: Abort>(rt: &R) -> ! {
     panic!(rt; "no memory")
 }

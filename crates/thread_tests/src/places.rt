@@ -26,7 +26,7 @@ impl Marked for Block {
     ghost label = { λ b. no_name };
 }
 
-/// A ring with `places` places, and its home.
+/// Makes a ring with `places` places, and its home.
 pub(crate) fn new_ring<R: Abort>(
     rt: &R,
     alloc: Global,

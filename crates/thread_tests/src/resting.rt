@@ -17,7 +17,7 @@ fn ring_and_rest<R: Wait>(rt: &R, bells: &Bells, mut pass: BellPass, core: u32)
     drop(pass);
 }
 
-// Each of two threads rings the core of the other, and then rests.
+// Lets each of two threads ring the core of the other, and then rest.
 fn ring_one_another<R: Threads + Wait + Sync>(rt: &R, bells: &Bells, one: BellPass, two: BellPass)
     requires one { one.bells ≡ bells.now }
     requires two { two.bells ≡ bells.now }

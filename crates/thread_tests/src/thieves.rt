@@ -47,7 +47,7 @@ fn push_both<R: Abort>(rt: &R, alloc: Global, rings: &mut Rings<Block>) -> HomeP
     home
 }
 
-// A pass of the second core on the first one's ring.
+// Returns a pass of the second core on the first one's ring.
 fn pass_on<R: Abort>(
     rt: &R,
     alloc: Global,
@@ -70,7 +70,7 @@ fn pass_on<R: Abort>(
     passes
 }
 
-// The same for two thieves.
+// Makes such passes for two thieves.
 fn pair_on<R: Abort>(
     rt: &R,
     alloc: Global,
@@ -117,7 +117,7 @@ fn tend<R: Wait>(
     home
 }
 
-// Steals and gives back until there are no further places, and counts the blocks that are of
+// Steals and gives back until there are no more places, and counts the blocks that belong to
 // another place.
 fn rob<R: Wait>(rt: &R, rings: &Rings<Block>, mut passes: Passes<Block>, stop: &AtomicBool) -> u32
     requires count { length rings.now ≡ 2 }
@@ -149,7 +149,7 @@ fn rob<R: Wait>(rt: &R, rings: &Rings<Block>, mut passes: Passes<Block>, stop: &
     wrong
 }
 
-// Two thieves.
+// Lets two thieves steal.
 fn rob_both<R: Threads + Wait + Sync>(
     rt: &R,
     rings: &Rings<Block>,
@@ -173,7 +173,7 @@ fn rob_both<R: Threads + Wait + Sync>(
     a.saturating_add(b)
 }
 
-// Four thieves.
+// Lets four thieves steal.
 fn rob_all<R: Threads + Wait + Sync>(
     rt: &R,
     rings: &Rings<Block>,
@@ -201,7 +201,7 @@ fn rob_all<R: Threads + Wait + Sync>(
     a.saturating_add(b)
 }
 
-// Four thieves, while the home tends its ring.
+// Lets four thieves steal, while the home tends its ring.
 fn rob_and_tend<R: Threads + Wait + Sync>(
     rt: &R,
     rings: &Rings<Block>,
@@ -268,7 +268,7 @@ fn take_out(ring: &Ring<Block>, home: &mut HomePass<Block>) -> Option<u32>
     }
 }
 
-// How often each place is in the ring.
+// Takes all places out, and returns how often each was in the ring.
 fn take_out_all(ring: &Ring<Block>, home: &mut HomePass<Block>) -> [u32; PLACES as usize]
     requires within { home.old.table ≡ ring.now.id }
 {

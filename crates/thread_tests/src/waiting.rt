@@ -23,7 +23,7 @@ fn count_and_wait<R: Wait>(rt: &R, control: &Control, pass: &mut ControlPass)
     }
 }
 
-// The same, and then asks all to stop.
+// Counts itself, waits until all have, and then asks all to stop.
 fn count_and_stop<R: Wait>(rt: &R, control: &Control, mut pass: ControlPass)
     requires table { pass.table ≡ control.now.id }
     requires first { IsUncounted pass.role }
@@ -33,7 +33,7 @@ fn count_and_stop<R: Wait>(rt: &R, control: &Control, mut pass: ControlPass)
     drop(pass);
 }
 
-// The same, and then waits until all are to stop.
+// Counts itself, waits until all have, and then waits until all are to stop.
 fn count_until_stopped<R: Wait>(rt: &R, control: &Control, mut pass: ControlPass)
     requires table { pass.table ≡ control.now.id }
     requires first { IsUncounted pass.role }
@@ -48,7 +48,7 @@ fn count_until_stopped<R: Wait>(rt: &R, control: &Control, mut pass: ControlPass
     drop(pass);
 }
 
-// Two threads count themselves, and the first one asks the second to stop.
+// Lets two threads count themselves, and the first one ask the second to stop.
 fn wait_on_two<R: Threads + Wait + Sync>(
     rt: &R,
     control: &Control,
