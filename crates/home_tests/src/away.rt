@@ -58,7 +58,7 @@ fn steal_while(rt: &impl Abort, alloc: Global, setup: &mut Setup, items: &[Item]
     setup.ring.give_back(&mut setup.thief, place, block);
 }
 
-// Whether the first connection was sent the expected texts, in two sessions.
+// Checks whether the first connection was sent the expected texts, in two sessions.
 fn is_served(output: &Output, ends: &[u64]) -> bool {
     let bytes = output.bytes();
     output.count() == 203

@@ -21,7 +21,7 @@ const COMMAND: [Item; 1] = [Item::Text(0, 1, b"version\r\n")];
 // The number of commands that are received while the block is held.
 const TIMES: u32 = 500;
 
-// Has the home receive commands.
+// Lets the home receive commands.
 fn receive_often(rt: &impl Abort, alloc: Global, ring: &Ring<Block>, mut home: Home) -> Home
     requires table { home.pass.table ≡ ring.now.id }
     requires few { home.pass.count ≤ 64 }

@@ -19,7 +19,7 @@ pub(crate) struct BlockParts {
     pub(crate) inlet: EventInlet,
 }
 
-/// A store of 16 shards, and the block of connection 0.
+/// Makes a store of 16 shards, and the block of connection 0.
 pub(crate) fn block_parts(rt: &impl Abort, alloc: Global) -> BlockParts
     ensures table { result.block.work.table ≡ result.store.id }
     ensures cores { result.block.cores ≡ 64 }

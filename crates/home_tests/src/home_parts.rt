@@ -27,7 +27,7 @@ pub(crate) struct Setup {
     pub(crate) thief: CorePass<Block>,
 }
 
-// A ring of two places with the label of the store and two cores.
+// Makes a ring of two places with the label of the store and two cores.
 fn ring_of<L: Label>(
     rt: &impl Abort,
     alloc: Global,
@@ -43,7 +43,7 @@ fn ring_of<L: Label>(
     (ring, pass)
 }
 
-// The block of a connection, with its inlet.
+// Makes the block of a connection, with its inlet.
 fn block_of(
     rt: &impl Abort,
     alloc: Global,
@@ -73,7 +73,7 @@ fn push_both(rt: &impl Abort, parts: &mut HomeParts, block: Block, inlet: EventI
     sure(rt, parts.inlets.push(inlet));
 }
 
-// The parts of a home of the connections 0 and 2.
+// Makes the parts of a home of the connections 0 and 2.
 fn parts_of(
     rt: &impl Abort,
     alloc: Global,
@@ -99,7 +99,7 @@ fn parts_of(
     parts
 }
 
-/// The home of the first of two cores, with two connections, on a store of 16 shards.
+/// Makes the home of the first of two cores, with two connections, on a store of 16 shards.
 pub(crate) fn set_up(rt: &impl Abort, alloc: Global) -> Setup
     ensures home { result.home.pass.table ≡ result.ring.id }
     ensures count { result.home.pass.count ≡ 0 }
@@ -122,7 +122,7 @@ pub(crate) fn set_up(rt: &impl Abort, alloc: Global) -> Setup
     }
 }
 
-/// The output of the first connection, with the ends of its sessions.
+/// Returns the output of the first connection, with the ends of its sessions.
 pub(crate) fn first_end(rt: &impl Abort, setup: Setup) -> (Output, Vec<u64>) {
     let Setup {
         store,

@@ -101,7 +101,7 @@ fn hold_until<R: Wait + Abort>(
     (block, sent)
 }
 
-// What this output has of texts.
+// Counts the texts of this output.
 fn sent_in(output: &Output) -> Sent {
     let mut wrong = 0u32;
     for text in output.bytes().chunks(FOUND.len()) {

@@ -12,7 +12,7 @@ use zy_home::Home;
 use zy_rx::Rx;
 use zy_shuffle::Ring;
 
-// As many as a call receives.
+// The most items that a call receives.
 const SLOTS: usize = 64;
 
 /// What a home receives.
@@ -24,7 +24,7 @@ pub(crate) enum Item {
     End,
 }
 
-// The item, as it is received.
+// Makes the item, as it is received.
 fn item_of(rt: &impl Abort, alloc: Global, item: Item) -> Rx {
     match item {
         Item::Text(conn, times, text) => {
