@@ -32,7 +32,7 @@ struct Case {
     threads: u32,
     // The commands of a segment.
     commands: u64,
-    // Whether the segments go to core 0 alone, and not to both cores in turn.
+    // Whether the segments go only to core 0, and not to both cores in turn.
     is_one: bool,
     answer: Answer,
     // The largest number of bytes that a read gives.
@@ -68,7 +68,7 @@ impl<'g, F> Watched<'g, F> {
         self.waiting = self.waiting.max(waiting);
     }
 
-    // A segment was offered, or after the last one an end.
+    // Notes that a segment was offered, or after the last one an end.
     fn add(&mut self, fed: Fed)
         ensures feeder { self.new.feeder ≡ self.old.feeder }
     {
@@ -111,7 +111,7 @@ impl<'g, F: Feeder> Feeder for Watched<'g, F> {
     ghost leads_on = { λ w v u p q. F.leads_on w.feeder v.feeder u.feeder p q };
 }
 
-// A capture of two connections. A length has two bytes.
+// Makes a capture of two connections. A length has two bytes.
 fn capture(rt: &impl Abort, alloc: Global, case: Case) -> Blob {
     assert!(rt; case.commands <= 1_000);
     let mut bytes = Blob::new(alloc);
@@ -133,7 +133,8 @@ fn append_commands(rt: &impl Abort, bytes: &mut Blob, commands: u64) {
     }
 }
 
-// The largest number of commands that were offered and not yet begun before a step.
+// Returns the largest number of commands that were offered and not yet begun before a step of the
+// feeder.
 fn most_waiting<R: Threads + Wait + Abort + Sync>(rt: &R, alloc: Global, case: Case) -> u64 {
     assert!(rt; case.bytes >= 1);
     assert!(rt; case.threads >= 1);
@@ -147,7 +148,7 @@ fn most_waiting<R: Threads + Wait + Abort + Sync>(rt: &R, alloc: Global, case: C
     most
 }
 
-// The same, with this source and gate.
+// Returns this number for a run with this source and gate.
 fn drive_source<R: Threads + Wait + Abort + Sync>(
     rt: &R,
     alloc: Global,
@@ -227,7 +228,7 @@ fn drive_run<R: Threads + Wait + Abort + Sync>(
     waiting
 }
 
-// Whether the cores were driven to the end.
+// Checks whether the cores were driven to the end.
 fn end(driven: Driven) -> bool {
     match driven {
         Driven::Settled(cores) => {
@@ -241,7 +242,7 @@ fn end(driven: Driven) -> bool {
     }
 }
 
-// Both cores on the caller's thread, with a command a segment.
+// Makes a case of both cores on the caller's thread, with a command in each segment.
 fn alone(answer: Answer, bytes: usize) -> Case {
     Case {
         threads: 1,

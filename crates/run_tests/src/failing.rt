@@ -1,4 +1,4 @@
-//! Reads and writes that fail, each in turn, end a run, and a report.
+//! Reads and writes that fail, each in turn: they end a run, and a report.
 use crate::serving::{Failing, Given};
 use crate::sure::must;
 use std::alloc::Global;
@@ -77,7 +77,7 @@ fn end_of<R: Threads + Wait + Abort + Sync>(
     End { status, written }
 }
 
-// How a command ends.
+// Returns how a command ends.
 fn end_of_case<R: Threads + Wait + Abort + Sync>(
     rt: &R,
     alloc: Global,
@@ -87,7 +87,7 @@ fn end_of_case<R: Threads + Wait + Abort + Sync>(
     end_of(rt, alloc, &[case.word], case.given, case.whole, failing)
 }
 
-// Whether a command ends as it should when this read fails.
+// Checks whether a command ends as it should when this read fails.
 fn is_ended_by_read<R: Threads + Wait + Abort + Sync>(
     rt: &R,
     alloc: Global,
@@ -102,7 +102,7 @@ fn is_ended_by_read<R: Threads + Wait + Abort + Sync>(
     }
 }
 
-// Whether a command ends as it should when this write fails; the last call is to finish.
+// Checks whether a command ends as it should when this write fails; the last call is to finish.
 fn is_ended_by_write<R: Threads + Wait + Abort + Sync>(
     rt: &R,
     alloc: Global,
@@ -153,7 +153,7 @@ const WORDS: [[&[u8]; 4]; 4] = [
     [b"run", b"--cores=3", b"--rest=1", b"--threads=3"],
 ];
 
-// Whether the feeder breaks at its third step, and the run ends.
+// Checks whether the feeder breaks at its third step, and the run ends.
 fn is_broken<R: Threads + Wait + Abort + Sync>(rt: &R, alloc: Global, words: &[&[u8]]) -> bool {
     end_of(rt, alloc, words, THREE, REPLIES, Failing::Read(THIRD)).is(4, 0)
 }

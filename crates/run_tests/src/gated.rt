@@ -16,7 +16,8 @@ const FOUR_OF_SEVEN: &[u8] =
 // Words, and a capture.
 struct Case(&'static [&'static [u8]], &'static [u8]);
 
-// One core; two that steal, by number and by draws; two on two threads, which rest or not; and a test run.
+// One core; two that steal, in order and in a generated order; two on two threads, which rest or
+// not; and a test run.
 const CASES: [Case; 7] = [
     Case(&[b"run", b"--cores=1"], FOUR_OF_SEVEN),
     Case(&[b"run", b"--cores=2", b"--threads=1"], TWO_OF_THREE),
@@ -47,7 +48,7 @@ fn each_core_passes_the_gate_as_often_as_its_holds_say(rt: HostRuntime) {
     }
 }
 
-// A capture in which connections 0 and 2 send 640 commands each.
+// Makes a capture in which connections 0 and 2 send 640 commands each.
 fn many_commands(rt: &impl Abort, alloc: Global) -> Blob {
     let mut bytes = Blob::new(alloc);
     append(rt, &mut bytes, b"ZYGCAP1\n\0\0\0\x03S\0\0\0\0\0\0\x16\x80");
@@ -66,7 +67,8 @@ fn append(rt: &impl Abort, bytes: &mut Blob, head: &[u8]) {
 
 const WORDS: [&[u8]; 3] = [b"run", b"--cores=2", b"--threads=2"];
 
-// Whether two threads hold commands of both at once, and the gate was passed as often as the holds say.
+// Checks whether two threads hold commands of both at once, and the gate was passed as often as the
+// holds say.
 fn has_met<R: Threads + Wait + Abort + Sync>(rt: &R, alloc: Global) -> bool {
     let capture = many_commands(rt, alloc);
     let mut given = Given::new(rt, alloc, &WORDS, capture, Failing::None, true);

@@ -48,7 +48,7 @@ pub(crate) struct Given {
     gate: Watch,
 }
 
-// The words as byte strings.
+// Makes byte strings of the words.
 fn blobs(rt: &impl Abort, alloc: Global, words: &[&[u8]]) -> Vec<Blob> {
     let mut blobs = Vec::new(alloc);
     for word in words {
@@ -62,14 +62,14 @@ fn push_word(rt: &impl Abort, alloc: Global, blobs: &mut Vec<Blob>, word: &[u8])
     sure(rt, blobs.push(blob));
 }
 
-// The list of this number.
+// Makes the list of this number.
 fn only(rt: &impl Abort, alloc: Global, number: u64) -> CallNumbers {
     let mut numbers = CallNumbers::new(alloc);
     sure(rt, numbers.push(number));
     numbers
 }
 
-// A sink that takes at most `most` bytes a call, and fails at this call.
+// Makes a sink that takes at most `most` bytes a call, and fails at this call.
 fn sink(rt: &impl Abort, alloc: Global, most: usize, call: u64) -> MemSink {
     assert!(rt; most >= 1);
     let failing = only(rt, alloc, call);
@@ -77,8 +77,8 @@ fn sink(rt: &impl Abort, alloc: Global, most: usize, call: u64) -> MemSink {
 }
 
 impl Given {
-    /// These words, a source that gives the capture byte by byte, a sink that takes one byte a
-    /// call, and a gate that holds commands or does not.
+    /// Makes the arguments: these words, a source that gives the capture byte by byte, a sink that
+    /// takes one byte a call, and a gate that holds commands or does not.
     pub(crate) fn new(
         rt: &impl Abort,
         alloc: Global,
@@ -96,7 +96,7 @@ impl Given {
         }
     }
 
-    /// The same with these bytes, and a gate that holds no command.
+    /// Makes the same with these bytes, and a gate that holds no command.
     pub(crate) fn ungated(
         rt: &impl Abort,
         alloc: Global,
@@ -120,7 +120,7 @@ impl Given {
         )
     }
 
-    /// The exit status.
+    /// Returns the exit status.
     pub(crate) fn status<R: Threads + Wait + Sync>(&mut self, rt: &R, alloc: Global) -> u8 {
         let answer = self.serve(rt, alloc);
         let status = status(&answer);
@@ -128,7 +128,8 @@ impl Given {
         status
     }
 
-    /// Whether a run was served, and its gate was passed as often as the holds of its journal say.
+    /// Checks whether a run was served, and its gate was passed as often as the holds of its
+    /// journal say.
     pub(crate) fn is_told<R: Threads + Wait + Sync>(&mut self, rt: &R, alloc: Global) -> bool {
         let answer = self.serve(rt, alloc);
         let is_told = is_told_by(&self.gate, &answer);
@@ -136,12 +137,12 @@ impl Given {
         is_told
     }
 
-    /// Whether the gate held commands of two connections at once.
+    /// Checks whether the gate held commands of two connections at once.
     pub(crate) fn has_met(&self) -> bool {
         self.gate.has_met()
     }
 
-    /// The number of bytes that were written, if they are a prefix of these.
+    /// Returns the number of bytes that were written, if they are a prefix of these.
     pub(crate) fn part_of(&self, whole: &[u8]) -> Option<usize> {
         match self.sink.bytes() {
             Some(written) if whole.starts_with(written) => Some(written.len()),
@@ -150,7 +151,7 @@ impl Given {
     }
 }
 
-// Whether this answer has a journal, and the gate was passed as often as its holds say.
+// Checks whether this answer has a journal, and the gate was passed as often as its holds say.
 fn is_told_by(gate: &Watch, answer: &Answer) -> bool {
     match answer {
         Answer::Served(journal) => gate.is_told_by(journal.holds()),

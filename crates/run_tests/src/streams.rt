@@ -5,7 +5,7 @@ use std::io::{Cursor, ErrorKind, Write};
 use zy_base::{Sink, Source};
 use zygos_run::{StdSink, StdSource};
 
-// Whether a reader's bytes are given, the number for which there is room.
+// Checks whether a reader's bytes are given, the number for which there is room.
 fn is_read() -> bool {
     let mut source = StdSource::new(Cursor::new(b"abc".as_slice()));
     let mut buffer = [0u8; 2];
@@ -17,7 +17,7 @@ fn a_read_is_passed_on(rt: HostRuntime) {
     must(&rt, is_read());
 }
 
-// Whether a writer takes the bytes for which it has room, and then fails.
+// Checks whether a writer takes the bytes for which it has room, and then fails.
 fn is_written() -> bool {
     let mut room = [0u8; 2];
     let mut sink = StdSink::new(room.as_mut_slice());

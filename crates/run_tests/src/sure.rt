@@ -3,7 +3,7 @@ ghost use Rattle.std.specs.Prelude.{◌≡◌, Ok, true};
 
 use std::process::Abort;
 
-/// The result of a call; the test ends if memory was refused.
+/// Returns the result of a call; the test ends if an allocation failed.
 pub(crate) fn sure<T, E>(rt: &impl Abort, made: Result<T, E>) -> T
     ensures value { made ≡ Ok result }
 {

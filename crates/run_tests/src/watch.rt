@@ -28,7 +28,7 @@ pub(crate) struct Watch {
     met: AtomicBool,
 }
 
-// Where a core and a connection are counted.
+// Returns the place where a core and a connection are counted.
 fn place_of(core: u32, conn: u32) -> usize {
     if core < CORES && conn < CONNS {
         (core * CONNS + conn) as usize
@@ -38,7 +38,7 @@ fn place_of(core: u32, conn: u32) -> usize {
 }
 
 impl Watch {
-    /// A gate that was not passed yet.
+    /// Makes a gate that was not passed yet.
     pub(crate) fn new(rt: &impl Abort, alloc: Global, holds: bool) -> Watch {
         let mut counts = Vec::new(alloc);
         for _ in 0..PLACES {
@@ -53,7 +53,7 @@ impl Watch {
         }
     }
 
-    // How often it was passed at a place.
+    // Returns how often it was passed for a place.
     fn count(&self, place: usize) -> u64 {
         match self.counts.get(place) {
             Some(count) => count.load(Ordering::SeqCst),
@@ -61,7 +61,7 @@ impl Watch {
         }
     }
 
-    /// How often it was passed.
+    /// Returns how often it was passed.
     pub(crate) fn passed(&self) -> u64 {
         let mut sum = 0u64;
         for place in 0..PLACES {
@@ -70,7 +70,7 @@ impl Watch {
         sum
     }
 
-    /// Whether it was passed, for each core and connection, as often as these holds say.
+    /// Checks whether it was passed, for each core and connection, as often as these holds say.
     pub(crate) fn is_told_by(&self, holds: &[Hold]) -> bool {
         for place in 0..PLACES {
             if self.count(place) != held_at(holds, place) {
@@ -80,7 +80,7 @@ impl Watch {
         true
     }
 
-    /// Whether commands of two connections were held at once.
+    /// Checks whether commands of two connections were held at once.
     pub(crate) fn has_met(&self) -> bool {
         self.met.load(Ordering::SeqCst)
     }
@@ -108,7 +108,7 @@ impl Watch {
     }
 }
 
-// How many commands holds count at a place.
+// Returns the number of commands that holds count at a place.
 fn held_at(holds: &[Hold], place: usize) -> u64 {
     let mut sum = 0u64;
     for hold in holds {
