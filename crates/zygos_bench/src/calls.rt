@@ -7,7 +7,7 @@ use zy_base::{Blob, NoMemory, number_text};
 /// The value of each write.
 pub(crate) const VALUE: [u8; 100] = [b'v'; 100];
 
-/// A read of the key with these digits.
+/// Makes a read of the key with these digits.
 pub(crate) fn get(alloc: Global, key: u64) -> Result<Call, NoMemory> {
     match key_text(alloc, key) {
         Ok(key) => Ok(Call::Get { key }),
@@ -15,7 +15,7 @@ pub(crate) fn get(alloc: Global, key: u64) -> Result<Call, NoMemory> {
     }
 }
 
-/// A write.
+/// Makes a write.
 pub(crate) fn set(alloc: Global, key: u64) -> Result<Call, NoMemory> {
     let key = key_text(alloc, key)?;
     match Blob::copy_of(alloc, &VALUE) {
@@ -31,7 +31,7 @@ pub(crate) fn set(alloc: Global, key: u64) -> Result<Call, NoMemory> {
     }
 }
 
-// The digits of a key.
+// Returns the digits of a key.
 fn key_text(alloc: Global, number: u64) -> Result<Blob, NoMemory> {
     let mut key = Blob::new(alloc);
     match number_text(&mut key, number) {
@@ -43,7 +43,7 @@ fn key_text(alloc: Global, number: u64) -> Result<Blob, NoMemory> {
     }
 }
 
-/// Makes a call if the shard is young enough, and lets go of its reply.
+/// Makes a call if the shard is young enough, and drops its reply.
 pub(crate) fn apply(shard: &mut Shard, index: u64, call: Call) -> Result<(), NoMemory> {
     if shard.last() >= 1 << 60 || shard.history().len() >= 1 << 52 {
         drop(call);

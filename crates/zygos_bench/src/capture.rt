@@ -8,7 +8,7 @@ use zy_base::NoMemory;
 use zy_capture::{FeedFault, Reader, Record};
 use zy_read::Fed;
 
-/// A capture, to its end, counted in bytes of segments.
+/// Times the reading of a capture to its end, counted in bytes of segments.
 pub(crate) fn measured<R: CpuClock, I: Read>(
     rt: &R,
     alloc: Global,

@@ -1,7 +1,7 @@
 //! The clocks.
 use std::time::{Clock, CpuClock, Instant};
 
-/// The processor time so far, in nanoseconds.
+/// Returns the processor time so far, in nanoseconds.
 pub(crate) fn nanos<R: CpuClock>(rt: &R) -> u64 {
     match rt.process_cpu_time() {
         Ok(time) => u64::try_from(time.as_nanos()).unwrap_or(0),
@@ -9,7 +9,7 @@ pub(crate) fn nanos<R: CpuClock>(rt: &R) -> u64 {
     }
 }
 
-/// The time since then, in nanoseconds.
+/// Returns the time since then, in nanoseconds.
 pub(crate) fn since<R: Clock>(rt: &R, start: Instant) -> u64 {
     match start.elapsed(rt) {
         Ok(time) => u64::try_from(time.as_nanos()).unwrap_or(0),

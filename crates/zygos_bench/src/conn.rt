@@ -1,4 +1,4 @@
-//! What a command costs: a shard alone, the holds of a block, and a home.
+//! What a command costs: for a shard only, for the holds of a block, and for a home.
 ghost use Rattle.std.specs.Prelude.{◌≤◌, ◌^◌};
 
 mod holding;
@@ -12,10 +12,10 @@ use std::alloc::Global;
 use std::time::CpuClock;
 use zy_base::NoMemory;
 
-/// What carries out the commands.
+/// What executes the commands.
 #[derive(Clone, Copy)]
 pub(crate) enum Part {
-    /// A shard alone.
+    /// A shard only.
     Shard,
     /// The holds of a block.
     Block,
@@ -40,7 +40,7 @@ pub(crate) fn measured<R: CpuClock>(
     })
 }
 
-// The nanoseconds that `rounds` rounds take, each of 200 times `size` commands.
+// Returns the nanoseconds that `rounds` rounds take, each of 200 times `size` commands.
 fn work<R: CpuClock>(
     rt: &R,
     alloc: Global,

@@ -9,7 +9,7 @@ use zy_frame::{Framer, Frames};
 // How often the commands of the generated traffic are repeated before it begins again.
 const ROUNDS: u32 = 4_000;
 
-/// `bytes` bytes in pieces of this length, counted in frames.
+/// Times `bytes` bytes in pieces of this length, counted in frames.
 pub(crate) fn measured<R: CpuClock>(
     rt: &R,
     alloc: Global,
@@ -27,7 +27,7 @@ pub(crate) fn measured<R: CpuClock>(
     })
 }
 
-/// Commands of a few kinds, again and again.
+/// Makes a text of commands of a few kinds, again and again.
 pub(crate) fn traffic(alloc: Global) -> Result<Blob, NoMemory> {
     let mut text = Blob::new(alloc);
     match append_all(&mut text) {
@@ -39,7 +39,7 @@ pub(crate) fn traffic(alloc: Global) -> Result<Blob, NoMemory> {
     }
 }
 
-// Appends them. The parts of the text then share its bytes.
+// Appends the commands. The parts of the text then share its bytes.
 fn append_all(text: &mut Blob) -> Result<(), NoMemory> {
     for _ in 0..ROUNDS {
         text.append(b"get connection:1234:key:5678\r\n")?;
@@ -52,8 +52,8 @@ fn append_all(text: &mut Blob) -> Result<(), NoMemory> {
     text.share()
 }
 
-// The number of frames in `bytes` bytes of the traffic, which begins again at its end, in pieces of
-// this length.
+// Returns the number of frames in `bytes` bytes of the traffic, which begins again at its end, in
+// pieces of this length.
 fn count_frames(alloc: Global, traffic: &Blob, bytes: u64, piece: u64) -> Result<u64, NoMemory> {
     let mut framer = Framer::new(alloc);
     let mut frames = Frames::new(alloc);
@@ -63,7 +63,7 @@ fn count_frames(alloc: Global, traffic: &Blob, bytes: u64, piece: u64) -> Result
     counted
 }
 
-// The same, by this framer.
+// Counts these frames, cut by this framer.
 fn feed_pieces(
     framer: &mut Framer,
     frames: &mut Frames,
@@ -93,7 +93,7 @@ fn feed_pieces(
     Ok(count)
 }
 
-// Takes all frames, and answers how many there were.
+// Takes all frames, and returns their number.
 fn drained(frames: &mut Frames) -> u64 {
     let mut count = 0u64;
     for _ in 0..frames.len() {

@@ -68,7 +68,7 @@ fn merging<R: CpuClock>(rt: &R, alloc: Global, entries: u64, shards: u32) -> Res
     }
 }
 
-// The number of entries, by a walk through all of them, which merges the histories.
+// Returns the number of entries, by a walk through all of them, which merges the histories.
 fn walked(journal: &Journal) -> u64 {
     let mut entries = journal.entries();
     for count in 0..u64::MAX {

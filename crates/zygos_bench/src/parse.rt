@@ -14,7 +14,7 @@ const PIECE: usize = 1_400;
 // The number of shards.
 const SHARDS: u32 = 16;
 
-/// The traffic `rounds` times, counted in commands.
+/// Returns the traffic `rounds` times, counted in commands.
 pub(crate) fn measured<R: CpuClock>(rt: &R, alloc: Global, rounds: u64) -> Result<Done, NoMemory> {
     let traffic = traffic(alloc)?;
     let start = nanos(rt);
@@ -27,7 +27,7 @@ pub(crate) fn measured<R: CpuClock>(rt: &R, alloc: Global, rounds: u64) -> Resul
     })
 }
 
-// The number of commands in `rounds` rounds.
+// Reads the number of commands in `rounds` rounds.
 fn read_rounds(alloc: Global, traffic: &Blob, rounds: u64) -> Result<u64, NoMemory> {
     let mut framer = Framer::new(alloc);
     let mut frames = Frames::new(alloc);
@@ -43,7 +43,7 @@ fn read_rounds(alloc: Global, traffic: &Blob, rounds: u64) -> Result<u64, NoMemo
     }
 }
 
-// The number of commands in a round.
+// Reads the number of commands in a round.
 fn read_pieces(
     alloc: Global,
     framer: &mut Framer,

@@ -43,7 +43,8 @@ pub(crate) fn read_words<R: Env>(rt: &R) -> Asked {
     }
 }
 
-// The word at this place; empty if there is none, or if it is longer than any that has a meaning.
+// Returns the word at this place; empty if there is none, or if it is longer than any that has a
+// meaning.
 fn word<'a, R: Env>(rt: &R, place: usize, buffer: &'a mut [u8; 20]) -> &'a [u8] {
     match rt.arg(place, buffer) {
         Ok(length) if length <= 20 => &buffer[..length],
@@ -51,7 +52,7 @@ fn word<'a, R: Env>(rt: &R, place: usize, buffer: &'a mut [u8; 20]) -> &'a [u8] 
     }
 }
 
-// What the first two words name.
+// Returns what the first two words name.
 fn what_named(word: &[u8], part: &[u8]) -> Option<What> {
     match (word, part) {
         (b"shard", _) => Some(What::Shard),
@@ -74,7 +75,7 @@ fn what_named(word: &[u8], part: &[u8]) -> Option<What> {
     }
 }
 
-// The number that a word of the command line spells, or 0 if it spells none.
+// Reads a number from a word of the command line; 0 if it is none.
 fn number<R: Env>(rt: &R, place: usize) -> u64 {
     let mut buffer = [0u8; 20];
     read_number(word(rt, place, &mut buffer)).unwrap_or(0)

@@ -11,7 +11,7 @@ use zy_calls::Output;
 use zy_conn::{Block, EventInlet};
 use zy_frame::{Framer, Frames};
 
-/// The nanoseconds of `rounds` holds, on a store of 16 shards.
+/// Returns the nanoseconds of `rounds` holds, on a store of 16 shards.
 pub(crate) fn held<R: CpuClock>(
     rt: &R,
     alloc: Global,
@@ -25,7 +25,7 @@ pub(crate) fn held<R: CpuClock>(
     spent
 }
 
-// The same, on this store.
+// Returns the nanoseconds of `rounds` holds, on this store.
 fn held_on<R: CpuClock>(
     rt: &R,
     alloc: Global,
@@ -98,7 +98,7 @@ fn offer_all(inlet: &mut EventInlet, frames: &mut Frames) -> Result<(), NoMemory
     Ok(())
 }
 
-// The nanoseconds of one hold. What it sent is let go.
+// Returns the nanoseconds of one hold. What it sent is dropped.
 fn hold_once<R: CpuClock>(
     rt: &R,
     alloc: Global,

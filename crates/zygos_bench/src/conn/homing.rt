@@ -26,8 +26,7 @@ pub(crate) struct Ends {
     pub(crate) outlet: Outlet,
 }
 
-/// The nanoseconds of `rounds` rounds: each connection gets a segment, and then the home serves
-/// them all.
+/// Times `rounds` rounds: each connection gets a segment, and then the home serves them all.
 pub(crate) fn serve_rounds<R: CpuClock>(
     rt: &R,
     alloc: Global,
@@ -65,7 +64,7 @@ fn offer_all(alloc: Global, inlet: &mut Inlet, round: u64, size: u64) -> Result<
     Ok(())
 }
 
-// The nanoseconds that the home takes to receive the items of a round and to serve them.
+// Returns the nanoseconds that the home takes to receive the items of a round and to serve them.
 fn serve_items<R: CpuClock>(
     rt: &R,
     ring: &Ring<Block>,
@@ -88,7 +87,7 @@ fn serve_items<R: CpuClock>(
     Ok(nanos(rt).saturating_sub(begin))
 }
 
-// The home receives what the outlet knows.
+// Lets the home receive what the outlet knows.
 fn receive_all(ring: &Ring<Block>, home: &mut Home, outlet: &mut Outlet) -> Result<(), NoMemory>
     requires table { home.old.pass.table ≡ ring.now.id }
     requires live { home.old.refused ≡ false }
@@ -106,7 +105,7 @@ fn receive_all(ring: &Ring<Block>, home: &mut Home, outlet: &mut Outlet) -> Resu
     Ok(())
 }
 
-// The home claims, holds and settles each block that was published.
+// Lets the home claim, hold and settle each block that was published.
 fn own_all(ring: &Ring<Block>, store: &StoreTable, home: &mut Home) -> Result<(), NoMemory>
     requires table { home.old.pass.table ≡ ring.now.id }
     requires label { home.old.pass.label ≡ label_of store.now.id home.old.cores }

@@ -7,7 +7,7 @@ use mc_calls::Call;
 use std::alloc::Global;
 use zy_base::{Blob, NoMemory, number_text};
 
-// The key of a command, of seven digits.
+// Returns the key of a command, of seven digits.
 fn key_of(number: u64) -> u64
     ensures few { result < 1001000 }
 {
@@ -28,7 +28,7 @@ pub(crate) fn spell(text: &mut Blob, number: u64) -> Result<(), NoMemory> {
     text.append(b"\r\n")
 }
 
-/// `size` commands from this one on.
+/// Makes the text of `size` commands from this one on.
 pub(crate) fn text_of(alloc: Global, first: u64, size: u64) -> Result<Blob, NoMemory> {
     let mut text = Blob::new(alloc);
     match spell_all(&mut text, first, size) {
@@ -48,7 +48,7 @@ fn spell_all(text: &mut Blob, first: u64, size: u64) -> Result<(), NoMemory> {
     Ok(())
 }
 
-/// The call of a command.
+/// Returns the call of a command.
 pub(crate) fn call_of(alloc: Global, number: u64) -> Result<Call, NoMemory> {
     if number % 2 == 0 {
         set(alloc, key_of(number))

@@ -1,4 +1,4 @@
-//! A shard alone, which gets the calls of the commands.
+//! A shard only, which gets the calls of the commands.
 use crate::calls::apply;
 use crate::clock::nanos;
 use crate::conn::load::call_of;
@@ -8,7 +8,7 @@ use std::alloc::Global;
 use std::time::CpuClock;
 use zy_base::{NoMemory, Queue};
 
-/// The nanoseconds of `rounds` rounds of calls.
+/// Returns the nanoseconds of `rounds` rounds of calls.
 pub(crate) fn alone<R: CpuClock>(
     rt: &R,
     alloc: Global,
@@ -21,7 +21,7 @@ pub(crate) fn alone<R: CpuClock>(
     spent
 }
 
-// The same, on this shard.
+// Returns the nanoseconds of `rounds` rounds, on this shard.
 fn make_rounds<R: CpuClock>(
     rt: &R,
     alloc: Global,
@@ -39,7 +39,7 @@ fn make_rounds<R: CpuClock>(
     Ok(spent)
 }
 
-// The nanoseconds of one round: the calls of `size` commands from this one on.
+// Returns the nanoseconds of one round: the calls of `size` commands from this one on.
 fn make_round<R: CpuClock>(
     rt: &R,
     alloc: Global,

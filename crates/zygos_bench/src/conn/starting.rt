@@ -9,8 +9,8 @@ use zy_base::NoMemory;
 use zy_core::Running;
 use zy_setup::make_run;
 
-/// The nanoseconds of `rounds` rounds, in each of which each connection gets a segment, on a store
-/// of 16 shards.
+/// Returns the nanoseconds of `rounds` rounds, in each of which each connection gets a segment, on
+/// a store of 16 shards.
 pub(crate) fn homed<R: CpuClock>(
     rt: &R,
     alloc: Global,
@@ -23,7 +23,7 @@ pub(crate) fn homed<R: CpuClock>(
     serve_run(rt, alloc, running, rounds, size)
 }
 
-// The same, of a run with one core.
+// Returns these nanoseconds, of a run with one core.
 fn serve_run<R: CpuClock>(
     rt: &R,
     alloc: Global,

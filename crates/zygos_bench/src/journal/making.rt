@@ -9,7 +9,7 @@ use std::alloc::Global;
 use zy_base::{Blob, NoMemory};
 use zy_journal::rising_histories_are_in_order;
 
-// The history of a shard, with `count` entries.
+// Returns the history of a shard, with `count` entries.
 pub(crate) fn history(alloc: Global, shard: u32, count: u64) -> Result<Entries, NoMemory>
     requires shard { shard < 256 }
     requires few { count ≤ 2 ^ 32 }
@@ -60,7 +60,7 @@ fn add_entry(entries: &mut Entries, entry: Entry) -> Result<(), NoMemory>
     }
 }
 
-// The entry of a shard with this number.
+// Returns the entry of a shard with this number.
 fn entry(alloc: Global, shard: u32, number: u64) -> Result<Entry, NoMemory>
     requires shard { shard < 256 }
     requires few { number < 2 ^ 32 }
@@ -93,7 +93,7 @@ fn entry(alloc: Global, shard: u32, number: u64) -> Result<Entry, NoMemory>
     })
 }
 
-// The histories of `shards` shards, with `each` entries each.
+// Returns the histories of `shards` shards, with `each` entries each.
 pub(crate) fn histories(alloc: Global, shards: u32, each: u64) -> Result<Histories, NoMemory>
     requires shards { shards ≤ 256 }
     requires few { each ≤ 2 ^ 32 }

@@ -36,7 +36,7 @@ pub fn mix(alloc: Global, shard: &mut Shard, keys: u64, calls: u64) -> Result<()
     Ok(())
 }
 
-// A write at each tenth turn, and otherwise a read.
+// Returns a write at each tenth turn, and otherwise a read.
 fn call(alloc: Global, turn: u64, number: u64) -> Result<Call, NoMemory>
     requires few { number < 1000000 }
 {

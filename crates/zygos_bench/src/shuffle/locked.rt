@@ -76,7 +76,7 @@ fn tend<R: Wait>(rt: &R, queues: &Mutex<Queues>, rounds: u64, stop: &AtomicBool)
     stop.store(true, Ordering::SeqCst);
 }
 
-// Whether a place came back, which is then ready again.
+// Checks whether a place came back, which is then ready again.
 fn publish_again<R: Wait>(rt: &R, queues: &Mutex<Queues>) -> bool {
     let mut queues = queues.lock(rt);
     match queues.back.pop_front() {

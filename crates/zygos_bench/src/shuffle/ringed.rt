@@ -105,7 +105,7 @@ fn rob_ring<R: Threads + Wait + Sync>(
     Ok(())
 }
 
-// A pass for a thief.
+// Makes a pass for a thief.
 fn new_pass(ring: &Ring<Block>, home: &mut HomePass<Block>) -> Result<CorePass<Block>, NoMemory>
     requires within { home.old.table ≡ ring.now.id }
     ensures value { IfOk result (λ pass. pass.table ≡ ring.now.id) }

@@ -1,4 +1,4 @@
-//! Calls on a shard alone, and by one pass: nine reads to one write, of 1,024 keys with values of
+//! Calls on a shard, and by one pass: nine reads to one write, of 1,024 keys with values of
 //! 100 bytes.
 ghost use Rattle.std.specs.Prelude.{◌≡◌, ◌≤◌, ◌^◌, []};
 
@@ -11,14 +11,14 @@ use std::sync::Wait;
 use std::thread;
 use zy_base::NoMemory;
 
-// The key of a call.
+// Returns the key of a call.
 fn key_of(number: u64) -> u64
     ensures few { result ≤ 1023 }
 {
     number.wrapping_mul(6_364_136_223_846_793_005) >> 54
 }
 
-// Some call.
+// Makes some call.
 fn some_call(alloc: Global, number: u64) -> Result<Call, NoMemory> {
     let key = 1_000_000 + key_of(number);
     if number % 10 == 0 {
@@ -28,7 +28,7 @@ fn some_call(alloc: Global, number: u64) -> Result<Call, NoMemory> {
     }
 }
 
-// The tag of a call.
+// Returns the tag of a call.
 fn tag_of(conn: u32, index: u64) -> Tag
     ensures conn { result.conn ≡ conn }
 {
@@ -47,7 +47,7 @@ pub(crate) fn shard_alone(alloc: Global, calls: u64) -> Result<(), NoMemory> {
     made
 }
 
-// The same, on this shard.
+// Makes `calls` calls on this shard.
 fn apply_all(alloc: Global, shard: &mut Shard, calls: u64) -> Result<(), NoMemory> {
     for number in 0..calls {
         apply(shard, number, some_call(alloc, number)?)?;

@@ -9,7 +9,7 @@ use std::thread;
 use std::thread::Threads;
 use zy_base::NoMemory;
 
-/// One, two or four threads make `calls` calls each.
+/// Lets one, two or four threads make `calls` calls each.
 pub(crate) fn many<R: Threads + Wait + Sync>(
     rt: &R,
     alloc: Global,
@@ -25,7 +25,7 @@ pub(crate) fn many<R: Threads + Wait + Sync>(
     made
 }
 
-// The same, on this new store.
+// Lets threads make these calls on this new store.
 fn on_threads<R: Threads + Wait + Sync>(
     rt: &R,
     alloc: Global,
