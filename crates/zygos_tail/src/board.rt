@@ -18,7 +18,7 @@ pub(crate) struct Board<'a, R> {
 }
 
 impl<'a, R: Clock> Board<'a, R> {
-    /// A gate that was not passed yet, with the service times that were given.
+    /// Makes a gate that was not passed yet, with these service times.
     pub(crate) fn new(
         rt: &'a R,
         alloc: Global,
@@ -34,12 +34,12 @@ impl<'a, R: Clock> Board<'a, R> {
         })
     }
 
-    /// What it noted.
+    /// Returns what it noted.
     pub(crate) fn notes(&self) -> &Notes {
         &self.notes
     }
 
-    /// For how long commands were interrupted, in nanoseconds.
+    /// Returns for how long commands were interrupted, in nanoseconds.
     pub(crate) fn away(&self) -> u64 {
         self.away.load(Ordering::SeqCst)
     }
@@ -67,7 +67,8 @@ pub(crate) struct Spun {
     pub(crate) away: u64,
 }
 
-// A thread was interrupted where more nanoseconds than this lie between two looks at the clock.
+// A thread counts as interrupted when more nanoseconds than this pass between two looks at the
+// clock.
 const INTERRUPTED: u64 = 10_000;
 
 /// Spins from this time until that one.

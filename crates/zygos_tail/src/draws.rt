@@ -1,4 +1,4 @@
-//! Random numbers, and draws of an exponential distribution.
+//! Random numbers, and numbers of an exponential distribution.
 
 /// A generator of random numbers.
 #[derive(Clone, Copy, Drop)]
@@ -7,35 +7,36 @@ pub(crate) struct Draws {
 }
 
 impl Draws {
-    /// The draws of a number.
+    /// Makes the generator of a number.
     pub(crate) fn new(number: u64) -> Draws {
         Draws {
             state: mixed(number),
         }
     }
 
-    /// The next number.
+    /// Returns the next number.
     pub(crate) fn next(&mut self) -> u64 {
         self.state = self.state.wrapping_add(0x9E37_79B9_7F4A_7C15);
         mixed(self.state)
     }
 }
 
-/// The number with its bits mixed.
+/// Returns the number with its bits mixed.
 pub(crate) fn mixed(number: u64) -> u64 {
     let once = (number ^ (number >> 30)).wrapping_mul(0xBF58_476D_1CE4_E5B9);
     let twice = (once ^ (once >> 27)).wrapping_mul(0x94D0_49BB_1331_11EB);
     twice ^ (twice >> 31)
 }
 
-/// The draw of an exponential distribution with this mean, at most 2^40.
+/// Returns the number of an exponential distribution with this mean, at most 2^40, for a random
+/// number.
 pub(crate) fn exponential(draw: u64, mean: u64) -> u64 {
     // The natural logarithm of 2, times 2^16, is 45,426.
     let nats = halvings(draw).wrapping_mul(45_426) >> 16;
     mean.wrapping_mul(nats) >> 16
 }
 
-// How often 2^64 is halved to come to the draw, times 2^16.
+// Returns how often 2^64 is halved to come to the draw, times 2^16.
 fn halvings(draw: u64) -> u64 {
     let mut high = draw | 1;
     let mut count = 1u64;
@@ -49,7 +50,7 @@ fn halvings(draw: u64) -> u64 {
     (count << 16).wrapping_sub(fraction(high >> 32))
 }
 
-// The logarithm to base 2 of a number of 32 bits over 2^31, times 2^16.
+// Returns the logarithm to base 2 of a number of 32 bits over 2^31, times 2^16.
 fn fraction(number: u64) -> u64 {
     let mut number = number;
     let mut bits = 0u64;

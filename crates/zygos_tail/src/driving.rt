@@ -18,8 +18,8 @@ use zy_drive::{Driven, drive};
 use zy_park::Bells;
 use zy_setup::make_run;
 
-/// Serves the requests of a load on a thread for each core, with the service times that were given, and prints what
-/// came of them.
+/// Serves the requests of a load on a thread for each core, with these service times, and prints
+/// the results.
 pub(crate) fn run<R: Threads + Wait + Clock + Print + Sync>(
     rt: &R,
     alloc: Global,
@@ -34,7 +34,7 @@ pub(crate) fn run<R: Threads + Wait + Clock + Print + Sync>(
     ran
 }
 
-// The same, with this gate.
+// Serves the requests with this gate.
 fn run_gated<R: Threads + Wait + Clock + Print + Sync>(
     rt: &R,
     alloc: Global,
@@ -61,7 +61,7 @@ fn run_gated<R: Threads + Wait + Clock + Print + Sync>(
     printed
 }
 
-// Prints what came of the run, and for how long it was interrupted.
+// Prints the results of the run, and for how long it was interrupted.
 fn print_served<R: Clock + Print>(
     rt: &R,
     alloc: Global,
@@ -75,7 +75,7 @@ fn print_served<R: Clock + Print>(
     Ok(())
 }
 
-// The run was refused memory.
+// Ends a run in which an allocation failed.
 fn refused(cores: Cores) -> Result<(), NoMemory> {
     drop(cores);
     Err(NoMemory)

@@ -21,7 +21,7 @@ pub(crate) enum Stage {
     Ending(u32),
     // All was offered.
     Ended,
-    // An allocation was refused.
+    // An allocation failed.
     Broken,
 }
 
@@ -37,7 +37,7 @@ pub(crate) struct Arrivals<'a, R> {
 }
 
 impl<'a, R: Clock> Arrivals<'a, R> {
-    /// A feeder of these requests.
+    /// Makes a feeder of these requests.
     pub(crate) fn new(rt: &'a R, alloc: Global, inlets: Vec<Inlet>, times: Times) -> Arrivals<'a, R>
         ensures stage { result.stage ≡ Stages.Sending }
     {
@@ -50,7 +50,7 @@ impl<'a, R: Clock> Arrivals<'a, R> {
         }
     }
 
-    /// The requests.
+    /// Returns the requests.
     pub(crate) fn into_times(self) -> Times {
         let Arrivals {
             rt: _,
@@ -85,7 +85,7 @@ impl<'a, R: Clock> Arrivals<'a, R> {
         }
     }
 
-    // Offers a request to this core. If it is handed back it is made anew in the next step.
+    // Offers a request to this core. If it is handed back, the next step makes it again.
     fn offer(&mut self, core: u32, item: Rx) -> Fed
         ensures steps { StepSays self.old.inlets.items self.new.inlets.items self.new.stage result }
     {
@@ -106,7 +106,7 @@ impl<'a, R: Clock> Arrivals<'a, R> {
         }
     }
 
-    // Goes no further.
+    // Stops the feeder.
     fn stop(&mut self) -> Fed
         ensures steps { StepSays self.old.inlets.items self.new.inlets.items self.new.stage result }
     {

@@ -1,4 +1,4 @@
-//! What is asked of a run, and what is drawn of it.
+//! A requested load, and the random numbers of its requests.
 ghost use Rattle.std.specs.Prelude.{◌≤◌};
 
 use crate::draws::{Draws, exponential, mixed};
@@ -12,11 +12,11 @@ pub(crate) enum Shape {
     Exponential,
     /// One in ten is ten times as long as the others.
     Bimodal,
-    /// They are drawn from times that an input gives.
+    /// They are chosen at random from times that an input gives.
     Given,
 }
 
-/// What is asked of a run.
+/// A requested load.
 #[derive(Clone, Copy)]
 pub(crate) struct Load {
     pub(crate) cores: u32,
@@ -29,7 +29,7 @@ pub(crate) struct Load {
     pub(crate) gap: u64,
     /// The number of requests.
     pub(crate) count: u64,
-    /// From which all is drawn.
+    /// The number from which all random numbers are generated.
     pub(crate) number: u64,
 }
 
@@ -46,21 +46,22 @@ pub(crate) const SHARDS: u32 = 16;
 // The connections of each core.
 const EACH: u32 = 64;
 
-// Flow groups are dealt to the cores by turns.
+// Flow groups are dealt to the cores in turn.
 const GROUPS: u32 = 128;
 
 impl Load {
-    /// The time from one request to the next, in picoseconds.
+    /// Returns the time from one request to the next, in picoseconds.
     pub(crate) fn gap_of(&self, draw: u64) -> u64 {
         exponential(draw, self.gap)
     }
 
-    /// What the service time of the request with this place is drawn from.
+    /// Returns the random number for the service time of the request with this place.
     pub(crate) fn draw_of(&self, place: usize) -> u64 {
         mixed((place as u64) ^ mixed(self.number))
     }
 
-    /// The service time that is drawn; the mean if times were to be given and none was.
+    /// Returns the service time for a random number; the mean if times were to be given and none
+    /// was.
     pub(crate) fn service_of(&self, draw: u64) -> u64 {
         match self.shape {
             Shape::Fixed | Shape::Given => self.service,
@@ -76,7 +77,7 @@ impl Load {
         }
     }
 
-    /// A request.
+    /// Returns a request.
     pub(crate) fn request_of(&self, draws: &mut Draws) -> Request {
         let draw = draws.next() >> 8;
         let core = self.core_of(draw);
@@ -87,7 +88,7 @@ impl Load {
         }
     }
 
-    // The home core of a request.
+    // Returns the home core of a request.
     fn core_of(&self, draw: u64) -> u32 {
         let cores = u64::from(self.cores.max(1));
         if self.skewed && cores > 1 {
@@ -99,7 +100,7 @@ impl Load {
         (draw % cores) as u32
     }
 
-    // A connection of this core.
+    // Returns a connection of this core.
     fn conn_of(&self, core: u32, which: u32) -> u32 {
         let each = (GROUPS / self.cores.max(1)).max(1);
         (which / each)
@@ -108,24 +109,25 @@ impl Load {
             .wrapping_add(core)
     }
 
-    /// The number of connections; some may have no request.
+    /// Returns the number of connections; some may have no request.
     pub(crate) fn connections(&self) -> u32
         ensures few { result ≤ 4096 }
     {
         self.conn_of(self.cores, EACH - 1).min(4096)
     }
 
-    /// The home core of a connection.
+    /// Returns the home core of a connection.
     pub(crate) fn home_of(&self, conn: u32) -> u32 {
         conn % GROUPS % self.cores.max(1)
     }
 
-    /// The number of places of all requests.
+    /// Returns the number of places of all requests.
     pub(crate) fn places(&self) -> u64 {
         u64::from(self.connections()).saturating_mul(self.room())
     }
 
-    // The number of places of a connection's requests: more than come to any of them.
+    // Returns the number of places for a connection's requests, which is more than any connection
+    // has.
     fn room(&self) -> u64 {
         let cores = u64::from(self.cores.max(1));
         let part = if self.skewed { cores.min(2) } else { cores };
@@ -133,7 +135,7 @@ impl Load {
         mean.saturating_add(mean / 4).saturating_add(200)
     }
 
-    /// The place of a connection's request, by its index. Places beyond the last are none.
+    /// Returns the place of a connection's request, by its index. Places beyond the last are none.
     pub(crate) fn place_of(&self, conn: u32, index: u64) -> usize {
         if index >= self.room() {
             return usize::MAX;

@@ -1,4 +1,5 @@
-//! Serves requests that come at drawn times, on threads or in virtual time, and prints how long they took.
+//! Serves requests that come at random times, on threads or in virtual time, and prints how long
+//! they took.
 #![tactic(auto)]
 
 mod board;

@@ -14,7 +14,7 @@ pub(crate) struct Notes {
 }
 
 impl Notes {
-    /// Nothing is noted yet; with the service times that were given.
+    /// Begins with nothing noted, and with these service times.
     pub(crate) fn new(alloc: Global, load: Load, services: Vec<u64>) -> Result<Notes, NoMemory> {
         let ends = match atomic_zeros(alloc, load.places()) {
             Ok(ends) => ends,
@@ -38,7 +38,8 @@ impl Notes {
         }
     }
 
-    /// The service time of the command at this place: one of those that were given, if there are any.
+    /// Returns the service time of the command at this place: one of those that were given, if
+    /// there are any.
     pub(crate) fn service_of(&self, place: usize) -> u64 {
         let draw = self.load.draw_of(place);
         let given = (self.services.len() as u64).max(1);
@@ -48,24 +49,24 @@ impl Notes {
         }
     }
 
-    /// The command at this place ended at this time on this core.
+    /// Notes that the command at this place ended at this time on this core.
     pub(crate) fn note(&self, place: usize, core: u64, end: u64) {
         put(&self.ends, place, end);
         put(&self.cores, place, core);
     }
 
-    /// When the command at this place ended, in nanoseconds; 0 if it did not.
+    /// Returns when the command at this place ended, in nanoseconds; 0 if it did not.
     pub(crate) fn end(&self, place: usize) -> u64 {
         read(&self.ends, place)
     }
 
-    /// The core that carried it out.
+    /// Returns the core that executed the command at this place.
     pub(crate) fn core(&self, place: usize) -> u64 {
         read(&self.cores, place)
     }
 }
 
-/// This number of zeros.
+/// Makes a list of this number of zeros.
 pub(crate) fn atomic_zeros(alloc: Global, count: u64) -> Result<Vec<AtomicU64>, NoMemory> {
     let mut numbers = Vec::new(alloc);
     match add_zeros(&mut numbers, count) {
@@ -77,7 +78,7 @@ pub(crate) fn atomic_zeros(alloc: Global, count: u64) -> Result<Vec<AtomicU64>, 
     }
 }
 
-// Appends them.
+// Appends zeros.
 fn add_zeros(numbers: &mut Vec<AtomicU64>, count: u64) -> Result<(), NoMemory> {
     for _ in 0..count {
         numbers.push(AtomicU64::new(0))?;
@@ -85,7 +86,7 @@ fn add_zeros(numbers: &mut Vec<AtomicU64>, count: u64) -> Result<(), NoMemory> {
     Ok(())
 }
 
-/// The number at a place, and 0 where there is none.
+/// Reads the number at a place, and 0 if there is none.
 pub(crate) fn read(numbers: &[AtomicU64], place: usize) -> u64 {
     match numbers.get(place) {
         Some(number) => number.load(Ordering::SeqCst),

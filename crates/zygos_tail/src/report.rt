@@ -1,4 +1,4 @@
-//! What came of a run.
+//! The results of a run.
 use crate::load::Load;
 use crate::notes::Notes;
 use crate::times::{Times, zeros};
@@ -46,7 +46,7 @@ pub(crate) fn print_all<R: Print>(
     Ok(())
 }
 
-// Nothing was counted.
+// Begins with nothing counted.
 fn empty(alloc: Global) -> Result<Report, NoMemory> {
     let latencies = zeros(alloc, CLASSES)?;
     match zeros(alloc, 65) {
@@ -71,7 +71,7 @@ fn count_at(counts: &mut [u64], place: usize) {
     }
 }
 
-// The class of a latency.
+// Returns the class of a latency.
 fn class_of(nanos: u64) -> usize {
     let mut value = nanos;
     let mut class = 0u64;
@@ -144,7 +144,7 @@ impl Report {
         drop(holds);
     }
 
-    // Prints them.
+    // Prints all counts.
     fn print<R: Print>(&self, rt: &R, times: &Times) {
         let _ = println!(rt; "served {} away {}", self.served, self.away);
         let span = self.last.saturating_sub(times.begun());

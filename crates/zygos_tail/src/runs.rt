@@ -12,7 +12,8 @@ use std::thread::Threads;
 use std::time::Clock;
 use zy_base::NoMemory;
 
-/// Serves the requests of a load, and prints what came of them. Service times that are to be given come from the input.
+/// Serves the requests of a load, and prints the results. If service times are to be given, they
+/// come from the input.
 pub(crate) fn print_run<R: Threads + Wait + Clock + Print + Sync, I: Read>(
     rt: &R,
     alloc: Global,
@@ -24,7 +25,8 @@ pub(crate) fn print_run<R: Threads + Wait + Clock + Print + Sync, I: Read>(
     driving::run(rt, alloc, Load { cores, ..load }, services)
 }
 
-/// The same in virtual time: all cores on one thread, each with a clock of its own, which goes on by these prices.
+/// Serves them in virtual time: all cores on one thread, each with a clock of its own, which
+/// advances by these prices.
 pub(crate) fn print_virtual_run<R: Clock + Print, I: Read>(
     rt: &R,
     alloc: Global,
@@ -37,7 +39,7 @@ pub(crate) fn print_virtual_run<R: Clock + Print, I: Read>(
     virtual_time::run(rt, alloc, Load { cores, ..load }, services, prices)
 }
 
-// The service times that are given; none if they are drawn by themselves.
+// Reads the service times, if they are to be given; otherwise returns none.
 fn services_of<I: Read>(alloc: Global, load: Load, input: &mut I) -> Result<Vec<u64>, NoMemory> {
     match load.shape {
         Shape::Given => read_services(alloc, input),

@@ -1,4 +1,4 @@
-//! Service times that are given, from which those of commands are drawn.
+//! Service times that are given, from which those of commands are chosen at random.
 use std::alloc::Global;
 use std::io::Read;
 use zy_base::NoMemory;
@@ -6,7 +6,8 @@ use zy_base::NoMemory;
 // The most times that are kept.
 const MOST: usize = 1_048_576;
 
-/// The times of an input, in nanoseconds. Each has 4 bytes, the most significant first; more bytes are passed over.
+/// Reads the times of an input, in nanoseconds. Each has 4 bytes, the most significant first; bytes
+/// beyond these times are ignored.
 pub(crate) fn read_services<I: Read>(alloc: Global, input: &mut I) -> Result<Vec<u64>, NoMemory> {
     let mut times = Vec::new(alloc);
     match add_all(&mut times, input) {

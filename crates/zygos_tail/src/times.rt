@@ -15,7 +15,7 @@ pub(crate) struct Times {
     // The picoseconds from then until the next request is due.
     due: u64,
     left: u64,
-    // For how long the feeder was interrupted, in nanoseconds.
+    // Returns for how long the feeder was interrupted, in nanoseconds.
     away: u64,
     // By connection: the number of its requests.
     counts: Vec<u64>,
@@ -24,7 +24,7 @@ pub(crate) struct Times {
 }
 
 impl Times {
-    /// The requests of a load that begins now.
+    /// Makes the requests of a load that begins now.
     pub(crate) fn new(alloc: Global, load: Load) -> Result<Times, NoMemory> {
         let counts = zeros(alloc, u64::from(load.connections()))?;
         let dues = match zeros(alloc, load.places()) {
@@ -50,27 +50,27 @@ impl Times {
         })
     }
 
-    /// They begin at this time.
+    /// Lets the requests begin at this time.
     pub(crate) fn begin(&mut self, now: u64) {
         self.begin = now;
     }
 
-    /// Whether all were offered.
+    /// Checks whether all were offered.
     pub(crate) fn is_over(&self) -> bool {
         self.left == 0
     }
 
-    /// The next request.
+    /// Returns the next request.
     pub(crate) fn next(&self) -> Request {
         self.next
     }
 
-    /// When it is due, in nanoseconds.
+    /// Returns when the next request is due, in nanoseconds.
     pub(crate) fn due(&self) -> u64 {
         self.begin.saturating_add(self.due / 1_000)
     }
 
-    /// It was offered; the one after it is drawn.
+    /// Goes on after the next request was offered: generates the one after it.
     pub(crate) fn go_on(&mut self) {
         let due = self.due();
         let conn = self.next.conn;
@@ -87,33 +87,33 @@ impl Times {
         self.left = self.left.saturating_sub(1);
     }
 
-    /// The number of requests of a connection.
+    /// Returns the number of requests of a connection.
     pub(crate) fn count(&self, conn: u32) -> u64 {
         read(&self.counts, conn as usize)
     }
 
-    /// When the request at this place was due; 0 where there is none.
+    /// Returns when the request at this place was due; 0 if there is none.
     pub(crate) fn due_at(&self, place: usize) -> u64 {
         read(&self.dues, place)
     }
 
-    /// The feeder was interrupted for this long, in nanoseconds.
+    /// Adds the nanoseconds for which the feeder was interrupted.
     pub(crate) fn add_away(&mut self, nanos: u64) {
         self.away = self.away.saturating_add(nanos);
     }
 
-    /// For how long the feeder was interrupted, in nanoseconds.
+    /// Returns for how long the feeder was interrupted, in nanoseconds.
     pub(crate) fn away(&self) -> u64 {
         self.away
     }
 
-    /// When the run began.
+    /// Returns when the run began.
     pub(crate) fn begun(&self) -> u64 {
         self.begin
     }
 }
 
-/// So many numbers, each of them 0.
+/// Makes a list of this number of zeros.
 pub(crate) fn zeros(alloc: Global, count: u64) -> Result<Vec<u64>, NoMemory> {
     let mut numbers = Vec::new(alloc);
     match add_zeros(&mut numbers, count) {
@@ -125,7 +125,7 @@ pub(crate) fn zeros(alloc: Global, count: u64) -> Result<Vec<u64>, NoMemory> {
     }
 }
 
-// Appends them.
+// Appends zeros.
 fn add_zeros(numbers: &mut Vec<u64>, count: u64) -> Result<(), NoMemory> {
     for _ in 0..count {
         numbers.push(0)?;
@@ -133,7 +133,7 @@ fn add_zeros(numbers: &mut Vec<u64>, count: u64) -> Result<(), NoMemory> {
     Ok(())
 }
 
-// The number at a place, and 0 where there is none.
+// Reads the number at a place, and 0 if there is none.
 fn read(numbers: &[u64], place: usize) -> u64 {
     match numbers.get(place) {
         Some(number) => *number,

@@ -23,10 +23,10 @@ use zy_base::NoMemory;
 use zy_core::{Cores, Running};
 use zy_setup::make_run;
 
-/// What virtual time goes on by, and how many turns are measured and printed.
+/// The prices by which virtual time advances, and how many turns are measured and printed.
 #[derive(Clone, Copy)]
 pub(crate) struct Prices {
-    /// The nanoseconds that each thing costs which a turn does.
+    /// The nanoseconds that each thing costs that a turn does.
     pub(crate) parts: Parts,
     /// How long an idle core waits before it looks again.
     pub(crate) waits: Waits,
@@ -34,7 +34,7 @@ pub(crate) struct Prices {
     pub(crate) samples: u64,
 }
 
-/// Serves the requests of a load in virtual time, with the service times that were given, and prints what came of them.
+/// Serves the requests of a load in virtual time, with these service times, and prints the results.
 pub(crate) fn run<R: Clock + Print>(
     rt: &R,
     alloc: Global,
@@ -50,7 +50,7 @@ pub(crate) fn run<R: Clock + Print>(
     ran
 }
 
-// The same, with a place for what is noted.
+// Serves the requests with these notes.
 fn run_noted<R: Clock + Print>(
     rt: &R,
     alloc: Global,
@@ -70,7 +70,7 @@ fn run_noted<R: Clock + Print>(
     }
 }
 
-// Has the cores take their turns until all requests were executed, and prints what came of them.
+// Lets the cores take their turns until all requests were executed, and prints the results.
 fn serve<R: Clock + Print>(
     rt: &R,
     alloc: Global,
@@ -113,7 +113,7 @@ fn serve<R: Clock + Print>(
     printed
 }
 
-// Prints what came of the requests, and what the turns did.
+// Prints the results of the requests, and what the turns did.
 fn print_served<R: Print>(
     rt: &R,
     alloc: Global,

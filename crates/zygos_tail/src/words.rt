@@ -24,7 +24,7 @@ pub(crate) fn read_way<R: Env>(rt: &R) -> Option<Way> {
 
 /// Reads the load from the numbers after the first word: the cores; 1 if half of the load is on the first one; the
 /// shape of the service times, and their mean in nanoseconds; the picoseconds from one request to the next; the number
-/// of requests; and the number from which all is drawn.
+/// of requests; and the number from which all random numbers are generated.
 pub(crate) fn read_load<R: Env>(rt: &R) -> Load {
     Load {
         cores: number(rt, 2).max(1).min(64) as u32,
@@ -64,7 +64,7 @@ pub(crate) fn read_prices<R: Env>(rt: &R) -> Prices {
     }
 }
 
-// The way that a word names.
+// Returns the way that a word names.
 fn way_named(word: &[u8]) -> Option<Way> {
     match word {
         b"threads" => Some(Way::Threads),
@@ -73,7 +73,7 @@ fn way_named(word: &[u8]) -> Option<Way> {
     }
 }
 
-// The number that a word of the command line spells, or 0 if it spells none.
+// Reads a number from a word of the command line; 0 if it is none.
 fn number<R: Env>(rt: &R, place: usize) -> u64 {
     let mut buffer = [0u8; 20];
     match rt.arg(place, &mut buffer) {

@@ -12,8 +12,8 @@ pub(crate) struct Waits {
 }
 
 impl Waits {
-    // The wait after this number of idle turns in a row: 16 looks at once, four spins, and then yields, as a thread of
-    // `zy_drive` has them.
+    // Returns the wait after this number of idle turns in a row: 16 looks at once, four spins, and
+    // then yields, as a thread of `zy_drive` has them.
     fn after(&self, idle: u64) -> u64 {
         match idle {
             0..=16 => 0,
@@ -26,7 +26,7 @@ impl Waits {
     }
 }
 
-// After this number of idle turns the waits are all alike.
+// After this number of idle turns all waits are the same.
 const PATIENCE: u64 = 20;
 
 // The clock of a core: its time, the idle turns in a row, and how much had changed before the last of these.
@@ -48,7 +48,7 @@ pub(crate) struct Clocks {
 }
 
 impl Clocks {
-    /// The clocks of cores that begin at 0; an idle turn costs `look` nanoseconds.
+    /// Makes the clocks of cores that begin at 0; an idle turn costs `look` nanoseconds.
     pub(crate) fn new(
         alloc: Global,
         cores: u32,
@@ -70,7 +70,7 @@ impl Clocks {
         }
     }
 
-    /// The core with the least clock, the lowest one of several.
+    /// Returns the core with the least clock, the lowest one of several.
     pub(crate) fn least(&self) -> usize {
         let mut least = 0;
         let mut now = u64::MAX;
@@ -84,7 +84,7 @@ impl Clocks {
         least
     }
 
-    /// The time of a core.
+    /// Returns the time of a core.
     pub(crate) fn now(&self, core: usize) -> u64 {
         match self.items.get(core) {
             Some(clock) => clock.now,
@@ -92,12 +92,12 @@ impl Clocks {
         }
     }
 
-    /// Something changed that a core may find.
+    /// Notes that something changed that a core may find.
     pub(crate) fn change(&mut self) {
         self.changes = self.changes.saturating_add(1);
     }
 
-    /// A turn of this core worked until this time.
+    /// Notes that a turn of this core worked until this time.
     pub(crate) fn work(&mut self, core: usize, until: u64) {
         self.change();
         if let Some(clock) = self.items.get_mut(core) {
@@ -106,7 +106,7 @@ impl Clocks {
         }
     }
 
-    /// A turn of this core found nothing.
+    /// Notes that a turn of this core found nothing.
     pub(crate) fn look_on(&mut self, core: usize) {
         let seen = self.changes;
         if let Some(clock) = self.items.get_mut(core) {
@@ -115,7 +115,7 @@ impl Clocks {
         }
     }
 
-    /// Whether this core found nothing in its last turn, and nothing has changed since.
+    /// Checks whether this core found nothing in its last turn, and nothing has changed since.
     pub(crate) fn is_idle(&self, core: usize) -> bool {
         match self.items.get(core) {
             Some(clock) => clock.is_idle(self.changes),
@@ -123,7 +123,7 @@ impl Clocks {
         }
     }
 
-    /// The least clock of the cores that are not idle; the largest number if all are.
+    /// Returns the least clock of the cores that are not idle; the largest number if all are.
     pub(crate) fn least_busy(&self) -> u64 {
         let mut least = u64::MAX;
         for clock in &self.items {
@@ -134,7 +134,7 @@ impl Clocks {
         least
     }
 
-    /// The idle core looks on, and finds nothing, until its clock is at this time or after it.
+    /// Lets the idle core look on, and find nothing, until its clock is at this time or after it.
     pub(crate) fn wait(&mut self, core: usize, until: u64) {
         if let Some(clock) = self.items.get_mut(core) {
             clock.wait(self.look, self.waits, until);
@@ -147,14 +147,14 @@ impl Clock {
         self.idle > 0 && self.seen == changes
     }
 
-    // It took an idle turn, and waits.
+    // Takes an idle turn, and waits.
     fn look_on(&mut self, look: u64, waits: Waits) {
         self.idle = self.idle.saturating_add(1);
         let wait = look.saturating_add(waits.after(self.idle));
         self.now = self.now.saturating_add(wait.max(1));
     }
 
-    // It takes idle turns until this time.
+    // Takes idle turns until this time.
     fn wait(&mut self, look: u64, waits: Waits, until: u64) {
         for _ in 0..PATIENCE {
             if self.now < until {

@@ -23,7 +23,7 @@ pub(crate) struct Passed {
 }
 
 impl TurnGate {
-    /// A gate that was not passed yet.
+    /// Makes a gate that was not passed yet.
     pub(crate) fn new(alloc: Global) -> Result<TurnGate, NoMemory> {
         let conns = atomic_zeros(alloc, MOST)?;
         match atomic_zeros(alloc, MOST) {
@@ -39,17 +39,17 @@ impl TurnGate {
         }
     }
 
-    /// A turn begins.
+    /// Begins a turn.
     pub(crate) fn begin(&self) {
         self.count.store(0, Ordering::SeqCst);
     }
 
-    /// How many commands passed in this turn.
+    /// Returns how many commands passed in this turn.
     pub(crate) fn count(&self) -> u64 {
         self.count.load(Ordering::SeqCst).min(MOST)
     }
 
-    /// The command that passed after this number of others.
+    /// Returns the command that passed after this number of others.
     pub(crate) fn passed(&self, at: u64) -> Passed {
         Passed {
             conn: u32::try_from(read(&self.conns, at as usize)).unwrap_or(0),

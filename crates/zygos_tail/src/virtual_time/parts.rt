@@ -22,7 +22,7 @@ pub(crate) struct Parts {
 }
 
 impl Parts {
-    /// Nothing.
+    /// Makes the parts of a turn that does nothing.
     pub(crate) fn none() -> Parts {
         Parts {
             turns: 0,
@@ -36,7 +36,7 @@ impl Parts {
         }
     }
 
-    /// What all of it costs at these prices, in nanoseconds.
+    /// Returns what all of it costs at these prices, in nanoseconds.
     pub(crate) fn cost(&self, prices: &Parts) -> u64 {
         let home = cost_of(self.turns, prices.turns)
             .saturating_add(cost_of(self.items, prices.items))
@@ -61,7 +61,7 @@ impl Parts {
     }
 }
 
-// The cost of a number of things.
+// Returns the cost of a number of things.
 fn cost_of(count: u64, price: u64) -> u64 {
     count.saturating_mul(price)
 }

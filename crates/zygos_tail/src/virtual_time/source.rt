@@ -21,7 +21,7 @@ pub(crate) struct Source {
 }
 
 impl Source {
-    /// Requests of which none was offered. `waiting` is a zero for each core.
+    /// Begins with requests of which none was offered. `waiting` is a zero for each core.
     pub(crate) fn new(
         alloc: Global,
         inlets: Vec<Inlet>,
@@ -36,7 +36,7 @@ impl Source {
         }
     }
 
-    /// When the next request comes, in nanoseconds; the largest number if none is left.
+    /// Returns when the next request comes, in nanoseconds; the largest number if none is left.
     pub(crate) fn next_due(&self) -> u64 {
         if self.times.is_over() {
             return u64::MAX;
@@ -87,7 +87,7 @@ impl Source {
         }
     }
 
-    /// A turn of this core received what was in its ring. Returns how many items.
+    /// Notes that a turn of this core received what was in its ring. Returns the number of items.
     pub(crate) fn receive(&mut self, core: usize) -> u64 {
         match self.waiting.get_mut(core) {
             Some(waiting) => {
@@ -99,7 +99,7 @@ impl Source {
         }
     }
 
-    /// The requests.
+    /// Returns the requests.
     pub(crate) fn into_times(self) -> Times {
         let Source {
             alloc: _,

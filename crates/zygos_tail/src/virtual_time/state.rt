@@ -56,7 +56,7 @@ pub(crate) struct Served {
 }
 
 impl<'a> Run<'a> {
-    /// A run that begins.
+    /// Makes a run that begins.
     pub(crate) fn new(
         alloc: Global,
         load: Load,
@@ -99,7 +99,7 @@ impl<'a> Run<'a> {
         }
     }
 
-    /// The gate of the turns.
+    /// Returns the gate of the turns.
     pub(crate) fn gate(&self) -> &TurnGate {
         &self.gate
     }
@@ -126,7 +126,7 @@ impl<'a> Run<'a> {
         Ok(Next::Waited)
     }
 
-    /// A turn of this core was taken, which worked or found nothing: its clock goes on.
+    /// Advances the clock of this core after a turn, which worked or found nothing.
     pub(crate) fn settle(
         &mut self,
         core: usize,
@@ -152,7 +152,7 @@ impl<'a> Run<'a> {
         Ok(())
     }
 
-    // What a turn of this core did, except for its commands.
+    // Returns what a turn of this core did, except for its commands.
     fn parts_of(&mut self, core: usize, looks: &Looks) -> Parts {
         let mut parts = Parts {
             turns: 1,
@@ -175,7 +175,7 @@ impl<'a> Run<'a> {
         parts
     }
 
-    // The core has collected the blocks that thieves gave back. Returns how many.
+    // Notes that the core collected the blocks that thieves gave back. Returns their number.
     fn collect(&mut self, core: usize) -> u64 {
         match self.given.get_mut(core) {
             Some(given) => {
@@ -187,7 +187,7 @@ impl<'a> Run<'a> {
         }
     }
 
-    // The number of looks in a table.
+    // Returns the number of looks in a table.
     fn count_looks(&self, looks: &Looks) -> u64 {
         let mut count = 0u64;
         for core in 0..self.load.cores {
@@ -226,7 +226,7 @@ impl<'a> Run<'a> {
         end
     }
 
-    /// What is left of it.
+    /// Returns what is left of the run.
     pub(crate) fn into_served(self) -> Served {
         let Run {
             load: _,
@@ -251,7 +251,7 @@ impl<'a> Run<'a> {
     }
 }
 
-// What a run counts with, from the beginning.
+// The parts of a run at its beginning.
 #[derive(Drop)]
 struct Counters {
     gate: TurnGate,
@@ -296,7 +296,7 @@ impl Counters {
 }
 
 impl Served {
-    /// The requests.
+    /// Returns the requests.
     pub(crate) fn times(&self) -> &Times {
         &self.times
     }

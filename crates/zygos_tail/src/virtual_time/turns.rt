@@ -1,4 +1,4 @@
-//! Turns of the cores, each by the one with the least clock.
+//! Turns of the cores: the one with the least clock takes the next.
 ghost use Rattle.std.specs.Prelude.{◌≡◌, ◌<◌, length};
 ghost use Rattle.zy_core.specs.Core.{Fits, identity_of};
 ghost use Rattle.zy_core.specs.Cores.{identities, EachFits};
@@ -14,7 +14,7 @@ use zy_steal::Looks;
 // The most turns of a core.
 const TURN_LIMIT: u64 = 1 << 48;
 
-/// Has the cores take their turns until all requests were executed.
+/// Lets the cores take their turns until all requests were executed.
 pub(crate) fn take_turns<R: Clock>(
     rt: &R,
     cores: &mut Vec<Core>,
@@ -33,7 +33,7 @@ pub(crate) fn take_turns<R: Clock>(
     Ok(())
 }
 
-// A turn of this core, by whose cost its clock goes on.
+// Takes a turn of this core, and advances its clock by the turn's cost.
 fn take_turn<R: Clock>(
     rt: &R,
     cores: &mut Vec<Core>,
@@ -58,7 +58,8 @@ struct Timed {
     nanos: u64,
 }
 
-// A turn of one core between two looks at the clock, less the time from one such look to the next.
+// Takes a turn of one core between two looks at the clock, and measures it, without the time of
+// such a look.
 fn timed_turn<R: Clock>(
     rt: &R,
     core: &mut Core,
@@ -82,7 +83,7 @@ fn timed_turn<R: Clock>(
     })
 }
 
-// A turn of one core, if it may take one.
+// Takes a turn of one core, if it may take one.
 fn turn_one(
     core: &mut Core,
     shared: &Shared,
