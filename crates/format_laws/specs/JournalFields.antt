@@ -35,6 +35,7 @@ range Eight = 2 ^ 64
 
 -- ---- the fields of an entry that can be wrong
 
+-- a field of an entry
 pub data EntryField : Type 0 where
   Stamp : EntryField
   Shard : EntryField
@@ -114,6 +115,7 @@ IsLawfulUpTo field last e = IsNextEntry last e × HasField field e
 
 -- ---- the fields of a hold, which are numbers of four bytes
 
+-- a field of a hold
 pub data HoldField : Type 0 where
   OfConnection : HoldField
   OfCore : HoldField

@@ -59,6 +59,7 @@ pub record CallRow : Type 0 where
   pub counted : CountedAs
   pub acts : Acts
 
+-- the row with these parts
 abbrev pub call_row : ℕ → CallFields → CountedAs → Acts → CallRow
 call_row code fields counted acts = record { code = code; fields = fields; counted = counted; acts = acts }
 
@@ -98,6 +99,7 @@ pub record CallParts : Type 0 where
   pub number : Option ℕ
   pub value : Option (List ℕ)
 
+-- the parts of a call, of which it may lack some
 abbrev pub parts : CallKind → Option (List ℕ) → Option ℕ → Option ℕ → Option (List ℕ) → CallParts
 parts kind key flags number value = record { kind = kind; key = key; flags = flags; number = number; value = value }
 
@@ -116,16 +118,19 @@ parts_of (Calls.Delete key) = parts Delete (Some key) None None None
 parts_of Calls.Flush = parts Flush None None None None
 parts_of Calls.Tally = parts Tally None None None None
 
--- the key, or the empty one if there is none; the other parts likewise
+-- the key, or the empty one if there is none
 abbrev pub key_part : CallParts → List ℕ
 key_part call = unwrap_or call.key []
 
+-- the flags, or 0 if there are none
 abbrev pub flags_part : CallParts → ℕ
 flags_part call = unwrap_or call.flags 0
 
+-- the number, or 0 if there is none
 abbrev pub number_part : CallParts → ℕ
 number_part call = unwrap_or call.number 0
 
+-- the value, or the empty one if there is none
 abbrev pub value_part : CallParts → List ℕ
 value_part call = unwrap_or call.value []
 

@@ -77,6 +77,6 @@ alone_of name rest is = go (bytes_eq name (codes "mn")) (bytes_eq name (codes "m
     go false false false true is = delete_alone rest
     go false false false false is = refl
 
--- a line has a block only where its name is `ms`
+-- a line has a block only if its name is `ms`
 pub alone_line : (line name : List ℕ) (texts : List (List ℕ)) → words line ≡ name ∷ texts → bytes_eq name (codes "ms") ≡ false → block_of (meta_line line) ≡ None
 alone_line line name texts split is = let read = reads_as line name texts split in ap block_of read.said ∙ alone_of name read.rest is

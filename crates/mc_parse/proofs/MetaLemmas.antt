@@ -83,7 +83,7 @@ need_alone : (line : List ℕ) (said : MetaLine) → block_of said ≡ None → 
 need_alone line (Set key bytes flags unique mode marks) none = absurd (cc)
 need_alone line said none = refl
 
--- a line that begins with no name of another command needs a block only where it is a meta command that stores
+-- a line that begins with no name of another command needs a block only if it is a meta command that stores
 pub unstored_need : (line word : List ℕ) (ws : List (List ℕ)) → words line ≡ word ∷ ws → name_of word ≡ None → bytes_eq word (codes "ms") ≡ false → need_for (line_form line) ≡ Nothing
 unstored_need line word ws split none other = ap need_for (unnamed_form line word ws split none) ∙ need_alone line (meta_line line) (alone_line line word ws split other)
 

@@ -54,6 +54,7 @@ pub record CommandRow : Type 0 where
   pub deed : Deed
   pub says : Saying
 
+-- the row with this deed and this answer
 abbrev pub deed_row : Deed → Saying → CommandRow
 deed_row deed says = record { deed = deed; says = says }
 

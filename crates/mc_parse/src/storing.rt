@@ -129,8 +129,8 @@ fn four_words(text: &[u8]) -> Option<FourWords<'_>>
     })
 }
 
-// Checks whether the text is the word noreply, which asks for no answer, or no word; `None` if it
-// has other words.
+// Returns true if noreply is the only word of a text, false if it has no word, and `None` if it has
+// others.
 fn quiet_by(text: &[u8]) -> Option<bool>
     ensures value { result ≡ quiet_by (words text.now) }
 {

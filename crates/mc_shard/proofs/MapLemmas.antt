@@ -40,7 +40,7 @@ same_by key q Greater same is = cc
 pub same_at : (key q : List ℕ) → is_at (hashed_cmp key) q ≡ true → key ≡ q
 same_at key q is = same_by key q (slice_cmp nat_cmp key q) refl (alike key q ∙ is)
 
--- keys with the same hash are the same exactly where their bytes are
+-- keys with the same hash are the same if and only if their bytes are
 pub same_hash : (a b : List ℕ) → hash_of a ≡ hash_of b → eq_by_cmp hashed_cmp a b ≡ eq_by_cmp (slice_cmp nat_cmp) a b
 same_hash a b same =
     ap (λ o. is_eq (ordering_then o (slice_cmp nat_cmp a b))) (subst (λ (h : ℕ). nat_cmp (hash_of a) h ≡ Equal) same (tied_itself nat_cmp_total (hash_of a)))

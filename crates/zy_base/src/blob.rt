@@ -56,7 +56,7 @@ impl Blob {
         Ok(Blob { alloc, storage })
     }
 
-    /// The same bytes, which copies and parts share.
+    /// Makes a byte string of the same bytes, which its copies and parts share.
     #[inline(always)]
     pub fn shared_copy_of(alloc: Global, bytes: &[u8]) -> Result<Blob, NoMemory>
         ensures value { IfOk result (λ copy. copy ≡ bytes.now) }

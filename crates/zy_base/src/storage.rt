@@ -36,7 +36,7 @@ impl Storage {
         }
     }
 
-    // The same bytes; shared bytes are not copied.
+    // Copies the bytes, unless they are shared.
     pub(crate) fn copy(&self, alloc: Global) -> Result<Storage, NoMemory>
         requires within { IsWithin self.now }
         ensures value { IfOk result (λ copy. bytes_of copy ≡ bytes_of self.now) }

@@ -41,7 +41,7 @@ impl Output {
 
     /// Appends the texts of a batch, and sets the number of finished commands to the batch's. If
     /// allocation fails, the batch is handed back. The first batch is moved. The program calls
-    /// `take_texts`.
+    /// `take_texts` instead.
     pub fn carry_out(&mut self, batch: Batch) -> Result<(), (Batch, NoMemory)>
         ensures ok { OnOk result (self.new ≡ with_batch self.old batch) }
         ensures err { OnErr result (self.new ≡ self.old) }

@@ -21,6 +21,7 @@ BeginsWithRecord bytes = (item : Record) × ((rest : List ℕ) × (HasLength ite
 abbrev pub front_conn : List ℕ → ℕ
 front_conn bytes = number (get_or bytes 1 0 ∷ get_or bytes 2 0 ∷ get_or bytes 3 0 ∷ get_or bytes 4 0 ∷ [])
 
+-- the number of bytes of that segment
 abbrev pub front_size : List ℕ → ℕ
 front_size bytes = number (get_or bytes 5 0 ∷ get_or bytes 6 0 ∷ get_or bytes 7 0 ∷ get_or bytes 8 0 ∷ [])
 

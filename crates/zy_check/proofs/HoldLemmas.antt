@@ -73,7 +73,7 @@ sums_same count before h sums past are =
       each = λ conn below. are.each conn below ∙ sym (held_other conn before h (λ same. omega arith));
     }
 
--- a connection at its end is held exactly where its sum is the number of its commands
+-- a connection at its end is held if and only if its sum is the number of its commands
 held_exactly : (g : Given) (tracks : List Track) (count conn sum : ℕ) (hs : List Hold) (sums : List ℕ) (t : Track) → AreEnded g tracks → AreSums count hs sums → hs ≡ g.holds → conn < count
     → slice_get tracks conn ≡ Some t → get_or sums conn 0 ≡ sum → (sum ≡ t.commands → IsHeld g conn) × (IsHeld g conn → sum ≡ t.commands)
 held_exactly g tracks count conn sum hs sums t ended are holds below is sum_is =

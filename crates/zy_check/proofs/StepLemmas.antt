@@ -62,7 +62,7 @@ next_due_in g at e t b has begun few next =
     ∙ sym (next_due g e.tag.conn t.session t.cursor b t.commands t.compared t.answered.items (made_before g at e.tag.conn) h few)
     ∙ ap (slice_get (due_in g e.tag.conn)) (made_size g at e.tag.conn) ∙ next.call
 
--- so an entry is the call that is next exactly where it is next
+-- so an entry is the call that is next if and only if it is next
 pub next_exact : (g : Given) (at : ℕ) (e : Entry) (t : Track) (so : Bool) → e.tag.conn < length g.streams → HasMadeCalls g e.tag.conn t (made_before g at e.tag.conn) → IsAtCall t.begun
     → ((b : Begun) → t.begun ≡ Some b → (so ≡ true ↔ slice_get (due_at b.shards e.tag.conn t.commands b.command) (length b.replies) ≡ Some (due_of e))) → (so ≡ true ↔ IsNextCall g (take at g.entries) e)
 next_exact g at e t so within has call exact = go t.begun refl call

@@ -12,7 +12,7 @@ use Rattle.zy_command_line.proofs.Rows.{SameUse, same_use, rows_used}
 use Rattle.zy_command_line.proofs.Words.{option_in_is}
 use Rattle.zy_command_line.proofs.Turns.{Fails, IsWord, held, standing, turn_by, walk_by, faults, end_rows, faults_turn, rows_turn, S, stray, unknown, one_word, repeated, alone, missing, given, settled_turn, settled_again, end_waits, end_again, end_given}
 
--- the words have a fault exactly where they spell no options; otherwise they leave the rows of the
+-- the words have a fault if and only if they spell no options; otherwise they leave the rows of the
 -- options that they spell
 abbrev pub Outcome : Kinds → List Row → List Row → Option Options → Type 0
 Outcome ks after before None = Fails ks

@@ -48,6 +48,7 @@ abbrev pub order_from : ℕ → Option Word → Option (Option ℕ)
 order_from threads None = Some None
 order_from threads (Some word) = order_by threads (number_in 0 4294967295 word)
 
+-- the order of turns among the options of a run with `threads` threads
 abbrev pub order_of : ℕ → Options → Option (Option ℕ)
 order_of threads options = order_from threads (value_of (codes "order") options)
 
@@ -74,6 +75,7 @@ abbrev pub out_from : Option Word → Option Out
 out_from None = Some Replies
 out_from (Some word) = out_named word
 
+-- what is written, among the options
 abbrev pub out_of : Options → Option Out
 out_of options = out_from (value_of (codes "out") options)
 

@@ -48,6 +48,7 @@ IsBegunCommand shards (going command calls replies) = IsGoingOn shards command c
 
 -- ---- the work
 
+-- what the work of a connection keeps
 pub record KeepsCommands (work : Worked) : Type 0 where
   -- the event ring has 64 slots
   pub slots : work.ring.capacity ≡ 64

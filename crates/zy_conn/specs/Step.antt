@@ -62,18 +62,20 @@ CallStopsBy asked before after Spent = 2 ^ 40 ≤ length after.calls
 CallStopsBy asked before after (Busy shard loaded found) =
     WasBusy asked.shard before.trace after.trace shard loaded found
 
--- what came of a call that is the next one, of the replies and the pass before and after it
+-- one call, which is the next one, with the replies and the pass before and after it
 module _ (index : ℕ) (asked : ShardCall) (replies : List CallReply) (before : Passed) (replies' : List CallReply)
     (after : Passed) where
+  -- the result of making this call, which is the next one
   abbrev pub MakesThis : Made → Type 0
   MakesThis Call = (entry : Entry) × IsMadeAsPart before.conn index (length replies) asked entry
       × (after.calls ≡ before.calls ++ entry ∷ []) × (replies' ≡ replies ++ entry.reply ∷ [])
   MakesThis Done = ⊥
   MakesThis (Stopped end) = CallStopsBy asked before after end × (after.calls ≡ before.calls) × (replies' ≡ replies)
 
--- the effect of the next of these calls on the replies and the pass
+-- the next of these calls, with the replies and the pass before and after it
 module _ (index : ℕ) (calls : List ShardCall) (replies : List CallReply) (before : Passed) (replies' : List CallReply)
     (after : Passed) where
+  -- the result of making the next call
   abbrev pub Makes : Made → Type 0
   Makes Call = (asked : ShardCall) × (slice_get calls (length replies) ≡ Some asked)
       × (entry : Entry) × IsMadeAsPart before.conn index (length replies) asked entry

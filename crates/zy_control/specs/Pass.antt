@@ -11,6 +11,7 @@ pub record Controlled : Type 0 where
   pub id : TableId
   pub cores : ℕ
 
+-- the control words in this table, of this number of cores
 abbrev pub controlled : TableId → ℕ → Controlled
 controlled id cores = record { id = id; cores = cores }
 
@@ -20,6 +21,7 @@ pub record Rooted : Type 0 where
   pub given : ℕ
   pub cores : ℕ
 
+-- the root with these parts
 abbrev pub rooted : TableId → ℕ → ℕ → Rooted
 rooted table given cores = record { table = table; given = given; cores = cores }
 
@@ -30,6 +32,7 @@ pub record Held : Type 0 where
   pub cores : ℕ
   pub trace : Trace
 
+-- the pass with these parts
 abbrev pub held : TableId → Role → ℕ → Trace → Held
 held table role cores trace = record { table = table; role = role; cores = cores; trace = trace }
 

@@ -91,6 +91,7 @@ Covers a b = (i : ℕ) → bit_at a i ≡ 1 → bit_at b i ≡ 1
 
 -- ---- views
 
+-- the view with these parts
 abbrev pub view : Role → ℕ → Trace → View
 view role cores trace = record { role = role; cores = cores; trace = trace }
 
@@ -104,6 +105,7 @@ gave_one (Root given) = Root (given + 1)
 gave_one (Core number has announced) = Core number has announced
 gave_one Watcher = Watcher
 
+-- the view of the root after it gave one more seat
 abbrev pub gave : View → View
 gave v = view (gave_one v.role) v.cores v.trace
 

@@ -25,6 +25,7 @@ pub record Cored : Type 0 where
   pub control : control.Held
   pub turns : ℕ
 
+-- the core with these parts
 abbrev pub cored : Homed → Thief → PassList Blocked → Taking → control.Held → ℕ → Cored
 cored home thief passes outlet control turns =
     record { home = home; thief = thief; passes = passes; outlet = outlet; control = control; turns = turns }
@@ -83,6 +84,7 @@ pub record Identity : Type 0 where
   pub ring : RingName
   pub control : TableId
 
+-- the identity of a core
 abbrev pub identity_of : Cored → Identity
 identity_of c = record {
   core = c.home.core;

@@ -10,5 +10,6 @@ pub record Sharing : Type 0 where
   pub store : Stored
   pub control : Controlled
 
+-- these parts, as what all cores share
 abbrev pub sharing : List Ringed → Stored → Controlled → Sharing
 sharing rings store control = record { rings = rings; store = store; control = control }

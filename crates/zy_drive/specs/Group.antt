@@ -18,6 +18,7 @@ pub record Grouped : Type 0 where
   pub cores : List Cored
   pub done : Bool
 
+-- the group of these cores
 abbrev pub grouped : List Cored → Bool → Grouped
 grouped cores done = record { cores = cores; done = done }
 
@@ -113,6 +114,7 @@ pub record Resting : Type 0 where
   pub rest : ℕ
   pub idle : ℕ
 
+-- the right to rest with these parts
 abbrev pub resting_at : Bells → ℕ → ℕ → ℕ → Resting
 resting_at bells core rest idle = record { bells = bells; core = core; rest = rest; idle = idle }
 

@@ -17,6 +17,7 @@ abbrev pub seat_identities : Seat → List Identity
 seat_identities (Away handle) = identities handle.promise.before.value.cores
 seat_identities (Here group) = identities group.cores
 
+-- what stays of the cores of all seats
 abbrev pub all_of_seats : List Seat → List (List Identity)
 all_of_seats seats = map seat_identities seats
 

@@ -48,6 +48,7 @@ pub record Feeding (S : Type 0) : Type 0 where
   pub sents : List (List Rx)
   pub stage : Stage
 
+-- the feeder with these parts, by what was sent to its inlets
 abbrev pub feeding : {S : Type 0} → S → Intake → List Offering → Stage → Feeding S
 feeding source intake inlets stage = record { source = source; intake = intake; sents = sent_by inlets; stage = stage }
 
@@ -55,6 +56,7 @@ feeding source intake inlets stage = record { source = source; intake = intake; 
 abbrev pub feeder_state : {S : Type 0} → CaptureFeeder S → Feeding S
 feeder_state f = feeding f.source.now f.intake f.inlets f.stage
 
+-- the feeder of the code, in this stage
 abbrev pub in_stage : {S : Type 0} → CaptureFeeder S → Stage → Feeding S
 in_stage f stage = feeding f.source.now f.intake f.inlets stage
 

@@ -24,6 +24,7 @@ pub record Intake : Type 0 where
   pub reader : CaptureProgress
   pub left : List ℕ
 
+-- the intake with these parts
 abbrev pub in_pieces : CaptureProgress → List ℕ → Intake
 in_pieces reader left = record { reader = reader; left = left }
 

@@ -15,6 +15,7 @@ pub record Share : Type 0 where
   pub cores : ℕ
   pub count : ℕ
 
+-- the share with these parts
 abbrev pub share : ℕ → ℕ → ℕ → Share
 share core cores count = record { core = core; cores = cores; count = count }
 

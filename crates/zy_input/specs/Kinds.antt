@@ -50,6 +50,7 @@ abbrev pub MayKeep : List (List (List ℕ)) → Record → Type 0
 MayKeep streams (Kinds.Segment s) = s.conn < length streams
 MayKeep streams (Kinds.Close conn) = (conn < length streams) × (length (sessions_of streams conn) < 2 ^ 31)
 
+-- the kind of captures, with notes on their records
 abbrev pub capture_kind : {N : Type 0} → (N → ℕ → List Record → Type 0) → Kind (CapturePart N) (Noted N)
 capture_kind Holds =
     format_kind Captures.captures Captures.is_good (λ fault. Capture fault) (StandsForCapture Holds)
@@ -68,6 +69,7 @@ pub record StandsForJournalPart (until : Until) (part : JournalPart) (bytes : Li
   pub reader : StandsForJournal part.reader given bytes
   pub ends : part.until ≡ until
 
+-- the kind of journals, by where they end
 abbrev pub journal_kind : Until → Kind JournalPart Journal
 journal_kind until =
     format_kind Journals.journals (is_whole until) (λ fault. OfJournal fault) (StandsForJournalPart until)
@@ -92,6 +94,7 @@ abbrev pub HasOutputs : AllOutputs → List ℕ → Type 0
 HasOutputs outputs text =
     (Replies.verdict text ≡ Replies.Verdict.Good outputs.version (items_of outputs)) × AreOutputs outputs
 
+-- the kind of replies files
 abbrev pub replies_kind : Kind RepliesPart AllOutputs
 replies_kind = format_kind Replies.replies never (λ fault. OfReplies fault) StandsForRepliesPart HasOutputs
 
@@ -101,6 +104,7 @@ replies_kind = format_kind Replies.replies never (λ fault. OfReplies fault) Sta
 abbrev pub StandsForPackets : ℕ → PacketsPart → List ℕ → Type 0
 StandsForPackets port part bytes = (part.reader.port ≡ port) × StandsForFile part.reader bytes
 
+-- the kind of recorded packets, for a port
 abbrev pub packets_kind : ℕ → Kind PacketsPart (List (List (List ℕ)))
 packets_kind port =
     format_kind (recorded port) never (λ fault. Pcap fault) (StandsForPackets port)

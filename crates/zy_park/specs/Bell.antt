@@ -9,6 +9,7 @@ pub record Seated : Type 0 where
   pub table : TableId
   pub view : View
 
+-- the seat with these parts
 abbrev pub seated : TableId → View → Seated
 seated table view = record { table = table; view = view }
 
@@ -25,6 +26,7 @@ abbrev pub is_given : Option TableId → Bool
 is_given None = true
 is_given (Some table) = false
 
+-- which parkers were given
 abbrev pub given_of : List (Option TableId) → List Bool
 given_of sleepers = map is_given sleepers
 

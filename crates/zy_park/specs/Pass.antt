@@ -17,6 +17,7 @@ pub record Passed : Type 0 where
   pub core : ℕ
   pub views : List View
 
+-- the pass with these parts
 abbrev pub passed : Bells → ℕ → List View → Passed
 passed bells core views = record { bells = bells; core = core; views = views }
 
@@ -26,6 +27,7 @@ pub record Rooted : Type 0 where
   pub given : List Bool
   pub views : List View
 
+-- the root with these parts
 abbrev pub rooted : Bells → List Bool → List View → Rooted
 rooted bells given views = record { bells = bells; given = given; views = views }
 

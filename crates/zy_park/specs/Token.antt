@@ -10,6 +10,7 @@ worth false = 0
 
 -- ---- views
 
+-- the view with these parts
 abbrev pub view : ℕ → ℕ → Bool → Option Held → View
 view rung taken token lent = record { rung = rung; taken = taken; token = token; lent = lent }
 

@@ -2,10 +2,12 @@
 use Rattle.std.proofs.Common.{◌≡◌, ap, subst}
 use Rattle.std.specs.Prelude.{Option, Some, None, ⊤}
 
+-- there is no fault
 abbrev IsNone : {F : Type 0} → Option F → Type 0
 IsNone None = ⊤
 IsNone (Some fault) = ⊥
 
+-- the function of the fault, or another value if there is none
 abbrev or_else : {F D : Type 0} → (F → D) → D → Option F → D
 or_else broken other None = other
 or_else broken other (Some fault) = broken fault

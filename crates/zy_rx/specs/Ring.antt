@@ -12,6 +12,7 @@ pub record RingName : Type 0 where
   pub names : Names
   pub capacity : ℕ
 
+-- the ring with these parts
 abbrev pub ring_named : Ptr → Ptr → Names → ℕ → RingName
 ring_named words slots names capacity = record { words = words; slots = slots; names = names; capacity = capacity }
 
@@ -31,6 +32,7 @@ pub record RingOutlet (T : Type 0) : Type 0 where
 abbrev pub Offering : Type 0
 Offering = RingInlet Rx
 
+-- the end of a receive ring from which items are taken
 abbrev pub Taking : Type 0
 Taking = RingOutlet Rx
 

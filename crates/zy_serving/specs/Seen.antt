@@ -55,5 +55,6 @@ abbrev pub OfReported : Option (List ℕ) → Option (List ℕ) → (List ℕ �
 OfReported None after Holds = ⊤
 OfReported (Some bytes) after Holds = (after ≡ Some []) × Holds bytes
 
+-- the same of a source, before and after a call
 abbrev pub OfTold : Side → (List ℕ → Type 0) → Type 0
 OfTold source Holds = OfReported source.before source.after Holds

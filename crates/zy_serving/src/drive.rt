@@ -173,8 +173,9 @@ fn drive_threads<R: Threads + Wait + Sync, F: Feeder, G: Gate + Sync>(
     driven
 }
 
-// Returns who drives the first group. The caller does if no core rests and there are as many
-// threads as processors, so that none is left for a feeder on a thread of its own.
+// Returns who drives the first group. The caller does if there are several threads, no core rests,
+// and there are as many threads as processors, so that none is left for a feeder on a thread of its
+// own.
 fn first_group<R: Threads>(rt: &R, run: Run) -> FirstGroup
     ensures caller { result ≡ FirstGroup.Caller
         → (1 < run.threads) × (idle_turns_before_rest run.threads run.cores run.rest ≡ 0) }

@@ -25,6 +25,7 @@ pub record Ringed : Type 0 where
   pub id : TableId
   pub places : ℕ
 
+-- the ring in this table, with `places` places
 abbrev pub ringed : TableId → ℕ → Ringed
 ringed id places = record { id = id; places = places }
 

@@ -115,6 +115,7 @@ module _ {T M : Type 0} (mark : T → M) (label : T → Name) where
 
   -- ---- the rule
 
+  -- the rule of a ring's table
   pub record ShuffleRule (s : RingState T) : Type 0 where
     -- there are a head and a tail, a label, a holder for each place, and the mark that the home
     -- keeps for it

@@ -102,6 +102,7 @@ module _ {T : Type 0} where
 
   -- ---- what is learned: from the step, the seat before, the number found, to the seat after
 
+  -- the head was loaded
   abbrev pub saw_head : Step (Option T) → Seated T → ℕ → Seated T → Type 0
   saw_head st m r n = n ≡ (traced (head_step r) m.0, m.1)
 
@@ -110,24 +111,31 @@ module _ {T : Type 0} where
   saw_tail st m r n = (u : ℕ) × (n ≡ (traced (tail_step r u) m.0, m.1)) × (m.0.trace.head.value ≤ u) × (u ≤ r)
       × (st.slots ≡ 0 → r ≡ 0)
 
+  -- the cell of the head that was seen was loaded
   abbrev pub saw_cell : Step (Option T) → Seated T → ℕ → Seated T → Type 0
   saw_cell st m r n = n ≡ (noting m.0.trace.head.value r m.0, m.1)
 
+  -- the place whose slot came to the front was stored in the next cell
   abbrev pub stored_cell : Step (Option T) → Seated T → Seated T → Type 0
   stored_cell st m n = n ≡ (storing st.first m.0, emptied (st.first ∷ without st.first m.0.hand))
 
+  -- the head was loaded, and the slot of this place came to the front
   abbrev pub fronted : ℕ → Seated T → ℕ → Seated T → Type 0
   fronted p m r n = n ≡ (fronting p r m.0, emptied (p ∷ without p m.0.hand))
 
+  -- the place in front was given back
   abbrev pub gave : Seated T → Seated T → Type 0
   gave m n = (since : ℕ × List Event) × (n ≡ (giving since m.0 m.1, rest m.1)) × MayFollow since m.0.trace
 
+  -- a doorbell word was loaded
   abbrev pub saw_bells : Step (Option T) → Seated T → ℕ → Seated T → Type 0
   saw_bells st m r n = n ≡ (noting_bells (st.word - (32 + st.slots)) r m.0, m.1)
 
+  -- the first load named the ring's label and took all slots
   abbrev pub named_as : Name → Step (Option T) → Seated T → Type 0
   named_as name st n = n ≡ (naming name st.slots, emptied (below_then st.slots []))
 
+  -- the last load closed the home
   abbrev pub closed : Seated T → Seated T → Type 0
   closed m n = n ≡ (closing m.0, [])
 
@@ -136,6 +144,7 @@ module _ {T : Type 0} where
     abbrev pub next_publication : View T → List Event
     next_publication v = publication before (first_of v.hand) (marked mark (first_of v.hand) v.kept)
 
+    -- the place in front was published
     abbrev pub published : Seated T → Seated T → Type 0
     published m n = (since : ℕ × List Event) × (n ≡ (publishing since (next_publication m.0) m.0 m.1, rest m.1))
         × MayFollow since m.0.trace
@@ -154,6 +163,7 @@ module _ {T : Type 0} where
         × Comes st.slots m.0 (noted_place m.0) b × MayFollow since m.0.trace)
         × (r ≢ st.first → n ≡ (traced (try_step r) m.0, m.1))
 
+    -- the home collected the place of the lowest bit that it noted
     abbrev pub collected : Step (Option T) → Seated T → Seated T → Type 0
     collected st m n = (b : T) × (since : ℕ × List Event)
         × (n ≡ (collecting (rung_place m.0.role) b since m.0, (rung_place m.0.role, Some b) ∷ m.1))

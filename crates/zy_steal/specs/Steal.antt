@@ -19,6 +19,7 @@ pub record PassList (T : Type 0) : Type 0 where
   pub core : ℕ
   pub items : List (Held T)
 
+-- the passes of this core
 abbrev pub pass_list : {T : Type 0} → ℕ → List (Held T) → PassList T
 pass_list core items = record { core = core; items = items }
 
@@ -28,6 +29,7 @@ pub record Thief : Type 0 where
   pub cores : ℕ
   pub calls : ℕ
 
+-- the thief with these numbers
 abbrev pub thief : ℕ → ℕ → ℕ → Thief
 thief core cores calls = record { core = core; cores = cores; calls = calls }
 

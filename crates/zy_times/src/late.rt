@@ -57,7 +57,7 @@ fn end_of(spans: &Spans, entry: &Entry) -> Option<u32>
     spans.ends[entry.tag.conn as usize][entry.tag.index as usize]
 }
 
-// Returns the end, if it is not after a moment.
+// Returns the end, if it is before a moment.
 fn end_before(end: Option<u32>, latest: u32) -> Option<u32>
     ensures some { (moment : ℕ) → result ≡ Some moment → (end ≡ Some moment) × (moment < latest) }
     ensures none { result ≡ None → (moment : ℕ) → end ≡ Some moment → latest ≤ moment }

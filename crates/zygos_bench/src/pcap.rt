@@ -8,7 +8,8 @@ use std::time::CpuClock;
 use zy_base::NoMemory;
 use zy_pcap::{Fed, PcapReader, write_flows};
 
-/// Packets to port 11,211 to the end of the input, counted in bytes of the capture.
+/// Times the reading of packets to port 11,211 to the end of the input, counted in bytes of the
+/// capture.
 pub(crate) fn measured<R: CpuClock, I: Read>(
     rt: &R,
     alloc: Global,

@@ -11,7 +11,7 @@ use std::alloc::Global;
 use std::time::CpuClock;
 use zy_base::NoMemory;
 
-/// `calls` calls on `keys` keys, at most 1,000,000.
+/// Times `calls` calls on `keys` keys, at most 1,000,000.
 pub(crate) fn measured<R: CpuClock>(
     rt: &R,
     alloc: Global,

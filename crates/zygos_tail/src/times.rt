@@ -15,7 +15,7 @@ pub(crate) struct Times {
     // The picoseconds from then until the next request is due.
     due: u64,
     left: u64,
-    // Returns for how long the feeder was interrupted, in nanoseconds.
+    // For how long the feeder was interrupted, in nanoseconds.
     away: u64,
     // By connection: the number of its requests.
     counts: Vec<u64>,

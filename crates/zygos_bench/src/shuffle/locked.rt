@@ -31,7 +31,7 @@ impl Queues {
     }
 }
 
-// A place is published and claimed, `rounds` times.
+// Publishes a place and claims it, `rounds` times.
 pub(crate) fn alone<R: Wait>(rt: &R, alloc: Global, rounds: u64) -> Result<(), NoMemory> {
     let queues = Mutex::new(Queues::new(alloc)?);
     let mut place = 0;
@@ -42,7 +42,7 @@ pub(crate) fn alone<R: Wait>(rt: &R, alloc: Global, rounds: u64) -> Result<(), N
     Ok(())
 }
 
-// Each place that comes back is published again, `rounds` times, while `thieves` thieves claim.
+// Publishes each place that comes back, `rounds` times, while `thieves` thieves claim.
 pub(crate) fn robbed<R: Threads + Wait + Sync>(
     rt: &R,
     alloc: Global,
@@ -60,7 +60,7 @@ pub(crate) fn robbed<R: Threads + Wait + Sync>(
     Ok(())
 }
 
-// The work of the home.
+// Does the work of the home.
 fn tend<R: Wait>(rt: &R, queues: &Mutex<Queues>, rounds: u64, stop: &AtomicBool) {
     let mut done = 0u64;
     for _ in rt.forever() {
@@ -85,7 +85,7 @@ fn publish_again<R: Wait>(rt: &R, queues: &Mutex<Queues>) -> bool {
     }
 }
 
-// `thieves` thieves, at most three.
+// Lets `thieves` thieves steal, at most three.
 fn rob_all<R: Threads + Wait + Sync>(
     rt: &R,
     queues: &Mutex<Queues>,
@@ -105,7 +105,7 @@ fn rob_all<R: Threads + Wait + Sync>(
     }
 }
 
-// Two thieves.
+// Lets two thieves steal.
 fn rob_both<R: Threads + Wait + Sync>(rt: &R, queues: &Mutex<Queues>, stop: &AtomicBool) {
     thread::join(
         rt,
@@ -114,7 +114,7 @@ fn rob_both<R: Threads + Wait + Sync>(rt: &R, queues: &Mutex<Queues>, stop: &Ato
     );
 }
 
-// A thief claims and gives back, until the home has ended and nothing is left.
+// Claims and gives back as a thief, until the home has ended and nothing is left.
 fn rob<R: Wait>(rt: &R, queues: &Mutex<Queues>, stop: &AtomicBool) {
     for _ in rt.forever() {
         let claimed = queues.lock(rt).ready.pop_front();

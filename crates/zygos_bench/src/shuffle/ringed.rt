@@ -31,7 +31,7 @@ impl Marked for Block {
     ghost label = { λ b. no_name };
 }
 
-// The home publishes a place and claims it, `rounds` times.
+// Publishes a place and claims it as the home, `rounds` times.
 pub(crate) fn alone(alloc: Global, rounds: u64) -> Result<(), NoMemory>
     requires few { rounds ≤ 2 ^ 40 }
 {
@@ -42,7 +42,7 @@ pub(crate) fn alone(alloc: Global, rounds: u64) -> Result<(), NoMemory>
     Ok(())
 }
 
-// The same, on this new ring.
+// Publishes and claims on this new ring.
 fn publish_and_claim(ring: &Ring<Block>, home: &mut HomePass<Block>, rounds: u64)
     requires within { home.old.table ≡ ring.now.id }
     requires all { HasAll 64 home.old.hand }
@@ -61,7 +61,7 @@ fn publish_and_claim(ring: &Ring<Block>, home: &mut HomePass<Block>, rounds: u64
     }
 }
 
-// The home publishes each place that comes back, `rounds` times, while `thieves` thieves claim from it.
+// Publishes each place that comes back, `rounds` times, while `thieves` thieves claim.
 pub(crate) fn robbed<R: Threads + Wait + Sync>(
     rt: &R,
     alloc: Global,
@@ -77,7 +77,7 @@ pub(crate) fn robbed<R: Threads + Wait + Sync>(
     done
 }
 
-// The same, on this ring.
+// Publishes and lets thieves claim on this ring.
 fn rob_ring<R: Threads + Wait + Sync>(
     rt: &R,
     ring: &Ring<Block>,
@@ -127,7 +127,7 @@ fn publish_all(ring: &Ring<Block>, home: &mut HomePass<Block>)
     }
 }
 
-// The work of the home.
+// Does the work of the home.
 fn tend<R: Wait>(
     rt: &R,
     ring: &Ring<Block>,
@@ -154,7 +154,7 @@ fn tend<R: Wait>(
     stop.store(true, Ordering::SeqCst);
 }
 
-// `thieves` thieves, at most three.
+// Lets `thieves` thieves steal, at most three.
 fn rob_all<R: Threads + Wait + Sync>(
     rt: &R,
     ring: &Ring<Block>,
@@ -183,7 +183,7 @@ fn rob_all<R: Threads + Wait + Sync>(
     }
 }
 
-// Two thieves.
+// Lets two thieves steal.
 fn rob_both<R: Threads + Wait + Sync>(
     rt: &R,
     ring: &Ring<Block>,
@@ -204,7 +204,7 @@ fn rob_both<R: Threads + Wait + Sync>(
     );
 }
 
-// A thief claims and gives back, until the home has ended and nothing is left.
+// Claims and gives back as a thief, until the home has ended and nothing is left.
 fn rob<R: Wait>(rt: &R, ring: &Ring<Block>, mut pass: CorePass<Block>, stop: &AtomicBool)
     requires within { pass.table ≡ ring.now.id }
 {

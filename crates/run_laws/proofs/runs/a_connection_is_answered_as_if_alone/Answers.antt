@@ -1,4 +1,4 @@
--- proofs/runs/a_connection_is_answered_as_if_alone/Answers.antt
+-- The proof of the law `a_connection_is_answered_as_if_alone`.
 use Rattle.run_laws.proofs.AloneLemmas.{outputs-alone}
 use Rattle.run_laws.proofs.runs.a_connection_is_answered_as_if_alone.Goals as goal
 

@@ -1,4 +1,4 @@
--- proofs/runs/the_worked_capture_is_apart/Answers.antt
+-- The proof of the law `the_worked_capture_is_apart`.
 use Rattle.std.proofs.Common.{◌≡◌, sym, refl, ◌∙◌, arith}
 use Rattle.std.specs.Fmt.{digits}
 use Rattle.mc_parse.specs.Words.{words}

@@ -1,4 +1,4 @@
--- proofs/traffic/generated_traffic_is_apart/Answers.antt
+-- The proof of the law `generated_traffic_is_apart`.
 use Rattle.zy_gen.proofs.ApartLemmas.{traffic_apart}
 use Rattle.run_laws.proofs.traffic.generated_traffic_is_apart.Goals as goal
 

@@ -1,4 +1,4 @@
--- proofs/traffic/runs_of_generated_traffic_have_the_same_outputs/Answers.antt
+-- The proof of the law `runs_of_generated_traffic_have_the_same_outputs`.
 use Rattle.zy_run.specs.Commands.{streams_in}
 use Rattle.zy_gen.specs.Traffic.{traffic_records}
 use Rattle.zy_run.proofs.RunLemmas.{all_outputs-same}

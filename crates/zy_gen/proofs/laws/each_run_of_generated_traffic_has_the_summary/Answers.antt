@@ -1,4 +1,4 @@
--- proofs/laws/each_run_of_generated_traffic_has_the_summary/Answers.antt
+-- The proof of the law `each_run_of_generated_traffic_has_the_summary`.
 use Rattle.zy_run.specs.Commands.{streams_in}
 use Rattle.zy_gen.specs.Traffic.{traffic_records}
 use Rattle.zy_run.proofs.SummaryLemmas.{summary-run}
