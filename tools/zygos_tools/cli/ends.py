@@ -11,7 +11,7 @@ import signal
 import sys
 import tempfile
 import traceback
-from collections.abc import Callable, Iterable
+from collections.abc import Callable, Container, Iterable
 from typing import Any, NoReturn
 
 from zygos_tools.cli.screen import say
@@ -72,10 +72,12 @@ def number(least: int, most: int | None = None) -> Option:
     return f"a number of {least} or more" if most is None else f"a number from {least} to {most}", read_number
 
 
-def options(words: Iterable[str], known: dict[str, Option | None]) -> tuple[dict[str, Any], list[str]]:
+def options(words: Iterable[str], known: dict[str, Option | None],
+            several: Container[str] = ()) -> tuple[dict[str, Any], list[str]]:
     """The values of the options among the words, by their names, and the other words, which are the files.
 
-    `known` has the options of the tool. One that takes nothing has None there, and then the value True.
+    `known` has the options of the tool. One that takes nothing has None there, and then the value True. Those of `several`
+    may be given more than once, and have a list of values.
     """
     found: dict[str, Any] = {}
     files: list[str] = []
@@ -92,7 +94,8 @@ def options(words: Iterable[str], known: dict[str, Option | None]) -> tuple[dict
         elif (option := known[name]) is not None:
             if not joined and rest and rest[0].startswith("--"):
                 stop(f"{name} takes {option[0]}, not {rest[0]}", 2)
-            found[name] = value_of(name, option, [value] if joined else rest)
+            one = value_of(name, option, [value] if joined else rest)
+            found[name] = [*found.get(name, ()), one] if name in several else one
         elif joined:
             stop(f"{name} takes no value", 2)
         else:
