@@ -11,6 +11,7 @@ import tempfile
 import threading
 import unittest
 
+import forked
 from zygos_tools.repository import TOP
 
 
@@ -129,6 +130,14 @@ def built_program():
 
 
 def run(tool, *words, given=b"", **more):
+    """Carries out a tool: in a fork of this process if that can be, else by itself."""
+    if not more and forked.can_be_forked(tool):
+        return forked.run(tool, words, given)
+    return started(tool, *words, given=given, **more)
+
+
+def started(tool, *words, given=b"", **more):
+    """Carries out a tool as a command."""
     return subprocess.run([path_of(tool), *words], input=given, capture_output=True, timeout=600, check=False, **more)
 
 

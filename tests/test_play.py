@@ -5,18 +5,13 @@ import signal
 import subprocess
 import unittest
 
-from checks import TOP, built_program, cases, fail, program_path, same
+from checks import TOP, built_program, cases, fail, program_path, run, same
 from traffic import (Recorder, Server, at_once, connected, files_of, free_port, memcached, patched, take, talk,
                      until)
 from zygos_tools.files.formats import capture, close, pieces, read_replies, replies, segment, sessions
 from zygos_tools.files.part import Part
 from zygos_tools.protocol.pace import Pace
 
-
-
-def run(tool, *words, given=b""):
-    return subprocess.run([os.path.join(TOP, "tools", tool), *words], input=given, capture_output=True, timeout=600,
-                          check=False)
 
 
 def played(name, server, given, *words, status=0):
