@@ -129,16 +129,17 @@ def built_program():
     return program_path()
 
 
-def run(tool, *words, given=b"", **more):
-    """Carries out a tool: in a fork of this process if that can be, else by itself."""
-    if not more and forked.can_be_forked(tool):
-        return forked.run(tool, words, given)
-    return started(tool, *words, given=given, **more)
+def run(tool, *words, given=b"", environment=None):
+    """Carries out a tool: in a fork of this process if that can be, else as a command."""
+    if forked.can_be_forked(tool):
+        return forked.run(tool, words, given, environment)
+    return started(tool, *words, given=given, environment=environment)
 
 
-def started(tool, *words, given=b"", **more):
+def started(tool, *words, given=b"", environment=None):
     """Carries out a tool as a command."""
-    return subprocess.run([path_of(tool), *words], input=given, capture_output=True, timeout=600, check=False, **more)
+    return subprocess.run([path_of(tool), *words], input=given, capture_output=True, timeout=600, check=False,
+                          env={**os.environ, **(environment or {})})
 
 
 def prints(name, wanted, tool, *words, given=b"", status=0):

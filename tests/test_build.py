@@ -6,7 +6,7 @@ import subprocess
 import tempfile
 import unittest
 
-from checks import TOP, cases, same
+from checks import TOP, cases, run, same
 from traffic import until
 
 # a stand-in of rt, which notes what it is called for; the proofs of `ci` go on while there is a file `hold`, until somebody
@@ -226,19 +226,28 @@ SCRIPTS = ("check crowd instructions pairs report scale serve simulate tail shar
            " shuffle hold home").split()
 
 
+def says(name, ran, status, line):
+    """A command has ended with this status, and a line that begins like this."""
+    same(name, (status, line.encode()), (ran.returncode, ran.stderr[: len(line)]))
+
+
 @in_repository
 def benches(one):
     """Words of the scripts of bench prove nothing: rt is not started."""
     one.furnish()
+    def bench(*words):
+        return run("../bench/run", *words, environment={**one.environment(), "PATH": f"{one.path('bin')}:{os.environ['PATH']}"})
+
     for what in SCRIPTS:
-        one.says(f"bench/run {what} --help", f"usage: bench/run {what}",
-                 f"bench/run {what} --help 2>&1 | grep -o -m 1 'usage: bench/run [a-z]*'")
-        one.says(f"an unknown word of bench/run {what}",
-                 f"bench/run {what}: unrecognized arguments: --what; --help says more", f"bench/run {what} --what 2>&1")
+        ran = bench(what, "--help")
+        same(f"bench/run {what} --help", (0, True), (ran.returncode, f"usage: bench/run {what}\n".encode() in ran.stdout or
+                                                    f"usage: bench/run {what} ".encode() in ran.stdout))
+        says(f"an unknown word of bench/run {what}", bench(what, "--what"), 2,
+             f"bench/run {what}: unrecognized arguments: --what; --help says more\n")
     for what in ("shard", "scale"):
-        one.says(f"a program of bench/run {what} that isn't there", f"bench/run {what}: /no/program: no program",
-                 f"bench/run {what} /no/program 2>&1")
-    one.says("what bench/run does not know", "bench/run: rnu: not known, but one of:", "bench/run rnu 2>&1 | cut -d ' ' -f 1-7")
+        says(f"a program of bench/run {what} that isn't there", bench(what, "/no/program"), 1,
+             f"bench/run {what}: /no/program: no program\n")
+    says("what bench/run does not know", bench("rnu"), 2, "bench/run: rnu: not known, but one of:")
     same("the scripts of bench proved nothing", False, os.path.exists(one.path("order")))
 
 

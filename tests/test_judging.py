@@ -298,9 +298,9 @@ def a_nul_is_warned_of():
 
 def flushes_are_kept_once():
     """Of many flushes only those count for a key that overlap its calls, and one between two of them."""
-    flushes = [b"flush_all\r\n"] * 40
+    flushes = [b"flush_all\r\n"] * 12
     sent = [*flushes, b"set x 0 0 1\r\n1\r\n", *flushes, b"get x\r\n", *flushes]
-    told = b"OK\r\n" * 40 + b"STORED\r\n" + b"OK\r\n" * 40 + b"END\r\n" + b"OK\r\n" * 40
+    told = b"OK\r\n" * 12 + b"STORED\r\n" + b"OK\r\n" * 12 + b"END\r\n" + b"OK\r\n" * 12
     records = [record for text in sent for record in (segment(0, text), segment(0, b""))]
     judge = Judge(capture(1, records), outputs_of(replies([told])))
     same("the calls on a key", 4, len(judge.keys.numbers(b"x")))

@@ -250,7 +250,7 @@ def hostile_answers():
 
 def deep_pipelines():
     """Clients that send up to 5,000 commands before they read an answer."""
-    for count in (100, 400, 2000, 5000):
+    for count in (400, 5000):
         asked = [b"".join(b"get k%d\r\n" % (at % 7) for at in range(count)),
                  b"".join(b"set k%d 0 0 1\r\n%d\r\n" % (at % 7, at % 10) for at in range(count // 10))]
         hits = b"".join(b"VALUE k%d 0 1\r\n%d\r\nEND\r\n" % (at % 7, at % 10) if at % 3 else b"END\r\n" for at in range(count))

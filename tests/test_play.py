@@ -16,7 +16,7 @@ from zygos_tools.protocol.pace import Pace
 
 def played(name, server, given, *words, status=0):
     """What is written when a capture is played, and what is said besides times."""
-    wait = () if "--wait" in words else ("--wait", "60")
+    wait = () if "--wait" in words else ("--wait", "600")
     ran = run("play", "-", "--server", server.place, *wait, *words, given=given)
     said = re.sub(r" in [0-9.]+ s\n", "\n", ran.stderr.decode())
     said = re.sub(r"tools/play: answered within: .*\n", "", said)
@@ -181,7 +181,7 @@ def held_back():
         with Server() as server:
             recorder = Recorder(server.place)
             given = capture(1, pieces(0, text, 1))
-            ran = run("play", "-", "--server", recorder.place, "--wait", "60", given=given)
+            ran = run("play", "-", "--server", recorder.place, "--wait", "600", given=given)
             recorder.end()
             same(f"what is sent of {text}", {(0, 0): text}, files_of()[0])
             same(f"what is answered to {text}", replies([b"MN\r\n"]), ran.stdout)

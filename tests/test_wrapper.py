@@ -67,11 +67,11 @@ def is_running(process):
 
 
 def wait_for(condition):
-    """Waits until a condition holds; a test fails that waits for a minute."""
+    """Waits until a condition holds; a test fails that waits for ten minutes."""
     end = time.monotonic() + LONG
     while not condition():
         if time.monotonic() > end:
-            raise AssertionError("nothing came in a minute")
+            raise AssertionError(f"nothing came in {LONG} seconds")
         time.sleep(0.02)
 
 
@@ -170,7 +170,7 @@ class Stopped(Wrapper):
             for words in (("zygos", "check"), ("zygos", "build"), ("tools/build", "zygos")):
                 with self.subTest(number=number, words=words):
                     self.assertEqual("zygos: stopped\n", self.stop(number, *words))
-                    self.assertEqual([], [process for process in self.started() if is_running(process)])
+                    wait_for(lambda: not any(map(is_running, self.started())))
                     self.assertEqual([], os.listdir(self.temporary))
 
     def test_a_watch_ends_whose_parent_is_gone(self):
