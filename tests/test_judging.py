@@ -10,6 +10,7 @@ from checks import cases, fail, run, same, written
 from lies import Liar, outputs_of, verdict
 import moments
 import plain
+from spelled import bytes_of
 from thought import USUAL, WIDE, Draw, Memcached, in_sessions
 from zygos_tools.files.formats import (Call, Part, Segment, capture, close, cut_all, journal, pieces, read_capture,
                                        read_journal, replies, replies_file, segment)
@@ -266,7 +267,7 @@ def no_row_of_memcached_is_refused():
     """The answers of memcached 1.6.18 to all rows of examples/answers.jsonl are right or unknown, never a no."""
     with open(os.path.join(TOP, "examples", "answers.jsonl"), encoding="ascii") as file:
         for row in map(json.loads, file):
-            sent, told = (text.encode("latin-1") for text in (row["sent"], row.get("memcached", row["answered"])))
+            sent, told = map(bytes_of, (row["sent"], row.get("memcached", row["answered"])))
             word, lines = verdict(capture(1, pieces(0, sent)), outputs_of(replies([told])), loses=True)
             if word == "no":
                 fail(f"the row {row['name']}", lines)
