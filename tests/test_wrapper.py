@@ -109,8 +109,8 @@ class Wrapper(unittest.TestCase):
         folders = [folder for folder in os.environ["PATH"].split(":") if not os.path.exists(f"{folder}/rt")]
         return ":".join([f"{self.room}/bin", *folders, "/usr/bin", "/bin"])
 
-    def begin(self, *words, **more):
-        environment = dict(os.environ, PATH=self.path(), TMPDIR=self.temporary)
+    def begin(self, *words, wants="", **more):
+        environment = dict(os.environ, PATH=self.path(), TMPDIR=self.temporary, ZYGOS_ADVICE=wants)
         more = {"stdin": subprocess.DEVNULL, "stdout": subprocess.PIPE, "stderr": subprocess.PIPE, **more}
         return subprocess.Popen([f"{self.made}/{words[0]}", *words[1:]], env=environment, start_new_session=True, **more)
 
@@ -207,6 +207,7 @@ class Said(Wrapper):
         ):
             with self.subTest(words):
                 self.assertEqual((status, output, line), self.run_it("zygos", *words))
+                self.assertEqual(line + advice, self.run_it("zygos", *words, wants="1")[2][: len(line + advice)])
                 told, got, said = self.at_terminal("zygos", *words)
                 self.assertEqual((status, output), (told, got))
                 self.assertEqual(line + advice, said[: len(line + advice)])
