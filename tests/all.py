@@ -20,7 +20,7 @@ import os
 import unittest
 
 import side_by_side
-from zygos_tools.cli import ends, screen
+from zygos_tools.cli import ends
 
 OPTIONS = {"-v": None, "--times": None, "--jobs": ends.number(1, 256), "-k": ("a part of a name", lambda word: word or None),
            "--program": ends.FILE}
@@ -40,5 +40,4 @@ def main(words):
 
 
 if __name__ == "__main__":
-    screen.NAME = "tools/test"
-    ends.run(main, __doc__)
+    ends.run(main, __doc__, "tools/test")

@@ -5,6 +5,7 @@ of a memcached or of the program, is a skip with a reason: it is counted, and th
 """
 import contextlib
 import os
+import signal
 import subprocess
 import sys
 import tempfile
@@ -12,6 +13,7 @@ import threading
 import unittest
 
 import forked
+from zygos_tools.cli import ends
 from zygos_tools.repository import TOP
 
 
@@ -102,6 +104,16 @@ def count(passed, failed, left_out=()):
         print(f"left out: {why}")
     print(f"{passed} passed, {failed} failed, {len(left_out)} skipped", flush=True)
     return int(failed > 0)
+
+
+def script(main, page):
+    """Carries out a script of tests with its words, and ends the process with the status that it gives. A program may end
+    before it has read all that a script writes to it."""
+    def carried_out(words):
+        signal.signal(signal.SIGPIPE, signal.SIG_IGN)
+        ends.end(main(words) or 0)
+
+    ends.run(carried_out, page, f"tests/{os.path.basename(sys.argv[0])}")
 
 
 def carry_out(*parts):

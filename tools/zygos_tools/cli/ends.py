@@ -14,7 +14,7 @@ import traceback
 from collections.abc import Callable, Container, Iterable
 from typing import Any, NoReturn
 
-from zygos_tools.cli.screen import say
+from zygos_tools.cli import screen
 from zygos_tools.files.outputs import STANDARD_OUTPUT
 from zygos_tools.files.part import Fault
 
@@ -156,7 +156,7 @@ def leave(why: str, status: int) -> NoReturn:
             sys.stdout.flush()
     except (OSError, ValueError):
         pass
-    say(why)
+    screen.say(why)
     os._exit(status)  # what could not be written is not tried again
 
 
@@ -174,8 +174,10 @@ def carried_out(main: Callable[[list[str]], object], page: str) -> int:
     return status
 
 
-def run(main: Callable[[list[str]], object], page: str) -> NoReturn:
-    """Runs a tool with its words, and ends the process; `page` is what it prints for --help."""
+def run(main: Callable[[list[str]], object], page: str, name: str | None = None) -> NoReturn:
+    """Runs a tool with its words, and ends the process; `page` is what it prints for --help, and `name` how its lines begin
+    if it is none of tools/."""
+    screen.NAME = name or screen.NAME
     signal.signal(signal.SIGPIPE, signal.SIG_DFL)
     for number in ending_signals():
         signal.signal(number, signalled)
