@@ -1,8 +1,9 @@
 """Charts of curves as SVG: axes with units and round ticks, a mark for each curve, the spread of runs, and the command
 that made it."""
-import html
 import math
 from dataclasses import dataclass, field
+
+from zygos_tools.showing.svg import Drawing
 
 WIDTH, HEIGHT, LEFT, RIGHT, BELOW = 820, 430, 84, 276, 92
 BLUE, ORANGE, GREEN, GOLD, GRAY, PURPLE = "#1f5fa8", "#c0501f", "#3a8a3a", "#b8860b", "#6f6f6f", "#7b3fa0"
@@ -64,11 +65,12 @@ def number(value):
     return f"{value:,.0f}" if value == round(value) else f"{value:,g}"
 
 
-class Chart:
+class Chart(Drawing):
     """A chart: a title, lines below it, two axes, curves, bounds, and notes below."""
 
     def __init__(self, title, lines, x, y):
-        self.x, self.y, self.lines, self.curves = x, y, [], 0
+        super().__init__()
+        self.x, self.y, self.curves = x, y, 0
         self.title, self.about = title, "; ".join([*lines, f"upwards: {y.label}; across: {x.label}"])
         self.top = 34 + 16 * len(lines) + 12
         self.text(14, 24, title, size=15)
@@ -76,13 +78,6 @@ class Chart:
             self.text(14, 42 + 16 * at, line, colour="#333333")
         self.named = self.top + 10
         self.draw_axes()
-
-    def text(self, x, y, text, anchor="start", size=12, colour="black", more=""):
-        self.lines.append(f'<text x="{x:.1f}" y="{y:.1f}" text-anchor="{anchor}" font-size="{size}" fill="{colour}"'
-                          f"{more}>{html.escape(text)}</text>")
-
-    def line(self, x1, y1, x2, y2, colour="black", more=""):
-        self.lines.append(f'<line x1="{x1:.1f}" y1="{y1:.1f}" x2="{x2:.1f}" y2="{y2:.1f}" stroke="{colour}"{more}/>')
 
     def at(self, x, y):
         """The place of a point."""
@@ -126,15 +121,13 @@ class Chart:
         ends at the edge."""
         shown = self.within(curve.points)
         dashes = ' stroke-dasharray="7 4"' if curve.is_computed else ""
-        line = " ".join("{:.1f},{:.1f}".format(*self.at(*point[:2])) for point in shown)
-        self.lines.append(f'<polyline points="{line}" fill="none" stroke="{curve.colour}" stroke-width="2"{dashes}/>')
+        self.polyline([self.at(*point[:2]) for point in shown], curve.colour, f' stroke-width="2"{dashes}')
         for point in self.marked(curve, shown):
             across, up = self.at(*point[:2])
             if len(point) == 4:
                 low, high = self.at(point[0], point[2])[1], self.at(point[0], point[3])[1]
                 ends = "".join(f"M{across - 4:.1f} {end:.1f}h8" for end in (low, high))
-                self.lines.append(f'<path d="M{across:.1f} {low:.1f}V{high:.1f}{ends}" stroke="{curve.colour}" '
-                                  'fill="none"/>')
+                self.path(f"M{across:.1f} {low:.1f}V{high:.1f}{ends}", curve.colour)
             self.mark(curve, across, up)
         self.name(curve, dashes)
         self.curves += 1
@@ -148,8 +141,7 @@ class Chart:
     def mark(self, curve, x, y):
         """The mark of the curve that is drawn."""
         fill = "white" if curve.is_computed else curve.colour
-        self.lines.append(f'<path d="M{x:.1f} {y:.1f}{MARKS[self.curves % len(MARKS)]}" stroke="{curve.colour}" '
-                          f'fill="{fill}"/>')
+        self.path(f"M{x:.1f} {y:.1f}{MARKS[self.curves % len(MARKS)]}", curve.colour, fill)
 
     def name(self, curve, dashes):
         """The curve's line, name and notes at the right."""
@@ -171,7 +163,4 @@ class Chart:
     def svg(self, command):
         """The chart; the command that made it is its last line."""
         self.text(14, HEIGHT - 14, f"made by: {command}", size=11, colour="#333333")
-        head = (f'<svg xmlns="http://www.w3.org/2000/svg" width="{WIDTH}" height="{HEIGHT}" '
-                f'viewBox="0 0 {WIDTH} {HEIGHT}" font-family="sans-serif" role="img">\n'
-                f"<title>{html.escape(self.title)}</title>\n<desc>{html.escape(self.about)}</desc>")
-        return "\n".join([head, f'<rect width="{WIDTH}" height="{HEIGHT}" fill="white"/>', *self.lines, "</svg>\n"])
+        return self.document(WIDTH, HEIGHT, self.title, self.about) + "\n"

@@ -1,28 +1,43 @@
-"""Finds the tests of this folder, and carries them out.
+"""Tests the tools, ./zygos, the scripts of bench, and what the repository keeps of itself; nothing is proved.
 
-usage: python3 tests/all.py [-v] [-k PATTERN] [NAME ..]     (tools/test)
+usage: tools/test [-v] [--times] [--jobs N] [-k PATTERN] .. [--program FILE] [NAME ..]
+
+    tools/test -k uniques -k orders
+    tools/test --times test_compare test_record
+
+NAME            modules of tests/ (if left out, all), or tests of one, as test_compare.Tests.test_steps
+-k PATTERN      tests that have this in their names; with a *, those whose names it matches. It may be given several times,
+                for tests of which any of the patterns is right
+--jobs N        carries out N tests at a time (if left out, as many as there are processors)
+-v              names each test as it ends
+--times         at the end names the tests with the seconds that they took, slowest first
+--program FILE  a built program (if left out, crates/zygos/out/zygos); what needs one is left out where there is none
+
+Each test is carried out in a process of its own. The last lines name what was left out, with the reason, and count what
+passed, failed and was left out. The status is 1 if something failed.
 """
-import argparse
 import os
-import sys
 import unittest
 
-import checks
+import side_by_side
+from zygos_tools.cli import ends
+
+OPTIONS = {"-v": None, "--times": None, "--jobs": ends.number(1, 256), "-k": ("a part of a name", lambda word: word or None),
+           "--program": ends.FILE}
 
 
-def main():
-    words = argparse.ArgumentParser()
-    words.add_argument("-v", action="store_true")
-    words.add_argument("-k", action="append")
-    words.add_argument("names", nargs="*")
-    given = words.parse_args()
+def main(words):
+    given, names = ends.options(words, OPTIONS, several=("-k",))
+    if "--program" in given:
+        os.environ["ZYGOS_PROGRAM"] = os.path.realpath(given["--program"])
     loader = unittest.TestLoader()
-    if given.k:
-        loader.testNamePatterns = [pattern if "*" in pattern else f"*{pattern}*" for pattern in given.k]
+    if "-k" in given:
+        loader.testNamePatterns = [pattern if "*" in pattern else f"*{pattern}*" for pattern in given["-k"]]
     here = os.path.dirname(os.path.realpath(__file__))
-    found = loader.loadTestsFromNames(given.names) if given.names else loader.discover(here)
-    return 0 if checks.run_suite(found, 1 + given.v) else 1
+    found = loader.loadTestsFromNames(names) if names else loader.discover(here)
+    jobs = given.get("--jobs") or len(os.sched_getaffinity(0))
+    ends.end(int(not side_by_side.run(found, jobs, "-v" in given, "--times" in given)))
 
 
 if __name__ == "__main__":
-    sys.exit(main())
+    ends.run(main, __doc__, "tools/test")

@@ -5,12 +5,15 @@ of a memcached or of the program, is a skip with a reason: it is counted, and th
 """
 import contextlib
 import os
+import signal
 import subprocess
 import sys
 import tempfile
 import threading
 import unittest
 
+import forked
+from zygos_tools.cli import ends
 from zygos_tools.repository import TOP
 
 
@@ -103,6 +106,16 @@ def count(passed, failed, left_out=()):
     return int(failed > 0)
 
 
+def script(main, page):
+    """Carries out a script of tests with its words, and ends the process with the status that it gives. A program may end
+    before it has read all that a script writes to it."""
+    def carried_out(words):
+        signal.signal(signal.SIGPIPE, signal.SIG_IGN)
+        ends.end(main(words) or 0)
+
+    ends.run(carried_out, page, f"tests/{os.path.basename(sys.argv[0])}")
+
+
 def carry_out(*parts):
     """Runs functions as tests, and ends."""
     suite = unittest.defaultTestLoader.loadTestsFromTestCase(cases(*parts))
@@ -128,8 +141,17 @@ def built_program():
     return program_path()
 
 
-def run(tool, *words, given=b"", **more):
-    return subprocess.run([path_of(tool), *words], input=given, capture_output=True, timeout=600, check=False, **more)
+def run(tool, *words, given=b"", environment=None):
+    """Carries out a tool: in a fork of this process if that can be, else as a command."""
+    if forked.can_be_forked(tool):
+        return forked.run(tool, words, given, environment)
+    return started(tool, *words, given=given, environment=environment)
+
+
+def started(tool, *words, given=b"", environment=None):
+    """Carries out a tool as a command."""
+    return subprocess.run([path_of(tool), *words], input=given, capture_output=True, timeout=600, check=False,
+                          env={**os.environ, **(environment or {})})
 
 
 def prints(name, wanted, tool, *words, given=b"", status=0):

@@ -5,6 +5,9 @@ from certificates import FIRST, FIRST_TOLD
 # counted down, and knows `touch`
 MEMCACHED = {
     "a set and a gets": b"STORED\r\nVALUE a 0 1 1\r\nx\r\nEND\r\n",
+    "the greatest value, and one byte more": b"SERVER_ERROR object too large for cache\r\nNOT_STORED\r\n"
+                                             b"SERVER_ERROR object too large for cache\r\nEND\r\n",
+    "a line that is too long": b"",
     "incr wraps": b"STORED\r\n0\r\nVALUE a 5 20\r\n0                   \r\nEND\r\n",
     "a block that does not end": b"CLIENT_ERROR bad data chunk\r\nVERSION 1.6.18\r\n",
     "cas": b"STORED\r\nEXISTS\r\nVALUE a 0 1 1\r\nx\r\nEND\r\nNOT_FOUND\r\nEXISTS\r\nVALUE a 0 1 1\r\nx\r\nEND\r\n",

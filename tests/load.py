@@ -3,6 +3,13 @@
 
 usage: tests/load.py PLACE [--clients N] [--commands N] [--keys N] [--in-flight N] [--seed N] [--kinds 'KIND ..']
 
+--clients N          at the same time (20)
+--commands N         of each client (500)
+--keys N             of all (100)
+--in-flight N        commands of a client at a time, at most (1)
+--seed N             other draws (1)
+--kinds 'KIND ..'    what clients send ('get get get get get get get mget mget set set add delete')
+
 Each client sends one command or up to `in-flight` at a time, and waits for the answers. Some keys are asked for much
 more often than others. A last line says how many clients there were and how many commands.
 
@@ -17,16 +24,20 @@ stats, version and verbosity as memcached has them, and
   flush                 flush_all
   fault                 a line that is no command
 """
-import argparse
 import asyncio
 import random
 import re
-import sys
 from collections import namedtuple
 
+import checks
+from zygos_tools.cli import ends
 from zygos_tools.protocol.pace import NEVER, Answers, Commands, Pending
 from thought import KINDS, Client
 
+# the options, with their values if they are left out
+USUAL = {"--clients": 20, "--commands": 500, "--keys": 100, "--in-flight": 1, "--seed": 1}
+Words = namedtuple("Words", "clients commands keys in_flight seed kinds")
+KINDS_OF = "names of commands, parted by spaces", lambda word: word if word and set(word.split()) <= set(KINDS) else None
 FLEET = "get get get get get get get mget mget set set add delete"
 Sent = namedtuple("Sent", "command")
 SHOWN = re.compile(rb"VALUE ([^ ]+) [0-9]+ [0-9]+ ([0-9]+)\r\n")
@@ -60,7 +71,7 @@ async def client(place, number, words):
         while pending.sure:
             heard = await reader.read(65536)
             if not heard:
-                sys.exit(f"tests/load.py: the server has closed connection {number}")
+                ends.stop(f"the server has closed connection {number}")
             for answer in answers.feed(heard):
                 pending.take(answer)
             one.uniques.update((key, int(unique)) for key, unique in SHOWN.findall(heard))
@@ -72,22 +83,14 @@ async def load(place, words):
     await asyncio.gather(*[client(place, number, words) for number in range(words.clients)])
 
 
-def main():
-    about, usage, more = __doc__.strip().split("\n\n", 2)
-    parser = argparse.ArgumentParser(usage=usage[7:], description=f"{about}\n\n{more}",
-                                     formatter_class=argparse.RawDescriptionHelpFormatter)
-    parser.add_argument("place", metavar="PLACE", help="HOST:PORT of the server or of the recorder")
-    for name, usual, what in (("clients", 20, "at the same time"), ("commands", 500, "of each client"), ("keys", 100, "of all"),
-                              ("in-flight", 1, "commands of a client, at most"), ("seed", 1, "of what is drawn")):
-        parser.add_argument("--" + name, metavar="N", type=int, default=usual, help=f"{what} ({usual})")
-    parser.add_argument("--kinds", metavar="'KIND ..'", default=FLEET, help=f"('{FLEET}')")
-    words = parser.parse_args()
-    for kind in words.kinds.split():
-        if kind not in KINDS:
-            parser.error(f"no such kind: {kind}")
-    asyncio.run(load(words.place, words))
+def main(words):
+    given, places = ends.options(words, {**dict.fromkeys(USUAL, ends.number(1)), "--seed": ends.number(0), "--kinds": KINDS_OF})
+    if len(places) != 1:
+        ends.stop("a load has one server, as HOST:PORT; --help says more", 2)
+    words = Words(*(given.get(option, usual) for option, usual in USUAL.items()), given.get("--kinds", FLEET))
+    asyncio.run(load(places[0], words))
     print(f"{words.clients} clients, {words.clients * words.commands} commands")
 
 
 if __name__ == "__main__":
-    main()
+    checks.script(main, __doc__)

@@ -179,6 +179,11 @@ def rows():
         yield name, line + b"\r\nmn\r\n", text_of(told), BAD_LINE + b"MN\r\n"
 
 
+# memcached closes the connection at these lines, without an answer
+MEMCACHED = dict.fromkeys(("a meta line of 65536 bytes, b'\\n'", "a meta line of 65535 bytes, b'\\r\\n'",
+                           "a meta line of 65536 bytes, b'\\r\\n'", "a storage line of 65,536 bytes", "a key of 65,533 bytes"), b"")
+
+
 def examples(lines):
     """Has `lines` compare the answers to what was sent, whole and byte at a time."""
     for name, sent, _, told in rows():

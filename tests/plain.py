@@ -5,10 +5,11 @@ usage: tests/plain.py [--shards N] < FILES     (a capture, a journal and a repli
 
 Each cause is looked for as its definition reads, by going through everything again.
 """
-import argparse
 import sys
 from collections import namedtuple
 
+import checks
+from zygos_tools.cli import ends
 from zygos_tools.files.formats import (MOST_HOLD, Entry, Hold, Output, Segment, read_capture, read_end, read_journal,
                                        read_replies)
 from zygos_tools.files.part import Fault, Part
@@ -192,14 +193,15 @@ def run_of(capture, shards=16, draw=None):
     return end(given)
 
 
-def main():
-    words = argparse.ArgumentParser(description=__doc__.strip(), formatter_class=argparse.RawDescriptionHelpFormatter)
-    words.add_argument("--shards", type=int, default=16)
-    status, written, said = answer(sys.stdin.buffer.read(), words.parse_args().shards)
+def main(words):
+    given, files = ends.options(words, {"--shards": ends.number(1, 256)})
+    if files:
+        ends.stop("the files come on standard input; --help says more", 2)
+    status, written, said = answer(sys.stdin.buffer.read(), given.get("--shards", 16))
     sys.stdout.buffer.write(written)
     sys.stderr.buffer.write(said)
-    sys.exit(status)
+    return status
 
 
 if __name__ == "__main__":
-    main()
+    checks.script(main, __doc__)

@@ -16,16 +16,17 @@ KEY, VALUE = re.compile(rb"user:session:[0-9]{17}"), re.compile(rb"[a-z]{100,500
 
 def bench(*words):
     """What bench/run answers, and its last line."""
-    ran = subprocess.run([os.path.join(BENCH, "run"), *words], capture_output=True, check=False, timeout=600)
+    ran = run("../bench/run", *words)
     lines = (ran.stdout + ran.stderr).decode().splitlines()
     return ran.returncode, lines[-1] if lines else ""
 
 
-def evaluated(expression):
-    """What an expression of bench/common.py is."""
-    code = f"import common\nfrom common import Cost, Ratio\nprint({expression})"
+def evaluated(expressions):
+    """What expressions of bench/common.py are, by their names."""
+    printed = "".join(f"print({expression})\n" for expression in expressions.values())
+    code = f"import common\nfrom common import Cost, Ratio\n{printed}"
     ran = subprocess.run([sys.executable, "-B", "-c", code], cwd=BENCH, capture_output=True, text=True, check=True)
-    return ran.stdout
+    return dict(zip(expressions, ran.stdout.splitlines(), strict=True))
 
 
 # ---- traffic
@@ -92,9 +93,8 @@ def traffic_of_scripts():
 def help_of_scripts():
     """The word help does what --help does."""
     for words in ((), ("scale",), ("shard",)):
-        ran = [subprocess.run([os.path.join(BENCH, "run"), *words, word], capture_output=True, text=True, check=False)
-               for word in ("help", "--help")]
-        same(f"bench/run {' '.join(words)} help", (0, "", ran[1].stdout), (ran[0].returncode, ran[0].stderr, ran[0].stdout))
+        ran = [run("../bench/run", *words, word) for word in ("help", "--help")]
+        same(f"bench/run {' '.join(words)} help", (0, b"", ran[1].stdout), (ran[0].returncode, ran[0].stderr, ran[0].stdout))
 
 
 def marks():
@@ -110,19 +110,21 @@ def ratios():
     """What is said of interleaved runs."""
     costs = [[f"Cost({wall}, {wall + 1}, 0)" for wall in walls] for walls in ((3, 2, 8), (1, 2, 2), (2, 4, 1))]
     lists = [f"[{', '.join(runs)}]" for runs in costs]
-    same("a ratio is the median over the turns", "2.00 (1.00 to 8.00) times\n",
-         evaluated(f"Ratio({lists[0]}, [Cost(1.5, 2, 0), Cost(2, 3, 0), Cost(1, 9, 0)], 'wall')"))
-    same("a ratio of processor time", "2.00 (1.00 to 2.00) times\n",
-         evaluated(f"Ratio({lists[0]}, [Cost(1.5, 2, 0), Cost(2, 3, 0), Cost(1, 4.5, 0)], 'used')"))
-    ahead = "zygos is faster than plain C with a journal on one thread from {} threads on\n"
-    for threads, wanted in (
+    wanted = {"a ratio is the median over the turns": "2.00 (1.00 to 8.00) times",
+              "a ratio of processor time": "2.00 (1.00 to 2.00) times"}
+    asked = dict(zip(wanted, (f"Ratio({lists[0]}, [Cost(1.5, 2, 0), Cost(2, 3, 0), Cost(1, 9, 0)], 'wall')",
+                              f"Ratio({lists[0]}, [Cost(1.5, 2, 0), Cost(2, 3, 0), Cost(1, 4.5, 0)], 'used')")))
+    ahead = "zygos is faster than plain C with a journal on one thread from {} threads on"
+    for threads, line in (
         ({1: 0, 2: 1}, ahead.format(2)), ({1: 1, 2: 1}, ahead.format(1)), ({1: 1, 2: 0, 3: 1}, ahead.format(3)),
-        ({1: 0, 2: 0}, "zygos on up to 2 threads is not faster than plain C with a journal on one\n"),
-        ({1: 1, 2: 0}, "zygos on up to 2 threads is not faster than plain C with a journal on one\n"),
+        ({1: 0, 2: 0}, "zygos on up to 2 threads is not faster than plain C with a journal on one"),
+        ({1: 1, 2: 0}, "zygos on up to 2 threads is not faster than plain C with a journal on one"),
     ):
         given = ", ".join(f"{number}: {lists[1] if is_faster else lists[0]}" for number, is_faster in threads.items())
-        same(f"from which number of threads zygos is faster: {threads}", wanted,
-             evaluated(f"common.ahead({{{given}}}, [Cost(2, 2, 0), Cost(2, 2, 0), Cost(4, 4, 0)])"))
+        name = f"from which number of threads zygos is faster: {threads}"
+        wanted[name], asked[name] = line, f"common.ahead({{{given}}}, [Cost(2, 2, 0), Cost(2, 2, 0), Cost(4, 4, 0)])"
+    for name, got in evaluated(asked).items():
+        same(name, wanted[name], got)
 
 
 def short_runs():

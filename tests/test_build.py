@@ -6,7 +6,7 @@ import subprocess
 import tempfile
 import unittest
 
-from checks import TOP, cases, same
+from checks import TOP, cases, run, same
 from traffic import until
 
 # a stand-in of rt, which notes what it is called for; the proofs of `ci` go on while there is a file `hold`, until somebody
@@ -19,7 +19,7 @@ printf '%s in %s\\n' "$*" "${PWD##*/}" | sed 's/[a-z]*[.].*/a copy/' >>"$made/or
 [ "$1" != ci ] || for main in crates/*/src/main.rt; do make "${main%/src/*}"; done
 [ "$1" != all ] || mkdir -p out/incremental
 [ "$1" != run ] || make "$PWD"
-[ "$1" != ci ] || { printf '== low\\nlogic=proved functions=1\\nrt: low proved\\n'; sleep 1; }
+[ "$1" != ci ] || { printf '== low\\nlogic=proved functions=1\\nrt: low proved\\n'; }
 while [ "$1" = ci ] && [ -e "$made/hold" ] && [ ! -e "$made/heard" ] && kill -0 "$tests" 2>/dev/null; do
     sleep 0.1
 done
@@ -49,17 +49,17 @@ SHELL = """
 PATH=$made/bin:$PATH
 zygos() {
     rm -f "$made/order"
-    "$made/zygos" "$@" 2>&1 </dev/null | sed '/: proving and/d; s/:.. elapsed, .*/ elapsed/'
+    "$made/zygos" "$@" 2>&1 </dev/null | sed '/: proving and/d; s/: [0-9]*:.. elapsed, .*/: elapsed/'
     sed 's/ --jobs [0-9]*//' "$made/order" 2>/dev/null
 }
 zygos_on() {
     rm -f "$made/order"
-    printf '%s' "$1" | "$made/zygos" "${@:2}" 2>&1 | sed '/: proving and/d; s/:.. elapsed, .*/ elapsed/' | tr '\\n' '|'
+    printf '%s' "$1" | "$made/zygos" "${@:2}" 2>&1 | sed '/: proving and/d; s/: [0-9]*:.. elapsed, .*/: elapsed/' | tr '\\n' '|'
     sort "$made/order" | tr '\\n' '|'
 }
 """
 COPIED = "ci in a copy|crates: zygos: high low high: low low: std|"
-LOW = "zygos: low is proved, 1 of 3: 0 elapsed|"
+LOW = "zygos: low is proved, 1 of 3: elapsed|"
 USAGE = "zygos: usage: zygos run|check|gen|self|pcap|report [options]; ./zygos help says more"
 
 
@@ -226,19 +226,28 @@ SCRIPTS = ("check crowd instructions pairs report scale serve simulate tail shar
            " shuffle hold home").split()
 
 
+def says(name, ran, status, line):
+    """A command has ended with this status, and a line that begins like this."""
+    same(name, (status, line.encode()), (ran.returncode, ran.stderr[: len(line)]))
+
+
 @in_repository
 def benches(one):
     """Words of the scripts of bench prove nothing: rt is not started."""
     one.furnish()
+    def bench(*words):
+        return run("../bench/run", *words, environment={**one.environment(), "PATH": f"{one.path('bin')}:{os.environ['PATH']}"})
+
     for what in SCRIPTS:
-        one.says(f"bench/run {what} --help", f"usage: bench/run {what}",
-                 f"bench/run {what} --help 2>&1 | grep -o -m 1 'usage: bench/run [a-z]*'")
-        one.says(f"an unknown word of bench/run {what}",
-                 f"bench/run {what}: unrecognized arguments: --what; --help says more", f"bench/run {what} --what 2>&1")
+        ran = bench(what, "--help")
+        same(f"bench/run {what} --help", (0, True), (ran.returncode, f"usage: bench/run {what}\n".encode() in ran.stdout or
+                                                    f"usage: bench/run {what} ".encode() in ran.stdout))
+        says(f"an unknown word of bench/run {what}", bench(what, "--what"), 2,
+             f"bench/run {what}: unrecognized arguments: --what; --help says more\n")
     for what in ("shard", "scale"):
-        one.says(f"a program of bench/run {what} that isn't there", f"bench/run {what}: /no/program: no program",
-                 f"bench/run {what} /no/program 2>&1")
-    one.says("what bench/run does not know", "bench/run: rnu: not known, but one of:", "bench/run rnu 2>&1 | cut -d ' ' -f 1-7")
+        says(f"a program of bench/run {what} that isn't there", bench(what, "/no/program"), 1,
+             f"bench/run {what}: /no/program: no program\n")
+    says("what bench/run does not know", bench("rnu"), 2, "bench/run: rnu: not known, but one of:")
     same("the scripts of bench proved nothing", False, os.path.exists(one.path("order")))
 
 
@@ -314,8 +323,8 @@ def two_programs(one):
     one.write("tools/repo/shares.txt", "low 30\nhigh 30\ntimes 30\nlinear 30\nzygos 30\n")
     linear, zygos = "linear: times low times: low", "zygos: high low high: low low: std"
     both = f"ci in a copy|crates: {zygos} {linear}|"
-    alone = "linear: low is proved, 1 of 3: 0 elapsed|--shards=2|summed|summed|ci in a copy|crates: linear: times low times: low low: std|"
-    one.says("both are proved together", f"linear: low is proved, 1 of 5: 0 elapsed|--shards=2|summed|summed|{both}",
+    alone = "linear: low is proved, 1 of 3: elapsed|--shards=2|summed|summed|ci in a copy|crates: linear: times low times: low low: std|"
+    one.says("both are proved together", f"linear: low is proved, 1 of 5: elapsed|--shards=2|summed|summed|{both}",
              "zygos linear --shards=2 | tr '\\n' '|'")
     one.says("then both start at once", "report|--shards=3|", "{ zygos report; zygos linear --shards=3; } | tr '\\n' '|'")
     one.shell('rm "$made"/out/*.built')

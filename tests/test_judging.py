@@ -10,6 +10,7 @@ from checks import cases, fail, run, same, written
 from lies import Liar, outputs_of, verdict
 import moments
 import plain
+from spelled import bytes_of
 from thought import USUAL, WIDE, Draw, Memcached, in_sessions
 from zygos_tools.files.formats import (Call, Part, Segment, capture, close, cut_all, journal, pieces, read_capture,
                                        read_journal, replies, replies_file, segment)
@@ -266,7 +267,7 @@ def no_row_of_memcached_is_refused():
     """The answers of memcached 1.6.18 to all rows of examples/answers.jsonl are right or unknown, never a no."""
     with open(os.path.join(TOP, "examples", "answers.jsonl"), encoding="ascii") as file:
         for row in map(json.loads, file):
-            sent, told = (text.encode("latin-1") for text in (row["sent"], row.get("memcached", row["answered"])))
+            sent, told = map(bytes_of, (row["sent"], row.get("memcached", row["answered"])))
             word, lines = verdict(capture(1, pieces(0, sent)), outputs_of(replies([told])), loses=True)
             if word == "no":
                 fail(f"the row {row['name']}", lines)
@@ -298,9 +299,9 @@ def a_nul_is_warned_of():
 
 def flushes_are_kept_once():
     """Of many flushes only those count for a key that overlap its calls, and one between two of them."""
-    flushes = [b"flush_all\r\n"] * 40
+    flushes = [b"flush_all\r\n"] * 12
     sent = [*flushes, b"set x 0 0 1\r\n1\r\n", *flushes, b"get x\r\n", *flushes]
-    told = b"OK\r\n" * 40 + b"STORED\r\n" + b"OK\r\n" * 40 + b"END\r\n" + b"OK\r\n" * 40
+    told = b"OK\r\n" * 12 + b"STORED\r\n" + b"OK\r\n" * 12 + b"END\r\n" + b"OK\r\n" * 12
     records = [record for text in sent for record in (segment(0, text), segment(0, b""))]
     judge = Judge(capture(1, records), outputs_of(replies([told])))
     same("the calls on a key", 4, len(judge.keys.numbers(b"x")))

@@ -5,7 +5,6 @@ what is left of an input that is not whole must be said. Most tools are carried 
 one, which takes little time.
 """
 import contextlib
-import io
 import itertools
 import json
 import os
@@ -17,21 +16,13 @@ import subprocess
 import sys
 import tempfile
 import unittest
-from importlib import import_module
 
+import forked
 import packets
 from checks import cases, fail, path_of, same, written
-from zygos_tools.cli import ends, screen
 from zygos_tools.comparing.search import FIRST_LINE, digest, order_text
 from zygos_tools.files.formats import Call, Entry, Hold, Reply, capture, close, journal, replies, segment
 
-MODULES = {
-    "capture": "showing.capture", "show": "showing.show", "top": "showing.top", "picture": "showing.picture",
-    "part": "showing.part", "compare": "comparing.compare", "warm": "comparing.warm", "inline": "comparing.inline",
-    "judge": "judging.command", "play": "playing.play", "record": "recording.record",
-    "packets": "recording.packets.command",
-}
-MAINS = {tool: import_module(f"zygos_tools.{name}") for tool, name in MODULES.items()}
 ASKED = b"set a 0 0 1\r\nx\r\nget a\r\ngets b\r\nincr n 1\r\nmg a v f c\r\nms a 1\r\ny\r\n"
 TOLD = b"STORED\r\nVALUE a 0 1\r\nx\r\nEND\r\nEND\r\nNOT_FOUND\r\nVA 1 f0 c7\r\nx\r\nHD\r\n"
 CAPTURE = capture(2, [segment(0, ASKED), segment(1, b"get a\r\n")])
@@ -44,36 +35,11 @@ PLACE = "127.0.0.1:1"
 # ---- tools in forked processes
 
 
-def forked(words, given=b"", environment=()):
+def forked_tool(words, given=b"", environment=()):
     """Carries out a tool with its words. Gives its status, and what it writes and says."""
-    with contextlib.ExitStack() as opened:
-        files = [opened.enter_context(tempfile.TemporaryFile()) for _ in range(3)]
-        files[0].write(given)
-        files[0].seek(0)
-        child = os.fork()
-        if not child:
-            carry_out(words, files, dict(environment))
-        status = os.waitstatus_to_exitcode(os.waitpid(child, 0)[1])
-        for file in files[1:]:
-            file.seek(0)
-        return status, files[1].read(), files[2].read().decode(errors="backslashreplace")
-
-
-def carry_out(words, files, environment):
-    """Is the tool, in a process of its own."""
-    try:
-        for number, file in enumerate(files):
-            os.dup2(file.fileno(), number)
-        os.environ.update(environment)
-        sys.argv = [path_of(words[0]), *words[1:]]
-        sys.stdin, sys.stderr = open(0, encoding="utf-8", closefd=False), open(2, "w", closefd=False)
-        sys.stdout = io.TextIOWrapper(open(1, "wb", closefd=False), encoding=environment.get("ENCODING", "utf-8"))
-        screen.NAME = f"tools/{words[0]}"
-        ends.run(MAINS[words[0]].main, MAINS[words[0]].__doc__)
-    except SystemExit as ended:
-        os._exit(ended.code or 0)
-    finally:
-        os._exit(99)
+    assert forked.can_be_forked(words[0])
+    ran = forked.run(words[0], tuple(words[1:]), given, dict(environment))
+    return ran.returncode, ran.stdout, ran.stderr.decode(errors="backslashreplace")
 
 
 def is_plain(tool, said):
@@ -84,7 +50,7 @@ def is_plain(tool, said):
 
 def looks(name, words, given=b"", must_fail=False, wanted="", **more):
     """A case: the tool ends plainly; an input that is not whole must not pass in silence."""
-    status, output, said = forked(words, given, **more)
+    status, output, said = forked_tool(words, given, **more)
     if status not in (0, 1, 2, 3) or not is_plain(words[0], said):
         fail(name, f"{words}: status {status}, {said[-400:]!r}")
     elif must_fail and status == 0 or wanted and not re.search(wanted, said + output.decode(errors="replace")):
@@ -152,7 +118,7 @@ def faults_by_json():
         for one, other, why in ((path["cut"], path["replies"], "capture: truncated at 20"),
                                 ("/none/file", path["replies"], "No such file or directory"),
                                 (path["capture"], path["capture"], "capture: not expected here")):
-            status, output, said = forked(["judge", "--json", one, other])
+            status, output, said = forked_tool(["judge", "--json", one, other])
             told = json.loads(output)
             name = other if one == path["capture"] else one
             same(f"judge --json of {why}", (1, "", "fault", f"{name}: {why}"),
@@ -284,7 +250,7 @@ def hostile_answers():
 
 def deep_pipelines():
     """Clients that send up to 5,000 commands before they read an answer."""
-    for count in (100, 400, 2000, 5000):
+    for count in (400, 5000):
         asked = [b"".join(b"get k%d\r\n" % (at % 7) for at in range(count)),
                  b"".join(b"set k%d 0 0 1\r\n%d\r\n" % (at % 7, at % 10) for at in range(count // 10))]
         hits = b"".join(b"VALUE k%d 0 1\r\n%d\r\nEND\r\n" % (at % 7, at % 10) if at % 3 else b"END\r\n" for at in range(count))

@@ -11,8 +11,9 @@ import struct
 import subprocess
 import unittest
 
+import checks
 import packets
-from checks import TOP, built_program, cases, program_path, same, skip
+from checks import built_program, cases, program_path, same, skip
 from traffic import connected, memcached, take, until
 from zygos_tools.files.formats import Close, capture, close, read_capture, read_replies, segment, sessions
 from zygos_tools.files.part import Part
@@ -24,8 +25,7 @@ CLIENTS = [bytes([10, 0, 0, at, 10, 0, 0, 9]) + struct.pack(">HH", 40000 + at, 1
 
 
 def run(*words, given=b"", tool="packets"):
-    return subprocess.run([os.path.join(TOP, "tools", tool), *words], input=given, capture_output=True, timeout=600,
-                          check=False)
+    return checks.run(tool, *words, given=given)
 
 
 def number_of(flow):

@@ -1,27 +1,26 @@
 """Tests tools/play on a small server and, where there are some, on a memcached and the program."""
 import os
+import random
 import re
 import signal
 import subprocess
+import tempfile
 import unittest
 
-from checks import TOP, built_program, cases, fail, program_path, same
+from checks import TOP, built_program, cases, fail, program_path, run, same
 from traffic import (Recorder, Server, at_once, connected, files_of, free_port, memcached, patched, take, talk,
                      until)
+from zygos_tools.files import spool
 from zygos_tools.files.formats import capture, close, pieces, read_replies, replies, segment, sessions
+from zygos_tools.files.growing import Growing
 from zygos_tools.files.part import Part
 from zygos_tools.protocol.pace import Pace
 
 
 
-def run(tool, *words, given=b""):
-    return subprocess.run([os.path.join(TOP, "tools", tool), *words], input=given, capture_output=True, timeout=600,
-                          check=False)
-
-
 def played(name, server, given, *words, status=0):
     """What is written when a capture is played, and what is said besides times."""
-    wait = () if "--wait" in words else ("--wait", "60")
+    wait = () if "--wait" in words else ("--wait", "600")
     ran = run("play", "-", "--server", server.place, *wait, *words, given=given)
     said = re.sub(r" in [0-9.]+ s\n", "\n", ran.stderr.decode())
     said = re.sub(r"tools/play: answered within: .*\n", "", said)
@@ -186,7 +185,7 @@ def held_back():
         with Server() as server:
             recorder = Recorder(server.place)
             given = capture(1, pieces(0, text, 1))
-            ran = run("play", "-", "--server", recorder.place, "--wait", "60", given=given)
+            ran = run("play", "-", "--server", recorder.place, "--wait", "600", given=given)
             recorder.end()
             same(f"what is sent of {text}", {(0, 0): text}, files_of()[0])
             same(f"what is answered to {text}", replies([b"MN\r\n"]), ran.stdout)
@@ -367,6 +366,33 @@ def against_memcached():
     same("the outputs of generated traffic", 50, count)
 
 
+class Silent:
+    """A screen on which nothing is shown."""
+
+    def progress(self, *_):
+        return lambda _: None
+
+    def clear(self):
+        pass
+
+
+def joined():
+    """What came back is joined alike in a file and for a pipe."""
+    for number in range(40):
+        draw = random.Random(number)
+        with tempfile.TemporaryFile() as kept, tempfile.TemporaryFile() as made:
+            growing, count, version = Growing(kept.fileno()), draw.randrange(1, 6), 1 + number % 2
+            for _ in range(draw.randrange(50)):
+                if version == 2 and draw.random() < 0.2:
+                    growing.close(draw.randrange(count))
+                else:
+                    growing.segment(draw.randrange(count), draw.randbytes(draw.choice((0, 1, 100, 65535))))
+            growing.finish(version, count)
+            spool.replies_of(kept.fileno(), made.fileno(), version, count, Silent())
+            made.seek(0)
+            same(f"replies {number}", made.read(), b"".join(spool.replies_in_order(kept.fileno(), version, count, Silent())))
+
+
 def error_lines():
     """An error line is counted for the first command that waits, be it a meta command or not."""
     for sent, heard in ((b"foo\r\nmg a v\r\nget a\r\n", (b"ERROR\r\n", b"EN\r\n", b"END\r\n")),
@@ -380,7 +406,7 @@ def error_lines():
         same("the commands that wait", [3, 2, 1, 0], owed)
 
 
-Tests = cases(words, error_lines, orders, in_order, later_sessions, many, large, quiet, tabs, uniques,
+Tests = cases(words, error_lines, joined, orders, in_order, later_sessions, many, large, quiet, tabs, uniques,
               uniques_of_others, held_back, interrupted, faulty_servers, other_sockets, closed_pipe,
               uniques_of_memcached, against_memcached, has_folder=True)
 

@@ -229,7 +229,7 @@ def slow_reader():
         before = recorder.most_memory()
         with connected(recorder.place) as slow:
             slow.sendall(b"big %d\r\n" % few)
-            time.sleep(0.3)
+            has_size("my.replies.spool", 100000)
             same("beside a slow reader", ANSWERED, talk(recorder.place, ASKED))
             got = take_all(slow, len(big(few)))
         with connected(recorder.place) as one:

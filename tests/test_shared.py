@@ -6,12 +6,14 @@ import subprocess
 import tempfile
 import unittest
 from itertools import zip_longest
+from unittest import mock
 
 from checks import built_program, cases, fail, prints, program_path, run, same, says, written
 import drawn
 import plain
 import traffic
 from zygos_tools.comparing.arrivals import Arrivals, ends_of, recorded, streams_of, with_answers
+from zygos_tools.comparing import orders as near_order
 from zygos_tools.comparing.orders import near as near_arrival
 from zygos_tools.comparing.seen import Seen
 from zygos_tools.files.formats import (Close, capture, close, pieces, read_capture, read_replies, replies, segment,
@@ -253,6 +255,19 @@ def uniques():
     same("without replies", True, b" 7\r\ny" in joined(made))
 
 
+def limits():
+    """A search that meets its most states of a key says so."""
+    turns, item = [*((c, b"set a 0 0 1\r\n%d\r\n" % c) for c in range(3)), (3, b"get a\r\n"), (3, b"get a\r\n")], b"VALUE a 0 1\r\n%d\r\nEND\r\n"
+    sets = [b"STORED\r\n"] * 3
+    with tempfile.TemporaryDirectory() as folder, mock.patch.object(near_order, "LIMIT", 1):
+        paths = written(folder, sent=capture(4, [segment(*turn) for turn in turns]),
+                        recorded=replies([*sets, item % 1 + item % 0]), other=replies([*sets, item % 2 * 2]))
+        for tool, then, *words in (("inline", "the order is one", "sent", "recorded"), ("compare", "causes are those", "--capture", "sent",
+                                                                                  "recorded", "other")):
+            said = run(tool, *(paths.get(word, word) for word in words)).stderr.decode()
+            same(f"what {tool} says", f"tools/{tool}: no order was found: key a: given up after 1 state; {then} near ", said[: said.find("near ") + 5])
+
+
 def without_numbers(text):
     """An output without uniques, and without what answers a `gats`."""
     lines = [re.sub(rb"(^VALUE a 0 1| c)( ?[0-9]+)$", rb"\1", line) for line in text.split(b"\r\n")]
@@ -378,7 +393,7 @@ def differences(given, recorded):
     return ran.stdout.decode()
 
 
-Tests = cases(values, connections, orders, drawn_captures, near_orders, uniques, orders_of_their_own, drawn_orders,
+Tests = cases(values, connections, orders, drawn_captures, near_orders, limits, uniques, orders_of_their_own, drawn_orders,
               against_memcached)
 
 if __name__ == "__main__":

@@ -6,7 +6,7 @@ import tempfile
 import unittest
 
 import program
-from checks import TOP, cases, fail, path_of, prints, run, same, says, written
+from checks import TOP, cases, fail, path_of, prints, run, same, says, started, written
 from zygos_tools.files.formats import (Call, Entry, Hold, Reply, big, capture, close, entry, hold, journal,
                                        read_capture, replies, segment)
 from zygos_tools.files.part import Part
@@ -26,7 +26,7 @@ def helps():
     with open(os.path.join(TOP, "tools", "README.md"), encoding="utf-8") as file:
         table = [line for line in file if line.startswith("| `")]
     for tool in TOOLS:
-        ran = run(tool, "--help")
+        ran = started(tool, "--help")
         lines = ran.stdout.decode().split("\n")
         if ran.returncode or ran.stderr or len(lines) > 45 or max(map(len, lines)) > 120:
             fail(f"help of {tool}", f"{ran.returncode} {len(lines)} lines {ran.stderr!r}")
@@ -226,7 +226,7 @@ def command():
         with open(rt, "w", encoding="utf-8") as file:
             file.write(RT)
         os.chmod(rt, 0o755)
-        more = {"env": dict(os.environ, PATH=f"{folder}:{os.environ['PATH']}")}
+        more = {"environment": {"PATH": f"{folder}:{os.environ['PATH']}"}}
         page = run("../zygos", "help", **more)
         same("./zygos help", (0, 13, b""), (page.returncode, page.stdout.count(b"\n"), page.stderr))
         none = run("../zygos", **more)

@@ -7,6 +7,7 @@ import subprocess
 import unittest
 from collections import Counter
 
+import checks
 from checks import TOP, cases, same
 import drawn
 import reports
@@ -81,8 +82,7 @@ HELD = [Hold(0, 2, 1), Hold(1, 1, 3), Hold(1, 2, 2)]
 
 
 def run(*words, given=b""):
-    ran = subprocess.run([os.path.join(TOP, "tools/top"), *words], input=given, capture_output=True, timeout=600,
-                         check=False)
+    ran = checks.run("top", *words, given=given)
     return ran.returncode, ran.stdout.decode(), ran.stderr.decode()
 
 

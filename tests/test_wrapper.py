@@ -67,11 +67,11 @@ def is_running(process):
 
 
 def wait_for(condition):
-    """Waits until a condition holds; a test fails that waits for a minute."""
+    """Waits until a condition holds; a test fails that waits for ten minutes."""
     end = time.monotonic() + LONG
     while not condition():
         if time.monotonic() > end:
-            raise AssertionError("nothing came in a minute")
+            raise AssertionError(f"nothing came in {LONG} seconds")
         time.sleep(0.02)
 
 
@@ -109,8 +109,8 @@ class Wrapper(unittest.TestCase):
         folders = [folder for folder in os.environ["PATH"].split(":") if not os.path.exists(f"{folder}/rt")]
         return ":".join([f"{self.room}/bin", *folders, "/usr/bin", "/bin"])
 
-    def begin(self, *words, **more):
-        environment = dict(os.environ, PATH=self.path(), TMPDIR=self.temporary)
+    def begin(self, *words, wants="", **more):
+        environment = dict(os.environ, PATH=self.path(), TMPDIR=self.temporary, ZYGOS_ADVICE=wants)
         more = {"stdin": subprocess.DEVNULL, "stdout": subprocess.PIPE, "stderr": subprocess.PIPE, **more}
         return subprocess.Popen([f"{self.made}/{words[0]}", *words[1:]], env=environment, start_new_session=True, **more)
 
@@ -170,7 +170,7 @@ class Stopped(Wrapper):
             for words in (("zygos", "check"), ("zygos", "build"), ("tools/build", "zygos")):
                 with self.subTest(number=number, words=words):
                     self.assertEqual("zygos: stopped\n", self.stop(number, *words))
-                    self.assertEqual([], [process for process in self.started() if is_running(process)])
+                    wait_for(lambda: not any(map(is_running, self.started())))
                     self.assertEqual([], os.listdir(self.temporary))
 
     def test_a_watch_ends_whose_parent_is_gone(self):
@@ -207,6 +207,7 @@ class Said(Wrapper):
         ):
             with self.subTest(words):
                 self.assertEqual((status, output, line), self.run_it("zygos", *words))
+                self.assertEqual(line + advice, self.run_it("zygos", *words, wants="1")[2][: len(line + advice)])
                 told, got, said = self.at_terminal("zygos", *words)
                 self.assertEqual((status, output), (told, got))
                 self.assertEqual(line + advice, said[: len(line + advice)])

@@ -6,12 +6,13 @@ usage: tests/times.py [--shards N] < FILES     (a capture, a journal and a repli
 Each definition is looked up as it reads, at each moment and for each pair of entries. A moment is a number of records:
 what had come after the first ones. It is for up to a few hundred records; `moments.py` is for more.
 """
-import argparse
 import functools
 import sys
 from itertools import accumulate
 
+import checks
 import plain
+from zygos_tools.cli import ends
 from zygos_tools.files.formats import Segment
 from zygos_tools.protocol.model import text_of
 
@@ -136,14 +137,15 @@ def answer(text, shards=16):
     return int(line.startswith("no")), f"{line}\n".encode(), b""
 
 
-def main():
-    words = argparse.ArgumentParser(description=__doc__.strip(), formatter_class=argparse.RawDescriptionHelpFormatter)
-    words.add_argument("--shards", type=int, default=16)
-    status, written, said = answer(sys.stdin.buffer.read(), words.parse_args().shards)
+def main(words):
+    given, files = ends.options(words, {"--shards": ends.number(1, 256)})
+    if files:
+        ends.stop("the files come on standard input; --help says more", 2)
+    status, written, said = answer(sys.stdin.buffer.read(), given.get("--shards", 16))
     sys.stdout.buffer.write(written)
     sys.stderr.buffer.write(said)
-    sys.exit(status)
+    return status
 
 
 if __name__ == "__main__":
-    main()
+    checks.script(main, __doc__)

@@ -40,7 +40,7 @@ class Server:
         self.place = place if isinstance(place, str) else "[{}]:{}".format(*address[:2])
 
     def do(self, task):
-        return asyncio.run_coroutine_threadsafe(task, self.loop).result(30)
+        return asyncio.run_coroutine_threadsafe(task, self.loop).result(600)
 
     async def listen(self, place):
         if isinstance(place, str):

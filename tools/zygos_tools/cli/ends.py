@@ -11,10 +11,10 @@ import signal
 import sys
 import tempfile
 import traceback
-from collections.abc import Callable, Iterable
+from collections.abc import Callable, Container, Iterable
 from typing import Any, NoReturn
 
-from zygos_tools.cli.screen import say
+from zygos_tools.cli import screen
 from zygos_tools.files.outputs import STANDARD_OUTPUT
 from zygos_tools.files.part import Fault
 
@@ -72,10 +72,12 @@ def number(least: int, most: int | None = None) -> Option:
     return f"a number of {least} or more" if most is None else f"a number from {least} to {most}", read_number
 
 
-def options(words: Iterable[str], known: dict[str, Option | None]) -> tuple[dict[str, Any], list[str]]:
+def options(words: Iterable[str], known: dict[str, Option | None],
+            several: Container[str] = ()) -> tuple[dict[str, Any], list[str]]:
     """The values of the options among the words, by their names, and the other words, which are the files.
 
-    `known` has the options of the tool. One that takes nothing has None there, and then the value True.
+    `known` has the options of the tool. One that takes nothing has None there, and then the value True. Those of `several`
+    may be given more than once, and have a list of values.
     """
     found: dict[str, Any] = {}
     files: list[str] = []
@@ -92,7 +94,8 @@ def options(words: Iterable[str], known: dict[str, Option | None]) -> tuple[dict
         elif (option := known[name]) is not None:
             if not joined and rest and rest[0].startswith("--"):
                 stop(f"{name} takes {option[0]}, not {rest[0]}", 2)
-            found[name] = value_of(name, option, [value] if joined else rest)
+            one = value_of(name, option, [value] if joined else rest)
+            found[name] = [*found.get(name, ()), one] if name in several else one
         elif joined:
             stop(f"{name} takes no value", 2)
         else:
@@ -153,7 +156,7 @@ def leave(why: str, status: int) -> NoReturn:
             sys.stdout.flush()
     except (OSError, ValueError):
         pass
-    say(why)
+    screen.say(why)
     os._exit(status)  # what could not be written is not tried again
 
 
@@ -171,8 +174,10 @@ def carried_out(main: Callable[[list[str]], object], page: str) -> int:
     return status
 
 
-def run(main: Callable[[list[str]], object], page: str) -> NoReturn:
-    """Runs a tool with its words, and ends the process; `page` is what it prints for --help."""
+def run(main: Callable[[list[str]], object], page: str, name: str | None = None) -> NoReturn:
+    """Runs a tool with its words, and ends the process; `page` is what it prints for --help, and `name` how its lines begin
+    if it is none of tools/."""
+    screen.NAME = name or screen.NAME
     signal.signal(signal.SIGPIPE, signal.SIG_DFL)
     for number in ending_signals():
         signal.signal(number, signalled)

@@ -54,6 +54,7 @@ BEFORE, MOST = 40, 160
 # for how many seconds an order is searched for, if that is left out, and what is taken if none is found by then
 SECONDS = 60
 NEAR = ": causes are those near the order of arrival; --seconds searches longer"
+LIMITED = "; causes are those near the order of arrival; tools/judge --order with more --states may find one"
 # what is known without the meaning of commands: an output that ends early, an answer that no command has, a command
 # that one side answers, and answers that are never in step again
 ENDED, BEYOND, ALONE, LEFT, OUTPUTS, UNKNOWN = "ended", "beyond", "alone", "left", "outputs", "unknown"
@@ -418,7 +419,8 @@ def main(words: list[str]) -> None:
             ends.stop(f"{option} is of the search for causes, which --capture begins; --help says more", 2)
     gc.disable()  # what is read stays to the end
     screen = Screen()
-    search = Search(given.get("--seconds", SECONDS), screen.ticker(), lambda why: screen.say(why + NEAR), given.get("--order"))
+    search = Search(given.get("--seconds", SECONDS), screen.ticker(), lambda why: screen.say(why + NEAR),
+                    lambda why: screen.say(why + LIMITED), given.get("--order"))
     read = [outputs(name) for name in files]
     recorded = int(is_of_zygos(*read[0]) and not is_of_zygos(*read[1]))
     pair = [found for found, _ in read]

@@ -58,6 +58,7 @@ OPTIONS: dict[str, ends.Option | None] = {
 # for how many seconds an order is searched for, if that is left out
 SECONDS = 60
 GIVEN_UP = (", and another search may find one: give --seconds more, or --write-order FILE, and --cut with --order FILE")
+NEAR = "; the order is one near that of arrival; tools/judge --order with more --states may find one"
 BARRIER, BARRIER_ANSWER = b"mn\r\n", b"MN\r\n"
 
 
@@ -169,7 +170,8 @@ def main(words: list[str]) -> None:
         refuse_full(written)
     gc.disable()  # what is read stays to the end
     screen = Screen()
-    search = Search(given.get("--seconds", SECONDS), screen.ticker(), screen.say if written else given_up, order)
+    search = Search(given.get("--seconds", SECONDS), screen.ticker(), screen.say if written else given_up,
+                    lambda why: screen.say(why + NEAR), order)
     arrivals, replies = Arrivals(files[0]), files[1] if len(files) == 2 else None
     made: Iterable[bytes]
     if "--cut" in given:

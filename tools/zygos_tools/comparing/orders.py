@@ -27,7 +27,7 @@ from zygos_tools.comparing.steps import alike
 from zygos_tools.files.formats import Output
 from zygos_tools.files.inputs import name_of
 from zygos_tools.files.part import Fault
-from zygos_tools.judging.events import Verdict
+from zygos_tools.judging.events import Limited, Verdict
 from zygos_tools.judging.judge import Clock, Judge
 from zygos_tools.protocol.meaning import line_of
 
@@ -352,6 +352,9 @@ def judged(arrivals: Arrivals, given: Sequence[Given], texts: Texts, search: Sea
     try:
         judge = Judge(arrivals.capture(), outputs, loses=True, limit=LIMIT, clock=clock, has_reasons=False)
         judge.run()
+    except Limited as verdict:
+        search.note(f"no order was found: {verdict.why.partition('; ')[0]}")
+        return None
     except Verdict:
         if search.seconds is not None and monotonic() - clock.begun > search.seconds:
             search.say(f"no order was found in {search.seconds:g} seconds")

@@ -24,11 +24,13 @@ def no_ticks(_: str) -> None:
 
 @dataclass(frozen=True, slots=True)
 class Search:
-    """How an order is searched for. `tick` is called about once a second, and `say` with what was not found."""
+    """How an order is searched for. `tick` is called about once a second, `say` if none was found in the time, and `note`
+    with a limit that the search met otherwise, as it does each time."""
 
     seconds: float | None = None
     tick: Callable[[str], None] = no_ticks
     say: Callable[[str], None] = no_ticks
+    note: Callable[[str], None] = no_ticks
     order: str | None = None
 
 

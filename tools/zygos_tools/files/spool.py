@@ -2,10 +2,12 @@
 
 A spool is a capture (growing.py): its segments are what came, and its close records are those of the capture of what
 was sent. A replies file has each output whole, so the spool is gone over twice: for the lengths, and to put each piece
-at its place. What is in memory does not grow with it.
+at its place. What is in memory does not grow with it. Where the replies go to a pipe, pieces cannot be put at places:
+then 8 bytes for each segment say where it is, and outputs come one after the other.
 """
 import os
-from collections.abc import Callable
+from array import array
+from collections.abc import Callable, Iterator
 from typing import Protocol
 
 from zygos_tools.files.formats import END, Segment, capture_head, capture_records, output_start, replies_start
@@ -79,3 +81,26 @@ def replies_of(spool: int, file: int, version: int, count: int, screen: Shows) -
     write_at(file, replies_start(version), 0)
     screen.clear()
     return sum(found.sizes)
+
+
+def replies_in_order(spool: int, version: int, count: int, screen: Shows) -> Iterator[bytes]:
+    """The pieces of the replies file of a spool, which is an open file, one after the other."""
+    size = os.fstat(spool).st_size
+    passed = screen.progress(f"joining {size >> 20} MB of replies", 2 * size)
+    outputs = [[array("Q")] for _ in range(count)]
+    part = reading(spool, passed=passed)
+    for record in capture_records(part, *capture_head(part)):
+        if isinstance(record, Segment):
+            length = len(record.text)
+            outputs[record.connection][-1].append((part.place - length) << 16 | length)
+        else:
+            outputs[record.connection].append(array("Q"))
+    yield replies_start(version)
+    for connection, places_of in enumerate(outputs):
+        for session, places in enumerate(places_of):
+            yield output_start(version, connection, session, sum(place & 0xFFFF for place in places))
+            for place in places:
+                yield os.pread(spool, place & 0xFFFF, place >> 16)
+                passed(place & 0xFFFF)
+    yield END
+    screen.clear()

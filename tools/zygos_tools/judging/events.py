@@ -83,6 +83,10 @@ class Unknown(Verdict):
     word = "unknown"
 
 
+class Limited(Unknown):
+    """The search of a key ended at its most states, as it does each time."""
+
+
 class Asked:
     """A command as it was recorded, to be printed; `number` is its number among those of its connection."""
 

@@ -7,7 +7,7 @@ from dataclasses import dataclass
 from itertools import accumulate
 
 from zygos_tools.files.formats import shown
-from zygos_tools.judging.events import CAS, FLUSH, GET, Event, Unknown, counted
+from zygos_tools.judging.events import CAS, FLUSH, GET, Event, Limited, Unknown, counted
 from zygos_tools.judging.flushes import Flushes
 from zygos_tools.judging.needs import ITEM, Needs
 from zygos_tools.judging.orders import CHANGED, WAS_LOST, Order, Orders, Placed
@@ -120,7 +120,7 @@ class Keys:
             raise Reason(self, calls, stuck.at).verdict() from None
         except GaveUp:
             told = f"key {shown(names[0])}" if len(names) == 1 else "keys " + ", ".join(map(shown, names[:5]))
-            raise Unknown(f"{told}: given up after {counted(self.limit, 'state')}; give --states more", keys=names,
+            raise Limited(f"{told}: given up after {counted(self.limit, 'state')}; give --states more", keys=names,
                           connections=[event.connection for event in calls.events]) from None
         for key in names:
             self.put(key, [calls.events[made.place] for made in order], order)

@@ -43,7 +43,7 @@ from zygos_tools.files import inputs
 from zygos_tools.files.formats import (MOST_CONNECTIONS, Segment, capture_head, capture_records, replies_heads,
                                        replies_version)
 from zygos_tools.files.growing import Growing, reading
-from zygos_tools.files.spool import replies_of
+from zygos_tools.files.spool import replies_in_order
 from zygos_tools.files.outputs import naming
 from zygos_tools.files.part import PIECE
 from zygos_tools.playing.playing import Play, Script, Step
@@ -197,17 +197,16 @@ def main(words):
     scripts = [Script(one) for one in ([streams.steps_in_order()] if "--in-order" in found else steps)]
     uniques = Uniques()
     translating = translation(found, uniques, streams.count)
-    with naming("a temporary file"), tempfile.TemporaryFile() as kept, tempfile.TemporaryFile() as made:
+    with naming("a temporary file"), tempfile.TemporaryFile() as kept:
         spool = Growing(kept.fileno())
         play, begin = Play(scripts, found, spool, screen, translating), time.perf_counter()
         interruptible(play)
         told(screen, play, time.perf_counter() - begin)
         told_of(screen, uniques)
         spool.finish(streams.version, streams.count)
-        replies_of(kept.fileno(), made.fileno(), streams.version, streams.count, screen)
         signal.signal(signal.SIGPIPE, signal.SIG_DFL)
-        with naming("standard output"):
-            shutil.copyfileobj(made, sys.stdout.buffer, 1 << 20)
+        with naming("-"):
+            sys.stdout.buffer.writelines(replies_in_order(kept.fileno(), streams.version, streams.count, screen))
             sys.stdout.flush()
     if play.missing or play.faults or play.is_interrupted:
         ends.end(1)

@@ -23,12 +23,12 @@ picture says so.
 """
 import sys
 from collections import Counter, namedtuple
-from xml.sax.saxutils import escape
 
 from zygos_tools.cli import ends
 from zygos_tools.files import inputs
 from zygos_tools.files.formats import GETS, MOST_CORES, MOST_HOLD, SETS, Entry, journal_records
 from zygos_tools.files.part import Fault
+from zygos_tools.showing.svg import Drawing
 
 MOST_ROWS, MOST_BARS, GROUPS = 64, 32, 128
 BLUE, ORANGE, GREEN, GRAY, HOME = "#2a6cab", "#d1701e", "#3f8f4f", "#8a8a8a", "#111111"
@@ -111,38 +111,21 @@ class Run:
 # ---- drawing
 
 
-class Drawing:
-    def __init__(self):
-        self.lines = []
-
-    def text(self, x, y, words, anchor="start", size=12, more=""):
-        self.lines.append(f'<text x="{x:.1f}" y="{y:.1f}" text-anchor="{anchor}" font-size="{size}"{more}>'
-                          f"{escape(words)}</text>")
-
-    def box(self, x, y, width, height, fill, more=""):
-        self.lines.append(f'<rect x="{x:.1f}" y="{y:.1f}" width="{width:.1f}" height="{height:.1f}" '
-                          f'fill="{fill}"{more}/>')
-
-    def line(self, x, y, to_x, to_y, color="black"):
-        self.lines.append(f'<path d="M{x:.1f} {y:.1f}L{to_x:.1f} {to_y:.1f}" stroke="{color}"/>')
-
-    def legend(self, x, y, names):
-        for color, name in names:
-            self.box(x, y - 9, 10, 10, color)
-            self.text(x + 14, y, name, size=11)
-            x += 24 + 6.5 * len(name)
+def legend(drawing, x, y, names):
+    """Colours, each with what it stands for."""
+    for color, name in names:
+        drawing.box(x, y - 9, 10, 10, color)
+        drawing.text(x + 14, y, name, size=11)
+        x += 24 + 6.5 * len(name)
 
 
 def svg(drawings):
     """The picture of drawings, each with its height, one below the other."""
-    height, lines = sum(tall for _, tall in drawings), []
-    head = f'<svg xmlns="http://www.w3.org/2000/svg" viewBox="0 0 {WIDTH} {height:.0f}" width="{WIDTH}" ' \
-           f'height="{height:.0f}" font-family="sans-serif">'
-    y = 0
+    whole, height = Drawing(), 0
     for drawing, tall in drawings:
-        lines += [f'<g transform="translate(0 {y:.0f})">', *drawing.lines, "</g>"]
-        y += tall
-    return "\n".join([head, f'<rect width="{WIDTH}" height="{height:.0f}" fill="white"/>', *lines, "</svg>"])
+        whole.group(height, drawing)
+        height += tall
+    return whole.document(WIDTH, height)
 
 
 def number(value):
@@ -199,8 +182,7 @@ def grid(drawing, run, width):
             if count:
                 drawing.box(x + 0.5, y + 0.5, wide - 1, tall - 1, shade(count / most))
             if count and tall >= 12 and wide >= 6.5 * len(number(count)) + 4:
-                fill = ' fill="white"' if count / most > 0.5 else ""
-                drawing.text(x + wide / 2, y + tall / 2 + 4, number(count), "middle", 10, fill)
+                drawing.text(x + wide / 2, y + tall / 2 + 4, number(count), "middle", 10, "white" if count / most > 0.5 else "")
         if row.home is not None:
             drawing.box(LEFT + row.home * wide + 0.75, y + 0.75, wide - 1.5, tall - 1.5, "none",
                         f' stroke="{HOME}" stroke-width="1.5"')
@@ -249,7 +231,7 @@ def stolen_chart(drawing, run, y):
     groups = [(share(of[1], of[0]), share(of[3], of[2])) for of in found]
     base = bars(drawing, y, "Stolen of what each core carried out", groups, (BLUE, ORANGE),
                 list(map(str, range(run.cores))), [0, 50, 100], " %")
-    drawing.legend(RIGHT + 44, y + 20, ((BLUE, "of its commands"), (ORANGE, "of its holds")))
+    legend(drawing, RIGHT + 44, y + 20, ((BLUE, "of its commands"), (ORANGE, "of its holds")))
     drawing.text(WIDTH - 16, base + 27, "core", "end", 10)
     return base + 54
 
@@ -268,7 +250,7 @@ def shards_chart(drawing, run, y):
     groups = [[sum(column) for column in zip(*found[at : at + size])] for at in range(0, len(found), size)]
     labels = [names(range(at, min(at + size, len(found)))) for at in range(0, len(found), size)]
     base = bars(drawing, y, "Calls by shard", groups, (BLUE, ORANGE, GREEN, GRAY), labels, marks(max(map(max, groups))))
-    drawing.legend(RIGHT + 44, y + 20, ((BLUE, "gets"), (ORANGE, "sets"), (GREEN, "hits"), (GRAY, "misses")))
+    legend(drawing, RIGHT + 44, y + 20, ((BLUE, "gets"), (ORANGE, "sets"), (GREEN, "hits"), (GRAY, "misses")))
     drawing.text(WIDTH - 16, base + 27, "shard" if size == 1 else f"a bar for up to {size} shards", "end", 10)
     return base + 34
 
