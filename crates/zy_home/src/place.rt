@@ -1,5 +1,6 @@
 //! The steps at one place of a home: what is done with a block, its link and the pass.
-ghost use Rattle.std.specs.Prelude.{◌≡◌, ◌≢◌, ◌<◌, ◌≤◌, ◌+◌, ◌^◌, ◌||◌, ℕ, false, OnOk, OnErr, IfOk, IfSome, IfNone, Some, None, slice_get};
+ghost use Rattle.std.specs.Prelude.{◌≡◌, ◌≢◌, ◌<◌, ◌≤◌, ◌+◌, ◌^◌, ◌||◌, ℕ, false, OnOk, OnErr, IfOk, IfSome};
+ghost use Rattle.std.specs.Prelude.{IfNone, Some, None, slice_get};
 ghost use Rattle.zy_conn.specs.Hold.{HeldTo, IsRecorded};
 ghost use Rattle.zy_conn.specs.Work.{mark_of};
 ghost use Rattle.zy_home.specs.Link.{Link, SameLink, StandsOn, TakesIn, IsFor, conn_of};
@@ -8,7 +9,7 @@ ghost use Rattle.zy_home.specs.Idle.{due_mark};
 ghost use Rattle.zy_home.specs.Own.{IsRising, is_end, item_conn};
 ghost use Rattle.zy_home.specs.Home.{conns_in};
 ghost use Rattle.zy_home.specs.Turn.{IsDue, IsSettled, IsPutBack};
-ghost use Rattle.zy_home.specs.Between.{StaysIdle};
+ghost use Rattle.zy_home.specs.Receiving.{StaysIdle};
 
 use crate::link::Link;
 use mc_store::StoreTable;
