@@ -3,8 +3,7 @@
 //! Word `s` is `2k` if shard `s` is free and has had `k` calls, and `2k + 1` if a pass has it. Slot
 //! `s` has shard `s` while it is free. A call loads the word, exchanges the even word with the odd one
 //! above it, calls the shard in its slot, and stores an even word again.
-ghost use Rattle.std.specs.Prelude.{◌≡◌, ◌<◌, ◌≤◌, ◌^◌, ℕ, [], ◌∷◌, ◌++◌, length, true, false, IfOk, OnOk};
-ghost use Rattle.std.specs.Prelude.{OnErr, IfErr};
+ghost use Rattle.std.specs.Prelude.{◌≡◌, ◌<◌, ◌≤◌, ◌^◌, ℕ, [], ◌∷◌, ◌++◌, length, true, false, IfOk, OnOk, OnErr, IfErr};
 ghost use Rattle.mc_calls.specs.Key.{hash_of};
 ghost use Rattle.mc_calls.specs.Kind.{MayAnswer};
 ghost use Rattle.mc_calls.specs.Order.{last_stamp};

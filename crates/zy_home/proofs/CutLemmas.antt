@@ -1,8 +1,9 @@
 -- What a home keeps while items are cut.
-use Rattle.std.specs.Prelude.{◌||◌, ◌==◌, Ok}
+use Rattle.std.specs.Prelude.{◌||◌, ◌==◌, Result, Ok, Err, IfOk, OnOk, is_err}
 use Rattle.std.proofs.Common.{◌≡◌, ◌≢◌, ℕ, ◌+◌, ◌<◌, ◌≤◌, List, [], ◌∷◌, ◌++◌, length, set, get_or, Bool, true, false, Option, Some, None, slice_get, refl, sym, ap, ◌∙◌, subst, arith, append_assoc, append-nil, length-append, length-set}
 use mathlib.Core.Logic.{dite}
 use native.Mathlib.Decide.{ℕ_discrete}
+use Rattle.zy_base.specs.declared.outside.NoMemory.{NoMemory}
 use Rattle.zy_table.specs.Member.{is_in}
 use Rattle.zy_table.proofs.MemberLemmas.{in_cons, in_front, in_more}
 use Rattle.zy_table.proofs.SliceLemmas.{get_at, get_below, get_set_same}
@@ -44,10 +45,10 @@ in_last p (q ∷ qs) = in_more q p (qs ++ p ∷ []) (in_last p qs)
 
 -- ---- an item is cut
 
-module _ (h : Homed) (own : conns_in h.links ≡ own_conns h.core h.cores h.count) (p : ℕ) (item : Rx) (comes : ComesTo h p item) (l : Link) (x0 : Option Blocked) (there : slice_get h.links p ≡ Some l) (slot : slice_get h.blocks p ≡ Some x0) (is_own : IsFor (conn_of l) item) (m : Link) (due : due_mark m ≡ due_mark l) (takes : TakesIn item l m) (full : x0 ≡ None → WaitsFull m) where
+module _ (h : Homed) (own : conns_in h.links ≡ own_conns h.core h.cores h.count) (p : ℕ) (item : Rx) (comes : ComesTo h p item) (l : Link) (x0 : Option Blocked) (there : slice_get h.links p ≡ Some l) (slot : slice_get h.blocks p ≡ Some x0) (is_own : IsFor (conn_of l) item) (m : Link) (due : due_mark m ≡ due_mark l) (takes : TakesIn item l m) (full : x0 ≡ None → WaitsFull m) (refused : Bool) where
   -- the home after it
   abbrev cut_home : Homed
-  cut_home = record h { links = set h.links p m }
+  cut_home = record h { links = set h.links p m; refused = refused }
 
   cut_cuts : CutsOne h item cut_home
   cut_cuts = record {
@@ -61,8 +62,8 @@ module _ (h : Homed) (own : conns_in h.links ≡ own_conns h.core h.cores h.coun
     dropped = λ none. absurd (none p comes);
   }
 
-  pub cut_in : CutsIn h item cut_home
-  cut_in = (cut_cuts, more_at h own p l m there (ap (λ (z : Mark). z.0) due) comes.live item is_own takes)
+  cut_in : CutsIn h item cut_home
+  cut_in = (cut_cuts, λ items s. let t = more_at h own p l m there (ap (λ (z : Mark). z.0) due) comes.live item is_own takes items s in record { ended = t.ended; links = t.links })
 
 -- the home keeps its rule, if the place is left to settle, or its block is idle still, or memory was refused
 module _ (h : Homed) (live : h.refused ≡ false) (p : ℕ) (l : Link) (x0 : Option Blocked) (there : slice_get h.links p ≡ Some l) (slot : slice_get h.blocks p ≡ Some x0) (m : Link) (due : due_mark m ≡ due_mark l) (left : List ℕ) (k : IsSoundBut left h) where
@@ -87,12 +88,10 @@ module _ (h : Homed) (live : h.refused ≡ false) (p : ℕ) (l : Link) (x0 : Opt
       here none None e = λ out. k.each live p None l e there out ∙ ap Some (sym due)
       here none (Some c) e = let at = k.each live p (Some c) l e there in (at.0 ∙ sym due, idle none c (let x : Some x0 ≡ Some (Some c) = sym slot ∙ e in cc) at.1)
 
-  pub cut_left : (got : Bool) → (got ≡ false → StaysIdle x0 l m) → IsSoundBut (left_after p (Ok got) left) (record h { links = set h.links p m; refused = h.refused })
-  cut_left true stays = cut_sound (left ++ p ∷ []) h.refused (λ _ q ne. in_append q p left ne) (λ _ c e old out. absurd (let is = in_last p left in cc))
-  cut_left false stays = cut_sound left h.refused (λ _ q ne. refl) (λ _ c e old out. stays refl c e (old out))
-
-  pub cut_refused : IsSoundBut left (record h { links = set h.links p m; refused = true })
-  cut_refused = cut_sound left true (λ e. absurd (cc)) (λ e. absurd (cc))
+  pub cut_left : (r : Result Bool NoMemory) → IfOk r (λ got. got ≡ false → StaysIdle x0 l m) → (refused : Bool) → refused ≡ is_err r → IsSoundBut (left_after p r left) (record h { links = set h.links p m; refused = refused })
+  cut_left (Ok true) stays refused is = cut_sound (left ++ p ∷ []) refused (λ _ q ne. in_append q p left ne) (λ _ c e old out. absurd (let is = in_last p left in cc))
+  cut_left (Ok false) stays refused is = cut_sound left refused (λ _ q ne. refl) (λ _ c e old out. stays refl c e (old out))
+  cut_left (Err e) stays refused is = cut_sound left refused (λ none. absurd (cc)) (λ none. absurd (cc))
 
 -- ---- the connections of a home
 
@@ -116,6 +115,11 @@ module _ (p : ℕ) (item : Rx) (bs : List (Option Blocked)) (L : Links) (long : 
 
     pub cut_slot : (x0 : Option Blocked) → x0 ≡ get_or bs p x0 → slice_get bs p ≡ Some x0
     cut_slot x0 slot = get_at bs p x0 x0 cut_near.0 slot
+
+    pub cut_value : AreOfCore L → (x0 : Option Blocked) → x0 ≡ get_or bs p x0 → (m : Link) → due_mark m ≡ due_mark l → (refused : Bool) (r : Result Bool NoMemory) → OnOk r (TakesIn item l m) → OnOk r (x0 ≡ None → WaitsFull m)
+        → OnOk r ((pass : Held Blocked) → CutsIn (homed pass bs L) item (record (homed pass bs L) { links = set L.items.items p m; refused = refused }))
+    cut_value own x0 slot m due refused (Ok got) takes full = λ pass. cut_in (homed pass bs L) own p item (comes_to pass bs L p item comes) l x0 cut_there (cut_slot x0 slot) cut_own m due takes full refused
+    cut_value own x0 slot m due refused (Err e) takes full = tt
 
 -- an item that is for no place
 pub cut_past : (h : Homed) (item : Rx) → ((p : ℕ) → ComesTo h p item → ⊥) → CutsIn h item (record h { ended = h.ended || is_end item })

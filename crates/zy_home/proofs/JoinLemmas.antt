@@ -13,8 +13,8 @@ use Rattle.zy_home.specs.Link.{Link}
 use Rattle.zy_home.specs.Idle.{due_mark, mark_in}
 use Rattle.zy_home.specs.Home.{Homed, IsSoundHome, IsAt, all_here}
 use Rattle.zy_home.specs.Place.{IsOut, with_pass}
-use Rattle.zy_home.proofs.TurnLemmas.{at_else}
-use Rattle.zy_home.proofs.SettleLemmas.{back_sound, out_sound}
+use Rattle.zy_home.proofs.TurnLemmas.{at_else, turned_sound}
+use Rattle.zy_home.proofs.SettleLemmas.{back_turns, out_sound}
 
 -- there is a member below the length
 pub some_there : {A : Type 0} (l : List A) (i : ℕ) → i < length l → (x : A) × (slice_get l i ≡ Some x)
@@ -109,4 +109,4 @@ not_joined h w n p b k j size here =
 pub put_back : (h : Homed) (k : IsSoundHome h) (p : ℕ) (b b' : Blocked) (x : Option Blocked) (o : IsOut h p b) → h.refused ≡ false → label_in b' ≡ label_in b → x ≡ Some b' → IsSoundHome (record h { blocks = set h.blocks p x; refused = true })
 put_back h k p b b' x o live label filled =
     subst (λ ls. IsSoundHome (record h { blocks = set h.blocks p x; links = ls; refused = true })) (set_there h.links p o.link o.there)
-    (back_sound h p o.link o.link h.pass x o.there refl o.hand (record { block = b'; label = label ∙ o.label; pass_is = refl; slot_is = filled }) live [] (out_sound h p b o k))
+    (turned_sound h p x o.link o.link h.pass (back_turns h p o.link o.link h.pass x o.there refl o.hand (record { block = b'; label = label ∙ o.label; pass_is = refl; slot_is = filled })) true [] live (λ none. absurd (cc)) (out_sound h p b o k))

@@ -1,12 +1,13 @@
 -- What a home keeps when a block is settled or put back, and when the blocks of touched places are.
-use Rattle.std.specs.Prelude.{map, is_some}
+use Rattle.std.specs.Prelude.{map, is_some, is_err, Result, Ok, Err, OnOk, OnErr}
 use Rattle.std.proofs.Common.{◌≡◌, ℕ, zero, suc, drop, ◌+◌, ◌<◌, ◌≤◌, List, [], ◌∷◌, ◌++◌, length, set, get_or, Bool, true, false, Option, Some, None, slice_get, refl, sym, ap, ◌∙◌, subst, arith}
 use Rattle.std.proofs.lemmas.List.{drop_more}
+use Rattle.zy_base.specs.declared.outside.NoMemory.{NoMemory}
 use Rattle.zy_table.specs.Member.{is_in}
 use Rattle.zy_table.proofs.MemberLemmas.{in_cons, in_front, in_more, in_without}
 use Rattle.zy_table.proofs.SliceLemmas.{get_at, get_below, get_set_same, set_there}
 use Rattle.zy_shuffle.specs.Hand.{marked}
-use Rattle.zy_shuffle.specs.Run.{Before}
+use Rattle.zy_shuffle.specs.Run.{Before, was_idle}
 use Rattle.zy_shuffle.specs.Pass.{Held, after_publish}
 use Rattle.zy_shuffle.proofs.HandLemmas.{marked_here, marked_else}
 use Rattle.zy_conn.specs.Work.{has_event}
@@ -47,6 +48,13 @@ same_turns p v w is =
 
 -- ---- one place
 
+-- a block was settled at a place, or put back. l is the connection of the place
+pub record Settling (before : Before) (h : Homed) (p : ℕ) (given : Blocked) (l m : Link) (w : Held Blocked) (x : Option Blocked) (r : Result Unit NoMemory) (refused : Bool) : Type 0 where
+  pub sound : (rest : List ℕ) → IsSoundBut (p ∷ rest) h → IsSoundBut rest (home_turned h p x m w refused)
+  pub same : SameHome h (home_turned h p x m w refused)
+  pub settled : OnOk r (Settles before p given h (home_turned h p x m w refused))
+  pub stands : OnOk r (StandsOn l m) → OnOk r (StandsHome h (home_turned h p x m w refused))
+
 module _ (h : Homed) (p : ℕ) (l m : Link) (w : Held Blocked) (x : Option Blocked) (there : slice_get h.links p ≡ Some l) (conn : conn_of m ≡ conn_of l) (hand : is_in p h.pass.hand ≡ true) where
   -- a block is in the slot, and the pass is the same
   slot_turns : (b : Blocked) → w ≡ h.pass → x ≡ Some b → label_in b ≡ h.pass.label → Turns h p x l m w
@@ -75,8 +83,8 @@ module _ (h : Homed) (p : ℕ) (l m : Link) (w : Held Blocked) (x : Option Block
       go true e = out (s.event e)
       go false e = in_slot (s.idle e)
 
-  pub settled_here : {before : Before} (given : Blocked) → IsSettled before p given m h.pass w x → Settles before p given h (home_turned h p x m w h.refused)
-  settled_here given s = record {
+  settled_here : {before : Before} (given : Blocked) (refused : Bool) → IsSettled before p given m h.pass w x → Settles before p given h (home_turned h p x m w refused)
+  settled_here given refused s = record {
     block = s.block;
     met = s.met;
     event = λ e. let is = s.event e in (is.0, ap (set h.blocks p) is.1);
@@ -86,24 +94,23 @@ module _ (h : Homed) (p : ℕ) (l m : Link) (w : Held Blocked) (x : Option Block
     behind = λ n e. subst (λ z. WaitsBehind z s.block) (get_set_same h.links p m n e) s.behind;
   }
 
-  pub settled_stands : StandsOn l m → StandsHome h (home_turned h p x m w h.refused)
-  settled_stands on items e = let last = set_stands h p l m there conn on items e in record { ended = last.ended; links = last.links }
-
-  pub settled_sound : {before : Before} (given : Blocked) → IsSettled before p given m h.pass w x → h.refused ≡ false → (rest : List ℕ) → IsSoundBut (p ∷ rest) h → IsSoundBut rest (home_turned h p x m w h.refused)
-  settled_sound given s live rest = let t = settled_turns given s in turned_sound h p x l m w t.0 h.refused rest live (λ _. t.1 rest)
-
-  pub settled_same : {before : Before} (given : Blocked) → IsSettled before p given m h.pass w x → SameHome h (home_turned h p x m w h.refused)
-  settled_same given s = turned_same h p x l m w (settled_turns given s).0 h.refused
-
   -- the block was put back
-  back_turns : IsPutBack h.pass w x → Turns h p x l m w
+  pub back_turns : IsPutBack h.pass w x → Turns h p x l m w
   back_turns s = slot_turns s.block s.pass_is s.slot_is s.label
 
-  pub back_sound : IsPutBack h.pass w x → h.refused ≡ false → (rest : List ℕ) → IsSoundBut (p ∷ rest) h → IsSoundBut rest (home_turned h p x m w true)
-  back_sound s live rest = turned_sound h p x l m w (back_turns s) true rest live (λ e. absurd (cc))
-
-  pub back_same : IsPutBack h.pass w x → SameHome h (home_turned h p x m w true)
-  back_same s = turned_same h p x l m w (back_turns s) true
+  pub settling : {before : Before} (given : Blocked) → h.refused ≡ false → (r : Result Unit NoMemory) → OnOk r (IsSettled before p given m h.pass w x) → OnErr r (IsPutBack h.pass w x) → (refused : Bool) → refused ≡ is_err r → Settling before h p given l m w x r refused
+  settling given live (Ok done) s back refused is = let t = settled_turns given s in record {
+    sound = λ rest. turned_sound h p x l m w t.0 refused rest live (λ _. t.1 rest);
+    same = turned_same h p x l m w t.0 refused;
+    settled = settled_here given refused s;
+    stands = λ on items e. let last = set_stands h p l m there conn on items e in record { ended = last.ended; links = last.links };
+  }
+  settling given live (Err e) s back refused is = let t = back_turns back in record {
+    sound = λ rest. turned_sound h p x l m w t refused rest live (λ none. absurd (cc));
+    same = turned_same h p x l m w t refused;
+    settled = tt;
+    stands = λ on. tt;
+  }
 
 -- the connection of the place of a block that may be settled
 pub out_there : (h : Homed) (p : ℕ) (given : Blocked) (l : Link) → IsOut h p given → l ≡ get_or h.links p l → slice_get h.links p ≡ Some l
@@ -140,6 +147,10 @@ module _ (h : Homed) (p : ℕ) (live : h.refused ≡ false) (t : (rest : List �
     -- the slot is empty
     pub place_empty : (x : Option Blocked) → x ≡ x0 → record h { blocks = set h.blocks p x; links = set h.links p l } ≡ h
     place_empty x same i = record h { blocks = (ap (set h.blocks p) same ∙ set_there h.blocks p x0 touched_slot) i; links = set_there h.links p l touched_there i }
+
+    pub place_settled : (c : Blocked) → x0 ≡ Some c → {h' : Homed} (r : Result Unit NoMemory) → OnOk r (Settles was_idle p c h h') → OnOk r (StandsHome h h') → OnOk r (SettlesAt p h h')
+    place_settled c e (Ok done) settles stands = record { slot = Some c; there = touched_slot ∙ ap Some e; steps = (settles, stands) }
+    place_settled c e (Err e2) settles stands = tt
 
     -- the block may be settled
     pub touched_due : (c : Blocked) → x0 ≡ Some c → IsDue h.pass p l c

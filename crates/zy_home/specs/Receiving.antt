@@ -38,11 +38,12 @@ pub record CutsAll (h : Homed) (taken : List Rx) (h' : Homed) (taken' : List Rx)
 
 -- ---- settling
 
--- the block of a place was settled, if it was in its slot
+-- what was done with the block of a place, if it was in its slot
 abbrev pub StepsIn : ℕ → Option Blocked → Homed → Homed → Type 0
 StepsIn place None h h' = h' ≡ h
 StepsIn place (Some given) h h' = Settles was_idle place given h h' × StandsHome h h'
 
+-- the block of a place was settled, if it was in its slot, and nothing was done otherwise
 pub record SettlesAt (place : ℕ) (h h' : Homed) : Type 0 where
   pub slot : Option Blocked
   pub there : slice_get h.blocks place ≡ Some slot

@@ -1,6 +1,5 @@
 -- The views of one core's passes on the rings of the others, and the effect of a steal on them.
-use Rattle.std.specs.Prelude.{◌≡◌, ◌≢◌, ℕ, ◌+◌, ◌<◌, List, [], ◌∷◌, length, map, slice_get, slice_set, Option}
-use Rattle.std.specs.Prelude.{Some, None, true}
+use Rattle.std.specs.Prelude.{◌≡◌, ◌≢◌, ℕ, ◌+◌, ◌<◌, List, [], ◌∷◌, length, map, slice_get, slice_set, Option, Some, None, true}
 use Rattle.atomic_table.specs.Seated.{TableId}
 use Rattle.zy_table.specs.declared.name.Name.{Name}
 use Rattle.zy_table.specs.Member.{is_in, without}

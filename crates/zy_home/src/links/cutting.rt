@@ -122,12 +122,6 @@ impl Links {
         ensures kept { (self.new.touched ≡ self.old.touched) × (self.new.ended ≡ self.old.ended) }
         ensures refused { self.new.refused ≡ is_err result }
     {
-        match cut_at(&slots[at], &mut self.items[at], item) {
-            Ok(touched) => Ok(touched),
-            Err(e) => {
-                self.refused = true;
-                Err(e)
-            }
-        }
+        cut_at(&slots[at], &mut self.items[at], item, &mut self.refused)
     }
 }

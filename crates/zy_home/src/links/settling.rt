@@ -42,7 +42,7 @@ impl Links {
         ensures kept { (self.new.ended ≡ self.old.ended) × (self.new.refused ≡ is_err result) }
     {
         let at = place as usize;
-        match settle_at::<B>(
+        settle_at::<B>(
             ring,
             pass,
             &mut slots[at],
@@ -50,13 +50,8 @@ impl Links {
             room,
             place,
             block,
-        ) {
-            Ok(()) => Ok(()),
-            Err(e) => {
-                self.refused = true;
-                Err(e)
-            }
-        }
+            &mut self.refused,
+        )
     }
 
     // Settles the blocks of the places that were touched.
@@ -115,16 +110,10 @@ impl Links {
     {
         // The call tells the prover that the places are the slots of the ring's table, at most 4096.
         let _places = ring.places();
-        let (slot, link) = (&mut slots[place], &mut self.items[place]);
+        let (slot, link, refused) = (&mut slots[place], &mut self.items[place], &mut self.refused);
         let Some(block) = mem::replace(slot, None) else {
             return Ok(());
         };
-        match settle_at::<WasIdle>(ring, pass, slot, link, room, place as u32, block) {
-            Ok(()) => Ok(()),
-            Err(e) => {
-                self.refused = true;
-                Err(e)
-            }
-        }
+        settle_at::<WasIdle>(ring, pass, slot, link, room, place as u32, block, refused)
     }
 }

@@ -1,6 +1,6 @@
 use Rattle.std.proofs.Common.{refl, arith}
 use Rattle.zy_home.specs.Links.{homed}
-use Rattle.zy_home.proofs.CutLemmas.{comes_to, cut_conns, cut_in, cut_left, cut_near, cut_own, cut_refused, cut_slot, cut_there}
+use Rattle.zy_home.proofs.CutLemmas.{cut_conns, cut_left, cut_near, cut_own, cut_slot, cut_there, cut_value}
 use Rattle.zy_home.proofs.links.Links.cut_for.Goals as goal
 
 pub index-requires : goal.index-requires
@@ -12,29 +12,14 @@ index_mut-requires c = let near = (cut_near c.args.at c.args.item.now c.args.slo
 pub cut_at-requires : goal.cut_at-requires
 cut_at-requires c = record { own = cut_own c.args.at c.args.item.now c.args.slots.now.items c.args.self.now c.requires.long c.requires.comes c.index_mut.result.now c.index_mut.ensures.value }
 
-pub returns-in-Ok-clause-value : goal.returns-in-Ok-clause-value
-returns-in-Ok-clause-value c pass =
-    let h = homed pass c.args.slots.now.items c.args.self.now in
+pub returns-clause-value : goal.returns-clause-value
+returns-clause-value c = cut_value c.args.at c.args.item.now c.args.slots.now.items c.args.self.now c.requires.long c.requires.comes c.index_mut.result.now c.index_mut.ensures.value c.requires.own c.index.result.now c.index.ensures c.cut_at.new.link c.cut_at.ensures.due _ c.cut_at.result c.cut_at.ensures.takes c.cut_at.ensures.away
+
+pub returns-clause-sound : goal.returns-clause-sound
+returns-clause-sound c pass left k =
     let there = cut_there c.args.at c.args.item.now c.args.slots.now.items c.args.self.now c.requires.long c.requires.comes c.index_mut.result.now c.index_mut.ensures.value in
     let slot = cut_slot c.args.at c.args.item.now c.args.slots.now.items c.args.self.now c.requires.long c.requires.comes c.index_mut.result.now c.index_mut.ensures.value c.index.result.now c.index.ensures in
-    cut_in h c.requires.own c.args.at c.args.item.now (comes_to pass c.args.slots.now.items c.args.self.now c.args.at c.args.item.now c.requires.comes) c.index_mut.result.now c.index.result.now there slot (cut_at-requires c).own c.cut_at.new.link c.cut_at.ensures.due c.in-Ok.ensures.takes c.in-Ok.ensures.away
+    cut_left (homed pass c.args.slots.now.items c.args.self.now) c.requires.live c.args.at c.index_mut.result.now c.index.result.now there slot c.cut_at.new.link c.cut_at.ensures.due left k c.cut_at.result c.cut_at.ensures.idle _ c.cut_at.ensures.refused
 
-pub returns-in-Ok-clause-sound : goal.returns-in-Ok-clause-sound
-returns-in-Ok-clause-sound c pass left k =
-    let h = homed pass c.args.slots.now.items c.args.self.now in
-    let there = cut_there c.args.at c.args.item.now c.args.slots.now.items c.args.self.now c.requires.long c.requires.comes c.index_mut.result.now c.index_mut.ensures.value in
-    let slot = cut_slot c.args.at c.args.item.now c.args.slots.now.items c.args.self.now c.requires.long c.requires.comes c.index_mut.result.now c.index_mut.ensures.value c.index.result.now c.index.ensures in
-    cut_left h c.requires.live c.args.at c.index_mut.result.now c.index.result.now there slot c.cut_at.new.link c.cut_at.ensures.due left k c.in-Ok.touched c.in-Ok.ensures.idle
-
-pub returns-in-Err-clause-sound : goal.returns-in-Err-clause-sound
-returns-in-Err-clause-sound c pass left k =
-    let h = homed pass c.args.slots.now.items c.args.self.now in
-    let there = cut_there c.args.at c.args.item.now c.args.slots.now.items c.args.self.now c.requires.long c.requires.comes c.index_mut.result.now c.index_mut.ensures.value in
-    let slot = cut_slot c.args.at c.args.item.now c.args.slots.now.items c.args.self.now c.requires.long c.requires.comes c.index_mut.result.now c.index_mut.ensures.value c.index.result.now c.index.ensures in
-    cut_refused h c.requires.live c.args.at c.index_mut.result.now c.index.result.now there slot c.cut_at.new.link c.cut_at.ensures.due left k
-
-pub returns-in-Ok-clause-same : goal.returns-in-Ok-clause-same
-returns-in-Ok-clause-same c = record { share = refl; conns = cut_conns c.args.at c.args.item.now c.args.slots.now.items c.args.self.now c.requires.long c.requires.comes c.index_mut.result.now c.index_mut.ensures.value c.cut_at.new.link c.cut_at.ensures.due }
-
-pub returns-in-Err-clause-same : goal.returns-in-Err-clause-same
-returns-in-Err-clause-same c = record { share = refl; conns = cut_conns c.args.at c.args.item.now c.args.slots.now.items c.args.self.now c.requires.long c.requires.comes c.index_mut.result.now c.index_mut.ensures.value c.cut_at.new.link c.cut_at.ensures.due }
+pub returns-clause-same : goal.returns-clause-same
+returns-clause-same c = record { share = refl; conns = cut_conns c.args.at c.args.item.now c.args.slots.now.items c.args.self.now c.requires.long c.requires.comes c.index_mut.result.now c.index_mut.ensures.value c.cut_at.new.link c.cut_at.ensures.due }

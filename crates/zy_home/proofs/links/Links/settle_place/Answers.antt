@@ -1,7 +1,8 @@
 use Rattle.std.proofs.Common.{None, Some, sym, ap, ◌∙◌, subst, arith}
+use Rattle.std.proofs.lemmas.Result.{on_err_weaker}
 use Rattle.zy_home.specs.Home.{IsSoundBut}
 use Rattle.zy_home.specs.Links.{homed}
-use Rattle.zy_home.proofs.SettleLemmas.{back_same, back_sound, place_empty, rest_none, same_hand, settled_here, settled_same, settled_sound, settled_stands, touched_due, touched_near, touched_slot, touched_there}
+use Rattle.zy_home.proofs.SettleLemmas.{place_empty, place_settled, rest_none, same_hand, settling, touched_due, touched_near, touched_slot, touched_there}
 use Rattle.zy_home.proofs.links.Links.settle_place.Goals as goal
 
 pub index_mut-requires : goal.index_mut-requires
@@ -38,41 +39,30 @@ returns-in_default-clause-sound c rest k =
 pub settle_at-requires-clause-due : goal.settle_at-requires-clause-due
 settle_at-requires-clause-due c = touched_due (homed c.args.pass.now c.args.slots.now.items c.args.self.now) c.args.place c.requires.live c.requires.left _ _ c.index_mut.ensures.value c.index_mut-2.ensures.value c.in-Some.block (sym c.replace.ensures.value ∙ c.in-Some.is)
 
--- it was settled
-pub returns-in-Ok-clause-ok : goal.returns-in-Ok-clause-ok
-returns-in-Ok-clause-ok c =
+-- it was settled, or put back
+pub returns-clause-ok : goal.returns-clause-ok
+returns-clause-ok c =
     let h = homed c.args.pass.now c.args.slots.now.items c.args.self.now in
     let there = touched_there h c.args.place c.requires.live c.requires.left _ _ c.index_mut.ensures.value c.index_mut-2.ensures.value in
-    let same = c.settle_at.ensures.same.conn in
-    let due = settle_at-requires-clause-due c in record {
-      slot = Some c.in-Some.block;
-      there = touched_slot h c.args.place c.requires.live c.requires.left _ _ c.index_mut.ensures.value c.index_mut-2.ensures.value ∙ ap Some (sym c.replace.ensures.value ∙ c.in-Some.is);
-      steps = (settled_here h c.args.place _ _ _ _ there same due.hand c.in-Some.block c.in-Ok.ensures.ok, settled_stands h c.args.place _ _ _ _ there same due.hand c.in-Ok.ensures.stands);
-    }
+    let step = settling h c.args.place _ _ _ _ there c.settle_at.ensures.same.conn (settle_at-requires-clause-due c).hand c.in-Some.block c.requires.live c.settle_at.result c.settle_at.ensures.ok c.settle_at.ensures.err _ c.settle_at.ensures.refused in
+    place_settled h c.args.place c.requires.live c.requires.left _ _ c.index_mut.ensures.value c.index_mut-2.ensures.value c.in-Some.block (sym c.replace.ensures.value ∙ c.in-Some.is) c.settle_at.result step.settled (step.stands c.settle_at.ensures.stands)
 
-pub returns-in-Ok-clause-sound : goal.returns-in-Ok-clause-sound
-returns-in-Ok-clause-sound c =
-    let h = homed c.args.pass.now c.args.slots.now.items c.args.self.now in
-    settled_sound h c.args.place _ _ _ _ (touched_there h c.args.place c.requires.live c.requires.left _ _ c.index_mut.ensures.value c.index_mut-2.ensures.value) c.settle_at.ensures.same.conn (settle_at-requires-clause-due c).hand c.in-Some.block c.in-Ok.ensures.ok c.requires.live
-
-pub returns-in-Ok-clause-same : goal.returns-in-Ok-clause-same
-returns-in-Ok-clause-same c =
-    let h = homed c.args.pass.now c.args.slots.now.items c.args.self.now in
-    settled_same h c.args.place _ _ _ _ (touched_there h c.args.place c.requires.live c.requires.left _ _ c.index_mut.ensures.value c.index_mut-2.ensures.value) c.settle_at.ensures.same.conn (settle_at-requires-clause-due c).hand c.in-Some.block c.in-Ok.ensures.ok
-
--- it was put back
-pub returns-in-Err-clause-err : goal.returns-in-Err-clause-err
-returns-in-Err-clause-err c =
+pub returns-clause-err : goal.returns-clause-err
+returns-clause-err c =
     let h = homed c.args.pass.now c.args.slots.now.items c.args.self.now in
     let slot = touched_slot h c.args.place c.requires.live c.requires.left _ _ c.index_mut.ensures.value c.index_mut-2.ensures.value in
-    record { pass = c.in-Err.ensures.err.pass_is; blocks = same_hand c.args.slots.now.items c.args.place _ _ _ c.in-Some.block (slot ∙ ap Some (sym c.replace.ensures.value ∙ c.in-Some.is)) c.in-Err.ensures.err }
+    on_err_weaker c.settle_at.result (λ s. record { pass = s.pass_is; blocks = same_hand c.args.slots.now.items c.args.place _ _ _ c.in-Some.block (slot ∙ ap Some (sym c.replace.ensures.value ∙ c.in-Some.is)) s }) c.settle_at.ensures.err
 
-pub returns-in-Err-clause-sound : goal.returns-in-Err-clause-sound
-returns-in-Err-clause-sound c =
+pub returns-clause-sound : goal.returns-clause-sound
+returns-clause-sound c =
     let h = homed c.args.pass.now c.args.slots.now.items c.args.self.now in
-    back_sound h c.args.place _ _ _ _ (touched_there h c.args.place c.requires.live c.requires.left _ _ c.index_mut.ensures.value c.index_mut-2.ensures.value) c.settle_at.ensures.same.conn (settle_at-requires-clause-due c).hand c.in-Err.ensures.err c.requires.live
+    let there = touched_there h c.args.place c.requires.live c.requires.left _ _ c.index_mut.ensures.value c.index_mut-2.ensures.value in
+    let step = settling h c.args.place _ _ _ _ there c.settle_at.ensures.same.conn (settle_at-requires-clause-due c).hand c.in-Some.block c.requires.live c.settle_at.result c.settle_at.ensures.ok c.settle_at.ensures.err _ c.settle_at.ensures.refused in
+    step.sound
 
-pub returns-in-Err-clause-same : goal.returns-in-Err-clause-same
-returns-in-Err-clause-same c =
+pub returns-clause-same : goal.returns-clause-same
+returns-clause-same c =
     let h = homed c.args.pass.now c.args.slots.now.items c.args.self.now in
-    back_same h c.args.place _ _ _ _ (touched_there h c.args.place c.requires.live c.requires.left _ _ c.index_mut.ensures.value c.index_mut-2.ensures.value) c.settle_at.ensures.same.conn (settle_at-requires-clause-due c).hand c.in-Err.ensures.err
+    let there = touched_there h c.args.place c.requires.live c.requires.left _ _ c.index_mut.ensures.value c.index_mut-2.ensures.value in
+    let step = settling h c.args.place _ _ _ _ there c.settle_at.ensures.same.conn (settle_at-requires-clause-due c).hand c.in-Some.block c.requires.live c.settle_at.result c.settle_at.ensures.ok c.settle_at.ensures.err _ c.settle_at.ensures.refused in
+    step.same
