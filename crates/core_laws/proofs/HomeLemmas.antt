@@ -75,11 +75,11 @@ ended_conns [] = refl
 ended_conns (l ∷ ls) = ap (λ c. conn_of l ∷ c) (ended_conns ls)
 
 -- a connection whose block is idle in the hand
-finished_at : (label : Name) (received : ℕ → Sessions) (pass : Held Blocked) (p : ℕ) (b : Blocked) (l : Link) → IsHere pass p b → IsAt pass p l (Some b) → pass.label ≡ label → LinkStands l (received (conn_of l)) → IsHandedOut label received b (ended_of l)
+finished_at : (label : Name) (received : ℕ → Sessions) (pass : Held Blocked) (p : ℕ) (b : Blocked) (l : Link) → IsHere pass p b → IsAt [] pass p l (Some b) → pass.label ≡ label → LinkStands l (received (conn_of l)) → IsHandedOut label received b (ended_of l)
 finished_at label received pass p b l here at same stands = record {
   conn = ap (λ (m : Mark). m.0) at.0;
   labelled = here.1 ∙ same;
-  finished = λ kept. conn_end b l (received (conn_of l)) kept at.1 at.0 stands;
+  finished = λ kept. conn_end b l (received (conn_of l)) kept (at.1 refl) at.0 stands;
 }
 
 -- the same of each, at places from one on

@@ -1,5 +1,6 @@
 -- A turn of a core: its steps, and its answer.
-use Rattle.std.specs.Prelude.{◌≡◌, ◌⊎◌, ℕ, zero, suc, ◌+◌, ◌<◌, ◌≤◌, List, [], length, Bool, true, false, Option, Some, None}
+use Rattle.std.specs.Prelude.{◌≡◌, ◌⊎◌, ℕ, zero, suc, ◌+◌, ◌<◌, ◌≤◌, List, [], length, Bool, true, false}
+use Rattle.std.specs.Prelude.{Option, Some, None}
 use Rattle.std.proofs.Common.{inl, inr}
 use Rattle.zy_rx.specs.Ring.{Taking}
 use Rattle.zy_conn.specs.declared.hold_end.HoldEnd.{HoldEnd}

@@ -1,12 +1,14 @@
 //! One logical core. (A file `core.rt` would be a module with the name of a library.)
-ghost use Rattle.std.specs.Prelude.{◌≡◌, ◌↔◌, ◌+◌, ◌<◌, ◌^◌, ◌==◌, ◌&&◌, not, ℕ, true, false, [], length, Some, slice_get, OnOk, OnErr, IfOk};
+ghost use Rattle.std.specs.Prelude.{◌≡◌, ◌↔◌, ◌+◌, ◌<◌, ◌^◌, ◌==◌, ◌&&◌, not, ℕ, true, false, [], length, Some};
+ghost use Rattle.std.specs.Prelude.{slice_get, OnOk, OnErr, IfOk};
 ghost use Rattle.zy_home.specs.Home.{HomeStands, all_here, is_settled};
 ghost use Rattle.zy_steal.specs.Steal.{AreIdle, seats_of};
 ghost use Rattle.zy_control.specs.declared.view.Role.TheVariants as roles;
 ghost use Rattle.zy_control.specs.View.{has_announced, has_counted};
 ghost use Rattle.zy_control.specs.Pass.{seeing_done, seeing_stop, seeing_sleepers};
 ghost use Rattle.zy_park.specs.Pass.{ringing_each};
-ghost use Rattle.zy_core.specs.Core.{AreOfOne, CoreKeeps, Fits, cored, stepped, with_count, with_announcement, identity_of};
+ghost use Rattle.zy_core.specs.Core.{AreOfOne, CoreKeeps, Fits, cored, stepped, with_count, with_announcement};
+ghost use Rattle.zy_core.specs.Core.{identity_of};
 ghost use Rattle.zy_core.specs.Turn.{HasSteps, TurnTo, CameTo, ShowsBusy};
 ghost use Rattle.zy_core.specs.Nap.{NapTo, RestTo, bell_after};
 ghost use Rattle.zy_rx.specs.Feed.{rings_of, HasMet};

@@ -1,5 +1,6 @@
 -- Groups of cores, and how one of them rests. No public clause cites this module.
-use Rattle.std.specs.Prelude.{◌≡◌, ◌⊎◌, ℕ, ◌+◌, ◌≤◌, ◌^◌, ◌==◌, nat_lt, ◌&&◌, if◌then◌else◌, List, [], ◌∷◌, map, slice_get}
+use Rattle.std.specs.Prelude.{◌≡◌, ◌⊎◌, ℕ, ◌+◌, ◌≤◌, ◌^◌, ◌==◌, nat_lt, ◌&&◌, if◌then◌else◌, List, [], ◌∷◌, map}
+use Rattle.std.specs.Prelude.{slice_get}
 use Rattle.std.specs.Prelude.{Bool, true, false, Option, Some, None, ⊤}
 use Rattle.zy_park.specs.Pass.{Bells, Passed}
 use Rattle.zy_home.specs.Home.{all_here, is_settled}
@@ -58,8 +59,8 @@ round_of Came.Busy = Busy
 round_of (Came.Idle own) = Idle
 round_of Came.Settled = Idle
 
--- a core took a turn, which came to this round, with its looks over the earlier ones; or it took none, since it
--- has taken the most turns of a core
+-- a core took a turn, which came to this round, and its looks overwrote the earlier ones; or it took none, since it
+-- had taken the most turns that a core may take
 abbrev pub TurnedTo : Cored → Cored → List (Option Look) → List (Option Look) → Round → Type 0
 TurnedTo before after looks looks' round =
     ((came : Came) × (round ≡ round_of came) × CameTo before after looks looks' came)

@@ -102,7 +102,7 @@ module _ (store : TableId) (count : ℕ) (homes : List Homed) (over : AreOver st
         link_there = l.is;
         conn_is = l.conn_is;
         mark = at.0;
-        idle = at.1;
+        idle = at.1 refl;
         table_is = same_store b.block.work.table store b.block.cores (length homes) ((k.here place b.block b.slot).1 ∙ o.label);
         cores_is = same_cores b.block.work.table store b.block.cores (length homes) ((k.here place b.block b.slot).1 ∙ o.label);
       }

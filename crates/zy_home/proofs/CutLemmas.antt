@@ -1,6 +1,6 @@
 -- What a home keeps while items are cut.
-use Rattle.std.specs.Prelude.{◌||◌, ◌==◌, Result, Ok, Err, IfOk, OnOk}
-use Rattle.std.proofs.Common.{◌≡◌, ◌≢◌, ℕ, ◌+◌, ◌<◌, ◌≤◌, List, [], ◌∷◌, ◌++◌, length, set, get_or, Bool, true, false, Option, Some, None, slice_get, refl, sym, ap, ◌∙◌, subst, arith, append_assoc, append-nil, length-append}
+use Rattle.std.specs.Prelude.{◌||◌, ◌==◌, Result, Ok, Err, IfOk, OnOk, is_err}
+use Rattle.std.proofs.Common.{◌≡◌, ◌≢◌, ℕ, ◌+◌, ◌<◌, ◌≤◌, List, [], ◌∷◌, ◌++◌, length, set, get_or, Bool, true, false, Option, Some, None, slice_get, refl, sym, ap, ◌∙◌, subst, arith, append_assoc, append-nil, length-append, length-set}
 use mathlib.Core.Logic.{dite}
 use native.Mathlib.Decide.{ℕ_discrete}
 use Rattle.zy_base.specs.declared.outside.NoMemory.{NoMemory}
@@ -15,13 +15,13 @@ use Rattle.zy_home.specs.Link.{Link, IsFor, TakesIn, conn_of}
 use Rattle.zy_home.specs.Offer.{WaitsFull}
 use Rattle.zy_home.specs.Own.{Share, own_conns, is_end}
 use Rattle.zy_home.specs.Idle.{IsIdleWith, due_mark}
-use Rattle.zy_home.specs.Home.{Homed, HomeStands, StandsMore, conns_in}
+use Rattle.zy_home.specs.Home.{Homed, HomeStands, IsAt, IsSoundBut, StandsMore, conns_in}
 use Rattle.zy_home.specs.declared.links.Links.{Links}
-use Rattle.zy_home.specs.Links.{AreOwn, ComesIn, SameConns, homed}
+use Rattle.zy_home.specs.Links.{AreOfCore, ComesIn, SameConns, homed}
 use Rattle.zy_home.specs.Place.{ComesTo}
 use Rattle.zy_home.specs.Items.{CutsOne, CutsEach, StandsAll}
-use Rattle.zy_home.specs.Between.{IsBetween, Between, StaysIdle, CutsAll, CutsFor, CutsIn}
-use Rattle.zy_home.proofs.TurnLemmas.{between_else, conns-set, each_set}
+use Rattle.zy_home.specs.Receiving.{StaysIdle, CutsAll, CutsIn, left_after}
+use Rattle.zy_home.proofs.TurnLemmas.{at_else, conns-set, each_set}
 use Rattle.zy_home.proofs.ReceiveLemmas.{comes_once, for_is, more_at, more_past, no_end}
 
 -- ---- one after another
@@ -45,10 +45,10 @@ in_last p (q ∷ qs) = in_more q p (qs ++ p ∷ []) (in_last p qs)
 
 -- ---- an item is cut
 
-module _ (h : Homed) (own : conns_in h.links ≡ own_conns h.core h.cores h.count) (p : ℕ) (item : Rx) (comes : ComesTo h p item) (l : Link) (x0 : Option Blocked) (there : slice_get h.links p ≡ Some l) (slot : slice_get h.blocks p ≡ Some x0) (is_own : IsFor (conn_of l) item) (m : Link) (due : due_mark m ≡ due_mark l) (takes : TakesIn item l m) (full : x0 ≡ None → WaitsFull m) where
+module _ (h : Homed) (own : conns_in h.links ≡ own_conns h.core h.cores h.count) (p : ℕ) (item : Rx) (comes : ComesTo h p item) (l : Link) (x0 : Option Blocked) (there : slice_get h.links p ≡ Some l) (slot : slice_get h.blocks p ≡ Some x0) (is_own : IsFor (conn_of l) item) (m : Link) (due : due_mark m ≡ due_mark l) (takes : TakesIn item l m) (full : x0 ≡ None → WaitsFull m) (refused : Bool) where
   -- the home after it
   abbrev cut_home : Homed
-  cut_home = record h { links = set h.links p m }
+  cut_home = record h { links = set h.links p m; refused = refused }
 
   cut_cuts : CutsOne h item cut_home
   cut_cuts = record {
@@ -62,46 +62,48 @@ module _ (h : Homed) (own : conns_in h.links ≡ own_conns h.core h.cores h.coun
     dropped = λ none. absurd (none p comes);
   }
 
-  cut_between : (touched touched' : List ℕ) → ((q : ℕ) → q ≢ p → is_in q touched' ≡ is_in q touched)
-      → ((c : Blocked) → x0 ≡ Some c → (is_in p touched ≡ false → IsIdleWith c.work l) → is_in p touched' ≡ false → IsIdleWith c.work m) → Between h touched → Between cut_home touched'
-  cut_between touched touched' others idle b = (
-    λ q x n eb el. each_set (λ q n. (x : Option Blocked) → slice_get h.blocks q ≡ Some x → IsBetween touched' h.pass q n x) h.links p m here
-        (λ q n ne el x eb. between_else touched touched' h.pass h.pass q n x refl refl (others q ne) (b.0 q x n eb el)) q n el x eb,
-    λ q e. dite (ℕ_discrete q p)
+  cut_in : CutsIn h item cut_home
+  cut_in = (cut_cuts, λ items s. let t = more_at h own p l m there (ap (λ (z : Mark). z.0) due) comes.live item is_own takes items s in record { ended = t.ended; links = t.links })
+
+-- the home keeps its rule, if the place is left to settle, or its block is idle still, or memory was refused
+module _ (h : Homed) (live : h.refused ≡ false) (p : ℕ) (l : Link) (x0 : Option Blocked) (there : slice_get h.links p ≡ Some l) (slot : slice_get h.blocks p ≡ Some x0) (m : Link) (due : due_mark m ≡ due_mark l) (left : List ℕ) (k : IsSoundBut left h) where
+  cut_sound : (left' : List ℕ) (refused : Bool)
+      → (refused ≡ false → (q : ℕ) → q ≢ p → is_in q left' ≡ is_in q left)
+      → (refused ≡ false → (c : Blocked) → x0 ≡ Some c → (is_in p left ≡ false → IsIdleWith c.work l) → is_in p left' ≡ false → IsIdleWith c.work m) → IsSoundBut left' (record h { links = set h.links p m; refused = refused })
+  cut_sound left' refused others idle = record {
+    core = k.core;
+    cores = k.cores;
+    conns = conns-set h.links p l m there (ap (λ (z : Mark). z.0) due) ∙ k.conns;
+    long = k.long ∙ sym (length-set h.links p m);
+    places = k.places ∙ sym (length-set h.links p m);
+    here = k.here;
+    each = λ none q x n eb el. each_set (λ q n. (x : Option Blocked) → slice_get h.blocks q ≡ Some x → IsAt left' h.pass q n x) h.links p m (here none)
+        (λ q n ne el x eb. at_else left left' h.pass h.pass q n x refl refl (others none q ne) (k.each live q x n eb el)) q n el x eb;
+    near = λ none q e. dite (ℕ_discrete q p)
         (λ same. subst (λ z. z < length h.blocks) (sym same) (get_below h.blocks p x0 slot))
-        (λ ne. b.1 q (sym (others q ne) ∙ e)),
-  )
-    where
-      here : (x : Option Blocked) → slice_get h.blocks p ≡ Some x → IsBetween touched' h.pass p m x
-      here None e = λ out. b.0 p None l e there out ∙ ap Some (sym due)
-      here (Some c) e = let r = b.0 p (Some c) l e there in (r.0 ∙ sym due, idle c (let x : Some x0 ≡ Some (Some c) = sym slot ∙ e in cc) r.1)
-
-  cut_in : (touched touched' : List ℕ) → length touched' ≤ length touched + 1 → (Between h touched → Between cut_home touched') → CutsIn h touched item cut_home touched'
-  cut_in touched touched' room between = record {
-    cuts = cut_cuts;
-    stands = more_at h own p l m there (ap (λ (z : Mark). z.0) due) comes.live item is_own takes;
-    between = between;
-    room = room;
+        (λ ne. k.near live q (sym (others none q ne) ∙ e));
   }
+    where
+      here : refused ≡ false → (x : Option Blocked) → slice_get h.blocks p ≡ Some x → IsAt left' h.pass p m x
+      here none None e = λ out. k.each live p None l e there out ∙ ap Some (sym due)
+      here none (Some c) e = let at = k.each live p (Some c) l e there in (at.0 ∙ sym due, idle none c (let x : Some x0 ≡ Some (Some c) = sym slot ∙ e in cc) at.1)
 
-  cuts_for : (got : Bool) → (got ≡ false → StaysIdle x0 l m) → CutsFor p item h cut_home got
-  cuts_for got stays touched = (
-    cut_in touched (touched ++ p ∷ []) (let size = length-append touched (p ∷ []) in omega arith)
-        (cut_between touched (touched ++ p ∷ []) (λ q ne. in_append q p touched ne) (λ c e old out. absurd (let is = in_last p touched in cc))),
-    λ no. cut_in touched touched (omega arith) (cut_between touched touched (λ q ne. refl) (λ c e old out. stays no c e (old out))),
-  )
+  pub cut_left : (r : Result Bool NoMemory) → IfOk r (λ got. got ≡ false → StaysIdle x0 l m) → (refused : Bool) → refused ≡ is_err r → IsSoundBut (left_after p r left) (record h { links = set h.links p m; refused = refused })
+  cut_left (Ok true) stays refused is = cut_sound (left ++ p ∷ []) refused (λ _ q ne. in_append q p left ne) (λ _ c e old out. absurd (let is = in_last p left in cc))
+  cut_left (Ok false) stays refused is = cut_sound left refused (λ _ q ne. refl) (λ _ c e old out. stays refl c e (old out))
+  cut_left (Err e) stays refused is = cut_sound left refused (λ none. absurd (cc)) (λ none. absurd (cc))
 
 -- ---- the connections of a home
 
-pub comes_to : (pass : Held Blocked) (bs : List (Option Blocked)) (L : Links) (refused : Bool) (p : ℕ) (item : Rx) → ComesIn L p item → ComesTo (homed pass bs L refused) p item
-comes_to pass bs L refused p item c = record { live = c.live; link = c.link; there = c.there; own = c.own }
+pub comes_to : (pass : Held Blocked) (bs : List (Option Blocked)) (L : Links) (p : ℕ) (item : Rx) → ComesIn L p item → ComesTo (homed pass bs L) p item
+comes_to pass bs L p item c = record { live = c.live; link = c.link; there = c.there; own = c.own }
 
 module _ (p : ℕ) (item : Rx) (bs : List (Option Blocked)) (L : Links) (long : length bs ≡ length L.items.items) (comes : ComesIn L p item) where
   pub cut_near : (p < length bs) × (p < length L.items.items)
   cut_near = let near = get_below L.items.items p comes.link comes.there in (omega arith, near)
 
   module _ (l : Link) (at : l ≡ get_or L.items.items p l) where
-    cut_there : slice_get L.items.items p ≡ Some l
+    pub cut_there : slice_get L.items.items p ≡ Some l
     cut_there = get_at L.items.items p l l cut_near.1 at
 
     -- the item is for the connection at this place
@@ -111,44 +113,37 @@ module _ (p : ℕ) (item : Rx) (bs : List (Option Blocked)) (L : Links) (long : 
     pub cut_conns : (m : Link) → due_mark m ≡ due_mark l → conns_in (set L.items.items p m) ≡ conns_in L.items.items
     cut_conns m due = conns-set L.items.items p l m cut_there (ap (λ (z : Mark). z.0) due)
 
-    pub cut_value : AreOwn L → (x0 : Option Blocked) → x0 ≡ get_or bs p x0 → (m : Link) → due_mark m ≡ due_mark l → (r : Result Bool NoMemory) → OnOk r (TakesIn item l m) → OnOk r (x0 ≡ None → WaitsFull m) → IfOk r (λ got. got ≡ false → StaysIdle x0 l m)
-        → IfOk r (λ got. (pass : Held Blocked) (refused : Bool) → CutsFor p item (homed pass bs L refused) (record (homed pass bs L refused) { links = set L.items.items p m }) got)
-    cut_value own x0 slot m due (Ok got) takes full idle = λ pass refused.
-        cuts_for (homed pass bs L refused) own p item (comes_to pass bs L refused p item comes) l x0 cut_there (get_at bs p x0 x0 cut_near.0 slot) cut_own m due takes full got idle
-    cut_value own x0 slot m due (Err e) takes full idle = tt
+    pub cut_slot : (x0 : Option Blocked) → x0 ≡ get_or bs p x0 → slice_get bs p ≡ Some x0
+    cut_slot x0 slot = get_at bs p x0 x0 cut_near.0 slot
+
+    pub cut_value : AreOfCore L → (x0 : Option Blocked) → x0 ≡ get_or bs p x0 → (m : Link) → due_mark m ≡ due_mark l → (refused : Bool) (r : Result Bool NoMemory) → OnOk r (TakesIn item l m) → OnOk r (x0 ≡ None → WaitsFull m)
+        → OnOk r ((pass : Held Blocked) → CutsIn (homed pass bs L) item (record (homed pass bs L) { links = set L.items.items p m; refused = refused }))
+    cut_value own x0 slot m due refused (Ok got) takes full = λ pass. cut_in (homed pass bs L) own p item (comes_to pass bs L p item comes) l x0 cut_there (cut_slot x0 slot) cut_own m due takes full refused
+    cut_value own x0 slot m due refused (Err e) takes full = tt
 
 -- an item that is for no place
-pub cut_past : (h : Homed) (touched : List ℕ) (item : Rx) → ((p : ℕ) → ComesTo h p item → ⊥) → CutsIn h touched item (record h { ended = h.ended || is_end item }) touched
-cut_past h touched item none = record {
-  cuts = record { pass = refl; blocks = refl; ended = refl; away = λ p c. absurd (none p c); dropped = λ _. refl };
-  stands = more_past h item none;
-  between = λ b. b;
-  room = omega arith;
-}
+pub cut_past : (h : Homed) (item : Rx) → ((p : ℕ) → ComesTo h p item → ⊥) → CutsIn h item (record h { ended = h.ended || is_end item })
+cut_past h item none = (record { pass = refl; blocks = refl; ended = refl; away = λ p c. absurd (none p c); dropped = λ _. refl }, more_past h item none)
 
 -- ---- items one after another
 
-pub cuts_none : (h : Homed) (taken : List Rx) → CutsAll h taken h taken [] 0
+pub cuts_none : (h : Homed) (taken : List Rx) → CutsAll h taken h taken 0
 cuts_none h taken = record {
   items = [];
   size = refl;
   taken_is = sym (append-nil taken);
   cuts = refl;
   stands = λ earlier s. subst (HomeStands h) (sym (append-nil earlier)) s;
-  between = λ b. b;
-  room = omega arith;
 }
 
-pub cuts_next : (h m h' : Homed) (taken now next : List Rx) (touched touched' : List ℕ) (item : Rx) (count : ℕ) → CutsAll h taken m now touched count → CutsIn m touched item h' touched' → next ≡ now ++ item ∷ [] → CutsAll h taken h' next touched' (count + 1)
-cuts_next h m h' taken now next touched touched' item count s t is = record {
+pub cuts_next : (h m h' : Homed) (taken now next : List Rx) (item : Rx) (count : ℕ) → CutsAll h taken m now count → CutsIn m item h' → next ≡ now ++ item ∷ [] → CutsAll h taken h' next (count + 1)
+cuts_next h m h' taken now next item count s t is = record {
   items = s.items ++ item ∷ [];
   size = (let a = length-append s.items (item ∷ []) in let b = s.size in omega arith);
   taken_is = is ∙ ap (λ l. l ++ item ∷ []) s.taken_is ∙ append_assoc taken s.items (item ∷ []);
-  cuts = cuts_more h m h' s.items item s.cuts t.cuts;
-  stands = stands_more h m h' s.items item s.stands t.stands;
-  between = λ b. t.between (s.between b);
-  room = (let a = t.room in let b = s.room in omega arith);
+  cuts = cuts_more h m h' s.items item s.cuts t.0;
+  stands = stands_more h m h' s.items item s.stands t.1;
 }
 
-pub same_own : (l m : Links) → AreOwn l → SameConns l m → AreOwn m
+pub same_own : (l m : Links) → AreOfCore l → SameConns l m → AreOfCore m
 same_own l m own same = same.conns ∙ own ∙ ap (λ (s : Share). own_conns s.core s.cores s.count) (sym same.share)

@@ -7,41 +7,35 @@ use Rattle.zy_home.specs.Own.{own_conns}
 use Rattle.zy_home.specs.Home.{Homed, StandsMore, conns_in}
 use Rattle.zy_home.specs.Place.{ComesTo, Forwards, Settles}
 use Rattle.zy_home.specs.Items.{CutsEach, RefusedAmid}
-use Rattle.zy_home.specs.Between.{Between, CutsIn, SettlesAt, SettlesOn, StepsIn}
+use Rattle.zy_home.specs.Receiving.{CutsIn, SettlesAt, StepsIn}
 use Rattle.zy_home.proofs.ReceiveLemmas.{comes_once}
 use Rattle.zy_home.proofs.SettleLemmas.{settles_next}
 
 -- ---- one item
 
 -- an item was cut for the connection at a place, and the block of the place was settled
-module _ (h m n : Homed) (p : ℕ) (item : Rx) (c : CutsIn h [] item m (p ∷ [])) (b : Between h []) (s : SettlesAt p m n) where
-  one_settled : SettlesOn m n []
-  one_settled = settles_next m m n p [] (record { places = []; settles = refl; stands = λ items e. e; between = c.between b }) s
-
-  pub one_between : Between n []
-  one_between = one_settled.between
-
+module _ (h m n : Homed) (p : ℕ) (item : Rx) (c : CutsIn h item m) (s : SettlesAt p m n) where
   pub one_stands : StandsMore h item n
-  one_stands items e = one_settled.stands (items ++ item ∷ []) (c.stands items e)
+  one_stands items e = (settles_next m m n p (record { places = []; settles = refl; stands = λ items e. e }) s).stands (items ++ item ∷ []) (c.1 items e)
 
   -- what was done with a block, from before the cut
   one_here : (d : Blocked) → Settles was_idle p d m n → Settles was_idle p d h n
   one_here d at =
       let past : Settles was_idle p d (record h { pass = m.pass; blocks = m.blocks }) n = record { block = at.block; met = at.met; event = at.event; makes = at.makes; idle = at.idle; knows = at.knows; behind = at.behind } in
-      subst (λ z. Settles was_idle p d z n) (λ i. record h { pass = c.cuts.pass i; blocks = c.cuts.blocks i }) past
+      subst (λ z. Settles was_idle p d z n) (λ i. record h { pass = c.0.pass i; blocks = c.0.blocks i }) past
 
   pub one_forwards : conns_in h.links ≡ own_conns h.core h.cores h.count → ComesTo h p item → Forwards h n item
   one_forwards own comes = record {
     here = λ q d to there. let same = comes_once h own p q item comes to in
-        subst (λ z. Settles was_idle z d h n) (sym same) (here s.slot s.there s.steps d (ap (λ bs. slice_get bs p) c.cuts.blocks ∙ ap (slice_get h.blocks) (sym same) ∙ there));
+        subst (λ z. Settles was_idle z d h n) (sym same) (here s.slot s.there s.steps d (ap (λ bs. slice_get bs p) c.0.blocks ∙ ap (slice_get h.blocks) (sym same) ∙ there));
     away = λ q to none.
-        let is = gone s.slot s.there s.steps (ap (λ bs. slice_get bs p) c.cuts.blocks ∙ ap (slice_get h.blocks) (sym (comes_once h own p q item comes to)) ∙ none) in
-        (ap (λ (z : Homed). z.pass) is ∙ c.cuts.pass, ap (λ (z : Homed). z.blocks) is ∙ c.cuts.blocks, λ link e. c.cuts.away q to none link (ap (λ (z : Homed). slice_get z.links q) (sym is) ∙ e));
+        let is = gone s.slot s.there s.steps (ap (λ bs. slice_get bs p) c.0.blocks ∙ ap (slice_get h.blocks) (sym (comes_once h own p q item comes to)) ∙ none) in
+        (ap (λ (z : Homed). z.pass) is ∙ c.0.pass, ap (λ (z : Homed). z.blocks) is ∙ c.0.blocks, λ link e. c.0.away q to none link (ap (λ (z : Homed). slice_get z.links q) (sym is) ∙ e));
   }
     where
       here : (x : Option Blocked) → slice_get m.blocks p ≡ Some x → StepsIn p x m n → (d : Blocked) → slice_get m.blocks p ≡ Some (Some d) → Settles was_idle p d h n
       here None at is d there = absurd (let e = sym at ∙ there in cc)
-      here (Some f) at step d there = let same : f ≡ d = (let e = sym at ∙ there in cc) in one_here d (subst (λ z. Settles was_idle p z m n) same step.settles)
+      here (Some f) at step d there = let same : f ≡ d = (let e = sym at ∙ there in cc) in one_here d (subst (λ z. Settles was_idle p z m n) same step.0)
 
       gone : (x : Option Blocked) → slice_get m.blocks p ≡ Some x → StepsIn p x m n → slice_get m.blocks p ≡ Some None → n ≡ m
       gone None at is none = is

@@ -13,9 +13,8 @@ use Rattle.zy_home.specs.Link.{Link}
 use Rattle.zy_home.specs.Idle.{due_mark, mark_in}
 use Rattle.zy_home.specs.Home.{Homed, IsSoundHome, IsAt, all_here}
 use Rattle.zy_home.specs.Place.{IsOut, with_pass}
-use Rattle.zy_home.specs.Between.{IsOpen}
-use Rattle.zy_home.proofs.TurnLemmas.{at_else, opens, turned_open}
-use Rattle.zy_home.proofs.SettleLemmas.{slot_turns}
+use Rattle.zy_home.proofs.TurnLemmas.{at_else, turned_sound}
+use Rattle.zy_home.proofs.SettleLemmas.{back_turns, out_sound}
 
 -- there is a member below the length
 pub some_there : {A : Type 0} (l : List A) (i : ℕ) → i < length l → (x : A) × (slice_get l i ≡ Some x)
@@ -37,7 +36,8 @@ module _ (h : Homed) (w : Held Blocked) (is : w ≡ record h.pass { trace = w.tr
         long = k.long;
         places = ap (λ (v : Held Blocked). v.table.slots) is ∙ k.places;
         here = λ p b e. let r = k.here p b e in (ap (is_in p) hand ∙ r.0, r.1 ∙ sym label);
-        each = λ live p x l eb el. at_else h.pass w p l x (ap (is_in p) hand) (ap (marked mark_in p) kept) (k.each live p x l eb el);
+        each = λ live p x l eb el. at_else [] [] h.pass w p l x (ap (is_in p) hand) (ap (marked mark_in p) kept) refl (k.each live p x l eb el);
+        near = k.near;
       }
 
 -- ---- a block comes
@@ -48,7 +48,7 @@ module _ (h : Homed) (w : Held Blocked) (n p : ℕ) (b : Blocked) (k : IsSoundHo
   not_here None e = refl
   not_here (Some y) e = absurd (let r = (k.here p y e).0 in let a = j.apart in cc)
 
-  keeps_at : (q : ℕ) (l : Link) (x : Option Blocked) → IsAt h.pass q l x → IsAt w q l x
+  keeps_at : (q : ℕ) (l : Link) (x : Option Blocked) → IsAt [] h.pass q l x → IsAt [] w q l x
   keeps_at q l (Some y) at = at
   keeps_at q l None at = λ out. dite (ℕ_discrete q p)
       (λ same. absurd (let one = in_front p h.pass.hand in let two : is_in p (p ∷ h.pass.hand) ≡ false = ap (λ z. is_in z (p ∷ h.pass.hand)) (sym same) ∙ ap (is_in q) (sym (ap (λ (v : Held Blocked). v.hand) j.is)) ∙ out in cc))
@@ -65,6 +65,7 @@ module _ (h : Homed) (w : Held Blocked) (n p : ℕ) (b : Blocked) (k : IsSoundHo
         places = ap (λ (v : Held Blocked). v.table.slots) j.is ∙ k.places;
         here = λ q y e. let r = k.here q y e in (ap (is_in q) hand ∙ dite (ℕ_discrete q p) (λ same. ap (λ z. is_in z (p ∷ h.pass.hand)) same ∙ in_front p h.pass.hand) (λ ne. in_cons p q h.pass.hand ne ∙ r.0), r.1 ∙ sym label);
         each = λ live q x l eb el. keeps_at q l x (k.each live q x l eb el);
+        near = k.near;
       }
 
   pub out_joins : n ≡ length h.links → h.refused ≡ false → marked mark_in p h.pass.kept ≡ Some (mark_in b) → IsOut (with_pass h w) p b
@@ -105,7 +106,7 @@ not_joined h w n p b k j size here =
 -- ---- a block that came is put back
 
 -- memory was refused with a block out: it was put into its slot, with the mark and the label that it has
-pub put_back : (h : Homed) (k : IsSoundHome h) (p : ℕ) (b b' : Blocked) (x : Option Blocked) (o : IsOut h p b) → label_in b' ≡ label_in b → x ≡ Some b' → IsOpen (record h { blocks = set h.blocks p x })
-put_back h k p b b' x o label filled =
-    let t = slot_turns h p o.link o.link h.pass x o.there refl o.hand b' refl filled (label ∙ o.label) in
-    subst (λ ls. IsOpen (record h { blocks = set h.blocks p x; links = ls })) (set_there h.links p o.link o.there) (turned_open h p x o.link o.link h.pass t (opens h k))
+pub put_back : (h : Homed) (k : IsSoundHome h) (p : ℕ) (b b' : Blocked) (x : Option Blocked) (o : IsOut h p b) → h.refused ≡ false → label_in b' ≡ label_in b → x ≡ Some b' → IsSoundHome (record h { blocks = set h.blocks p x; refused = true })
+put_back h k p b b' x o live label filled =
+    subst (λ ls. IsSoundHome (record h { blocks = set h.blocks p x; links = ls; refused = true })) (set_there h.links p o.link o.there)
+    (turned_sound h p x o.link o.link h.pass (back_turns h p o.link o.link h.pass x o.there refl o.hand (record { block = b'; label = label ∙ o.label; pass_is = refl; slot_is = filled })) true [] live (λ none. absurd (cc)) (out_sound h p b o k))

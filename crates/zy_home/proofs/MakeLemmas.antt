@@ -71,14 +71,14 @@ fresh_push (c ∷ bs) (j ∷ is) (m ∷ ls) b i l f g = (f.0, fresh_push bs is l
 -- ---- the home
 
 -- a new block is idle and has the expected mark
-new_at : (label : Name) (pass : Held Blocked) (p : ℕ) (b : Blocked) (i : EventInlet) (l : Link) → IsNew label b → IsFresh b.work.conn i l → i.ring ≡ b.work.ring → i.sent ≡ [] → IsAt pass p l (Some b)
+new_at : (label : Name) (pass : Held Blocked) (p : ℕ) (b : Blocked) (i : EventInlet) (l : Link) → IsNew label b → IsFresh b.work.conn i l → i.ring ≡ b.work.ring → i.sent ≡ [] → IsAt [] pass p l (Some b)
 new_at label pass p b i l n f ring unused =
     let shown : take b.work.shown (texts_all b.work) ≡ [] = ap (λ k. take k (texts_all b.work)) n.shown in
     let conn : b.work.conn ≡ conn_of l = ap (λ (z : Output). z.conn) (sym f.output) in
     let is : b.work.ring ≡ l.inlet.ring = sym ring ∙ ap (λ (z : EventInlet). z.ring) (sym f.inlet_is) in
     let texts : texts_taken b.work ≡ l.output.texts = shown ∙ ap (λ (z : Output). z.texts) (sym f.output) in (
       (λ j. (conn j, (is j, texts j))),
-      record {
+      λ _. record {
         begun = n.begun;
         known = n.known;
         batch = n.batch;
@@ -119,7 +119,7 @@ module _ (core cores count : ℕ) (pass : Held Blocked) (blocks : List Blocked) 
   unused_at : (p : ℕ) (i : EventInlet) → slice_get inlets p ≡ Some i → i.sent ≡ []
   unused_at p i e = all_at IsUnused parts.inlets p i fits.unused (ap (λ is. slice_get is p) (sym is_inlets) ∙ e)
 
-  is_at : (p : ℕ) (b : Blocked) (l : Link) → slice_get blocks p ≡ Some b → slice_get links p ≡ Some l → IsAt pass p l (Some b)
+  is_at : (p : ℕ) (b : Blocked) (l : Link) → slice_get blocks p ≡ Some b → slice_get links p ≡ Some l → IsAt [] pass p l (Some b)
   is_at p b l eb el =
       let r = fresh_at blocks inlets links p b l fresh eb el in
       new_at parts.pass.label pass p b r.inlet l (new_is p b eb) r.fresh (ring_at p b r.inlet eb r.there) (unused_at p r.inlet r.there)
@@ -135,7 +135,8 @@ module _ (core cores count : ℕ) (pass : Held Blocked) (blocks : List Blocked) 
         let s = slot_at blocks p (Some b) e in
         let same : s.0 ≡ b = (let one = s.2 in cc) in
         (hand_at p s.0 s.1, ap label_in (sym same) ∙ (new_is p s.0 s.1).labelled ∙ ap (λ (v : Held Blocked). v.label) (sym is_pass));
-    each = λ live p x l eb el. let s = slot_at blocks p x eb in subst (IsAt pass p l) (sym s.2) (is_at p s.0 l s.1 el);
+    each = λ live p x l eb el. let s = slot_at blocks p x eb in subst (IsAt [] pass p l) (sym s.2) (is_at p s.0 l s.1 el);
+    near = λ live p e. absurd (cc);
   }
 
   pub made_stands : HomeStands made []

@@ -1,7 +1,6 @@
 -- What a home keeps when a block is settled or put back, and when the blocks of touched places are.
-use Rattle.std.specs.Prelude.{map, is_some, Result, Ok, Err, OnOk, OnErr}
+use Rattle.std.specs.Prelude.{map, is_some, is_err, Result, Ok, Err, OnOk, OnErr}
 use Rattle.std.proofs.Common.{◌≡◌, ℕ, zero, suc, drop, ◌+◌, ◌<◌, ◌≤◌, List, [], ◌∷◌, ◌++◌, length, set, get_or, Bool, true, false, Option, Some, None, slice_get, refl, sym, ap, ◌∙◌, subst, arith}
-use Rattle.std.proofs.lemmas.Result.{on_ok_weaker}
 use Rattle.std.proofs.lemmas.List.{drop_more}
 use Rattle.zy_base.specs.declared.outside.NoMemory.{NoMemory}
 use Rattle.zy_table.specs.Member.{is_in}
@@ -16,12 +15,12 @@ use Rattle.zy_conn.specs.Block.{Blocked, label_in}
 use Rattle.zy_home.specs.Link.{Link, StandsOn, conn_of}
 use Rattle.zy_home.specs.Offer.{WaitsBehind}
 use Rattle.zy_home.specs.Idle.{IsIdleWith, mark_in}
-use Rattle.zy_home.specs.Home.{Homed, IsAt, SameFor, SameHome}
-use Rattle.zy_home.specs.Place.{IsOut, KnowsAll, SameHand}
+use Rattle.zy_home.specs.Home.{Homed, IsAt, IsSoundBut, IsSoundHome, SameFor, SameHome, StandsHome}
+use Rattle.zy_home.specs.Place.{IsOut, KnowsAll, Settles}
 use Rattle.zy_home.specs.Items.{SettlesEach, SettlesHere}
 use Rattle.zy_home.specs.Turn.{IsDue, IsSettled, IsPutBack, PassTurns, Turns, home_turned}
-use Rattle.zy_home.specs.Between.{Between, IsBetween, IsOpen, SettlesAt, SettlesOn, Stepped, StepsIn}
-use Rattle.zy_home.proofs.TurnLemmas.{set_stands, turned_between, turned_open, turned_same}
+use Rattle.zy_home.specs.Receiving.{SettlesAt, SettlesOn, StepsIn}
+use Rattle.zy_home.proofs.TurnLemmas.{set_stands, sound_one, turned_same, turned_sound}
 
 -- ---- passes
 
@@ -49,9 +48,16 @@ same_turns p v w is =
 
 -- ---- one place
 
+-- a block was settled at a place, or put back. l is the connection of the place
+pub record Settling (before : Before) (h : Homed) (p : ℕ) (given : Blocked) (l m : Link) (w : Held Blocked) (x : Option Blocked) (r : Result Unit NoMemory) (refused : Bool) : Type 0 where
+  pub sound : (rest : List ℕ) → IsSoundBut (p ∷ rest) h → IsSoundBut rest (home_turned h p x m w refused)
+  pub same : SameHome h (home_turned h p x m w refused)
+  pub settled : OnOk r (Settles before p given h (home_turned h p x m w refused))
+  pub stands : OnOk r (StandsOn l m) → OnOk r (StandsHome h (home_turned h p x m w refused))
+
 module _ (h : Homed) (p : ℕ) (l m : Link) (w : Held Blocked) (x : Option Blocked) (there : slice_get h.links p ≡ Some l) (conn : conn_of m ≡ conn_of l) (hand : is_in p h.pass.hand ≡ true) where
   -- a block is in the slot, and the pass is the same
-  pub slot_turns : (b : Blocked) → w ≡ h.pass → x ≡ Some b → label_in b ≡ h.pass.label → Turns h p x l m w
+  slot_turns : (b : Blocked) → w ≡ h.pass → x ≡ Some b → label_in b ≡ h.pass.label → Turns h p x l m w
   slot_turns b same filled label = record {
     there = there;
     conn = conn;
@@ -61,62 +67,58 @@ module _ (h : Homed) (p : ℕ) (l m : Link) (w : Held Blocked) (x : Option Block
   }
 
   -- the block was settled
-  settled_turns : {before : Before} (given : Blocked) → IsSettled before p given m h.pass w x → Turns h p x l m w × IsAt w p m x
+  settled_turns : {before : Before} (given : Blocked) → IsSettled before p given m h.pass w x → Turns h p x l m w × ((rest : List ℕ) → IsAt rest w p m x)
   settled_turns given s = go (has_event s.block.work) refl
     where
-      out : (w ≡ after_publish p s.block h.pass w.trace) × (x ≡ None) → Turns h p x l m w × IsAt w p m x
+      out : (w ≡ after_publish p s.block h.pass w.trace) × (x ≡ None) → Turns h p x l m w × ((rest : List ℕ) → IsAt rest w p m x)
       out is = (
         record { there = there; conn = conn; pass = published_turns p s.block h.pass w is.0; here = λ b e. absurd (let no = is.1 in cc) },
-        subst (IsAt w p m) (sym is.1) (λ away. ap (λ (z : Held Blocked). marked mark_in p z.kept) is.0 ∙ marked_here mark_in p s.block h.pass.kept ∙ ap Some s.mark),
+        λ rest. subst (IsAt rest w p m) (sym is.1) (λ away. ap (λ (z : Held Blocked). marked mark_in p z.kept) is.0 ∙ marked_here mark_in p s.block h.pass.kept ∙ ap Some s.mark),
       )
 
-      in_slot : (w ≡ h.pass) × (x ≡ Some s.block) × IsIdleWith s.block.work m → Turns h p x l m w × IsAt w p m x
-      in_slot is = (slot_turns s.block is.0 is.1 s.label, subst (IsAt w p m) (sym is.1) (s.mark, is.2))
+      in_slot : (w ≡ h.pass) × (x ≡ Some s.block) × IsIdleWith s.block.work m → Turns h p x l m w × ((rest : List ℕ) → IsAt rest w p m x)
+      in_slot is = (slot_turns s.block is.0 is.1 s.label, λ rest. subst (IsAt rest w p m) (sym is.1) (s.mark, λ _. is.2))
 
-      go : (b : Bool) → has_event s.block.work ≡ b → Turns h p x l m w × IsAt w p m x
+      go : (b : Bool) → has_event s.block.work ≡ b → Turns h p x l m w × ((rest : List ℕ) → IsAt rest w p m x)
       go true e = out (s.event e)
       go false e = in_slot (s.idle e)
 
-  -- the block was settled, or put back
-  step_turns : (before : Before) (given : Blocked) (r : Result Unit NoMemory) → OnOk r (IsSettled before p given m h.pass w x) → OnErr r (IsPutBack h.pass w x) → Turns h p x l m w
-  step_turns before given (Ok done) ok err = (settled_turns given ok).0
-  step_turns before given (Err e) ok err = slot_turns err.block err.pass_is err.slot_is err.label
+  settled_here : {before : Before} (given : Blocked) (refused : Bool) → IsSettled before p given m h.pass w x → Settles before p given h (home_turned h p x m w refused)
+  settled_here given refused s = record {
+    block = s.block;
+    met = s.met;
+    event = λ e. let is = s.event e in (is.0, ap (set h.blocks p) is.1);
+    makes = s.makes;
+    idle = λ e. let is = s.idle e in (is.0, ap (set h.blocks p) is.1);
+    knows = λ n e. subst (λ z. KnowsAll z s.block) (get_set_same h.links p m n e) s.knows;
+    behind = λ n e. subst (λ z. WaitsBehind z s.block) (get_set_same h.links p m n e) s.behind;
+  }
 
-  pub stepped : {before : Before} (given : Blocked) → IsSettled before p given m h.pass w x → StandsOn l m → Stepped before p given h (home_turned h p x m w)
-  stepped given s on =
-      let t = settled_turns given s in record {
-        settles = record {
-          block = s.block;
-          met = s.met;
-          event = λ e. let is = s.event e in (is.0, ap (set h.blocks p) is.1);
-          makes = s.makes;
-          idle = λ e. let is = s.idle e in (is.0, ap (set h.blocks p) is.1);
-          knows = λ n e. subst (λ z. KnowsAll z s.block) (get_set_same h.links p m n e) s.knows;
-          behind = λ n e. subst (λ z. WaitsBehind z s.block) (get_set_same h.links p m n e) s.behind;
-        };
-        stands = λ items e. let last = set_stands h p l m there conn on items e in record { ended = last.ended; links = last.links };
-        between = turned_between h p x l m w t.0 t.1;
-      }
+  -- the block was put back
+  pub back_turns : IsPutBack h.pass w x → Turns h p x l m w
+  back_turns s = slot_turns s.block s.pass_is s.slot_is s.label
 
--- a block was settled at a place, or put back. l is the connection of the place
-pub record Settling (before : Before) (h : Homed) (p : ℕ) (given : Blocked) (l m : Link) (w : Held Blocked) (x : Option Blocked) (r : Result Unit NoMemory) : Type 0 where
-  pub sound : IsOpen (home_turned h p x m w)
-  pub same : SameHome h (home_turned h p x m w)
-  pub ok : OnOk r (StandsOn l m) → OnOk r ((refused : Bool) → Stepped before p given (record h { refused = refused }) (home_turned (record h { refused = refused }) p x m w))
+  pub settling : {before : Before} (given : Blocked) → h.refused ≡ false → (r : Result Unit NoMemory) → OnOk r (IsSettled before p given m h.pass w x) → OnErr r (IsPutBack h.pass w x) → (refused : Bool) → refused ≡ is_err r → Settling before h p given l m w x r refused
+  settling given live (Ok done) s back refused is = let t = settled_turns given s in record {
+    sound = λ rest. turned_sound h p x l m w t.0 refused rest live (λ _. t.1 rest);
+    same = turned_same h p x l m w t.0 refused;
+    settled = settled_here given refused s;
+    stands = λ on items e. let last = set_stands h p l m there conn on items e in record { ended = last.ended; links = last.links };
+  }
+  settling given live (Err e) s back refused is = let t = back_turns back in record {
+    sound = λ rest. turned_sound h p x l m w t refused rest live (λ none. absurd (cc));
+    same = turned_same h p x l m w t refused;
+    settled = tt;
+    stands = λ on. tt;
+  }
 
-pub settling : (before : Before) (h : Homed) (p : ℕ) (given : Blocked) (l m : Link) (w : Held Blocked) (x : Option Blocked) → IsOpen h → IsOut h p given → l ≡ get_or h.links p l → conn_of m ≡ conn_of l
-    → (r : Result Unit NoMemory) → OnOk r (IsSettled before p given m h.pass w x) → OnErr r (IsPutBack h.pass w x) → Settling before h p given l m w x r
-settling before h p given l m w x k o at conn r ok err =
-    let there : slice_get h.links p ≡ Some l = get_at h.links p l l (get_below h.links p o.link o.there) at in
-    let t = step_turns h p l m w x there conn o.hand before given r ok err in record {
-      sound = turned_open h p x l m w t k;
-      same = turned_same h p x l m w t;
-      ok = go r ok there;
-    }
-  where
-    go : (r : Result Unit NoMemory) → OnOk r (IsSettled before p given m h.pass w x) → slice_get h.links p ≡ Some l → OnOk r (StandsOn l m) → OnOk r ((refused : Bool) → Stepped before p given (record h { refused = refused }) (home_turned (record h { refused = refused }) p x m w))
-    go (Ok done) s there on = λ refused. stepped (record h { refused = refused }) p l m w x there conn o.hand given s on
-    go (Err e) s there on = tt
+-- the connection of the place of a block that may be settled
+pub out_there : (h : Homed) (p : ℕ) (given : Blocked) (l : Link) → IsOut h p given → l ≡ get_or h.links p l → slice_get h.links p ≡ Some l
+out_there h p given l o at = get_at h.links p l l (get_below h.links p o.link o.there) at
+
+-- one place is left to settle
+pub out_sound : (h : Homed) (p : ℕ) (given : Blocked) → IsOut h p given → IsSoundHome h → IsSoundBut (p ∷ []) h
+out_sound h p given o k = let near = get_below h.links p o.link o.there in let long = k.long in sound_one h p (omega arith) k
 
 -- ---- the hand after a refusal
 
@@ -131,79 +133,68 @@ same_hand bs p v w x b e s = filled-set bs p (Some b) x e (ap is_some s.slot_is)
 -- ---- a touched place
 
 -- l is the connection of the place, and x0 is in its slot
-module _ (h : Homed) (k : IsOpen h) (p : ℕ) (t : (rest : List ℕ) × Between h (p ∷ rest)) where
+module _ (h : Homed) (p : ℕ) (live : h.refused ≡ false) (t : (rest : List ℕ) × IsSoundBut (p ∷ rest) h) where
   pub touched_near : (p < length h.blocks) × (p < length h.links)
-  touched_near = let near = t.1.1 p (in_front p t.0) in let long = k.long in (near, omega arith)
+  touched_near = let near = t.1.near live p (in_front p t.0) in let long = t.1.long in (near, omega arith)
 
   module _ (l : Link) (x0 : Option Blocked) (slot : x0 ≡ get_or h.blocks p x0) (at : l ≡ get_or h.links p l) where
-    touched_there : slice_get h.links p ≡ Some l
+    pub touched_there : slice_get h.links p ≡ Some l
     touched_there = get_at h.links p l l touched_near.1 at
 
-    touched_slot : slice_get h.blocks p ≡ Some x0
+    pub touched_slot : slice_get h.blocks p ≡ Some x0
     touched_slot = get_at h.blocks p x0 x0 touched_near.0 slot
 
     -- the slot is empty
-    pub place_empty : (x : Option Blocked) → x ≡ x0 → x0 ≡ None → (refused : Bool) → SettlesAt p (record h { refused = refused }) (record h { blocks = set h.blocks p x; links = set h.links p l; refused = refused })
-    place_empty x same none refused = record {
-      slot = None;
-      there = touched_slot ∙ ap Some none;
-      steps = λ i. record h { blocks = (ap (set h.blocks p) same ∙ set_there h.blocks p x0 touched_slot) i; links = set_there h.links p l touched_there i; refused = refused };
-    }
+    pub place_empty : (x : Option Blocked) → x ≡ x0 → record h { blocks = set h.blocks p x; links = set h.links p l } ≡ h
+    place_empty x same i = record h { blocks = (ap (set h.blocks p) same ∙ set_there h.blocks p x0 touched_slot) i; links = set_there h.links p l touched_there i }
 
-    module _ (c : Blocked) (e : x0 ≡ Some c) where
-      -- the block may be settled
-      pub touched_due : IsDue h.pass p l c
-      touched_due =
-          let here = k.here p c (touched_slot ∙ ap Some e) in
-          let each = t.1.0 p (Some c) l (touched_slot ∙ ap Some e) touched_there in
-          record { hand = here.0; mark = each.0; label = here.1 }
+    pub place_settled : (c : Blocked) → x0 ≡ Some c → {h' : Homed} (r : Result Unit NoMemory) → OnOk r (Settles was_idle p c h h') → OnOk r (StandsHome h h') → OnOk r (SettlesAt p h h')
+    place_settled c e (Ok done) settles stands = record { slot = Some c; there = touched_slot ∙ ap Some e; steps = (settles, stands) }
+    place_settled c e (Err e2) settles stands = tt
 
-      module _ (m : Link) (w : Held Blocked) (x : Option Blocked) (conn : conn_of m ≡ conn_of l) (r : Result Unit NoMemory) (ok : OnOk r (IsSettled was_idle p c m h.pass w x)) (err : OnErr r (IsPutBack h.pass w x)) where
-        pub touched_settling : Settling was_idle h p c l m w x r
-        touched_settling = settling was_idle h p c l m w x k (record { link = l; there = touched_there; hand = touched_due.hand; mark = touched_due.mark; label = touched_due.label }) at conn r ok err
-
-        pub place_settled : OnOk r (StandsOn l m) → OnOk r ((refused : Bool) → SettlesAt p (record h { refused = refused }) (home_turned (record h { refused = refused }) p x m w))
-        place_settled on = on_ok_weaker r (λ steps refused. record { slot = Some c; there = touched_slot ∙ ap Some e; steps = steps refused }) (touched_settling.ok on)
-
-        pub place_back : OnErr r ((before after : Bool) → SameHand (record h { refused = before }) (home_turned (record h { refused = after }) p x m w))
-        place_back = go r err
-          where
-            go : (r : Result Unit NoMemory) → OnErr r (IsPutBack h.pass w x) → OnErr r ((before after : Bool) → SameHand (record h { refused = before }) (home_turned (record h { refused = after }) p x m w))
-            go (Ok done) s = tt
-            go (Err e2) s = λ before after. record { pass = s.pass_is; blocks = same_hand h.blocks p h.pass w x c (touched_slot ∙ ap Some e) s }
+    -- the block may be settled
+    pub touched_due : (c : Blocked) → x0 ≡ Some c → IsDue h.pass p l c
+    touched_due c e =
+        let here = t.1.here p c (touched_slot ∙ ap Some e) in
+        let each = t.1.each live p (Some c) l (touched_slot ∙ ap Some e) touched_there in
+        record { hand = here.0; mark = each.0; label = here.1 }
 
 -- ---- blocks one after another
 
-pub settles_more : (a b c : Homed) (places : List ℕ) (p : ℕ) → SettlesEach a places b → SettlesHere p b c → SettlesEach a (places ++ p ∷ []) c
+settles_more : (a b c : Homed) (places : List ℕ) (p : ℕ) → SettlesEach a places b → SettlesHere p b c → SettlesEach a (places ++ p ∷ []) c
 settles_more a b c [] p s t = (c, subst (λ z. SettlesHere p z c) s t, refl)
 settles_more a b c (q ∷ qs) p s t = (s.0, s.1, settles_more s.0 b c qs p s.2 t)
 
 pub first_left : (xs : List ℕ) (i p : ℕ) → i < length xs → p ≡ get_or xs i p → drop i xs ≡ p ∷ drop (i + 1) xs
 first_left xs i p lt e = drop_more xs i p lt ∙ ap (λ x. x ∷ drop (i + 1) xs) (sym e)
 
--- a place without a block need not be touched
-rest_none : (h : Homed) (p : ℕ) (rest : List ℕ) → slice_get h.blocks p ≡ Some None → Between h (p ∷ rest) → Between h rest
-rest_none h p rest none b = (λ q x l eb el. go q x l eb el, λ q e. b.1 q (in_more p q rest e))
+-- a place without a block need not be left
+pub rest_none : (h : Homed) (p : ℕ) (rest : List ℕ) → slice_get h.blocks p ≡ Some None → IsSoundBut (p ∷ rest) h → IsSoundBut rest h
+rest_none h p rest none k = record {
+  core = k.core;
+  cores = k.cores;
+  conns = k.conns;
+  long = k.long;
+  places = k.places;
+  here = k.here;
+  each = λ live q x l eb el. go q x l eb (k.each live q x l eb el);
+  near = λ live q e. k.near live q (in_more p q rest e);
+}
   where
-    go : (q : ℕ) (x : Option Blocked) (l : Link) → slice_get h.blocks q ≡ Some x → slice_get h.links q ≡ Some l → IsBetween rest h.pass q l x
-    go q None l eb el = b.0 q None l eb el
-    go q (Some c) l eb el = let r = b.0 q (Some c) l eb el in (r.0, λ e. r.1 (in_cons p q rest (λ same. let f = sym none ∙ ap (slice_get h.blocks) (sym same) ∙ eb in absurd (cc)) ∙ e))
+    go : (q : ℕ) (x : Option Blocked) (l : Link) → slice_get h.blocks q ≡ Some x → IsAt (p ∷ rest) h.pass q l x → IsAt rest h.pass q l x
+    go q None l eb at = at
+    go q (Some c) l eb at = (at.0, λ e. at.1 (in_cons p q rest (λ same. let f = sym none ∙ ap (slice_get h.blocks) (sym same) ∙ eb in absurd (cc)) ∙ e))
 
-pub settles_next : (a b c : Homed) (p : ℕ) (rest : List ℕ) → SettlesOn a b (p ∷ rest) → SettlesAt p b c → SettlesOn a c rest
-settles_next a b c p rest s t = go t.slot t.there t.steps
+pub settles_next : (a b c : Homed) (p : ℕ) → SettlesOn a b → SettlesAt p b c → SettlesOn a c
+settles_next a b c p s t = go t.slot t.there t.steps
   where
-    go : (x : Option Blocked) → slice_get b.blocks p ≡ Some x → StepsIn p x b c → SettlesOn a c rest
-    go None none is = subst (λ z. SettlesOn a z rest) (sym is) (record { places = s.places; settles = s.settles; stands = s.stands; between = rest_none b p rest none s.between })
+    go : (x : Option Blocked) → slice_get b.blocks p ≡ Some x → StepsIn p x b c → SettlesOn a c
+    go None none is = subst (SettlesOn a) (sym is) s
     go (Some given) there step = record {
       places = s.places ++ p ∷ [];
-      settles = settles_more a b c s.places p s.settles (record { given = given; there = there; settles = step.settles });
-      stands = λ items e. step.stands items (s.stands items e);
-      between = step.between rest s.between;
+      settles = settles_more a b c s.places p s.settles (record { given = given; there = there; settles = step.0 });
+      stands = λ items e. step.1 items (s.stands items e);
     }
-
--- the first of the places that are left
-pub settles_first : (a b c : Homed) (xs : List ℕ) (i p : ℕ) → i < length xs → p ≡ get_or xs i p → SettlesOn a b (drop i xs) → SettlesAt p b c → SettlesOn a c (drop (i + 1) xs)
-settles_first a b c xs i p lt e s t = settles_next a b c p (drop (i + 1) xs) (subst (SettlesOn a b) (first_left xs i p lt e) s) t
 
 -- ---- what stays
 

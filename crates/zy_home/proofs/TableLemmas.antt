@@ -8,7 +8,7 @@ use Rattle.zy_home.specs.Link.{Link, conn_of}
 use Rattle.zy_home.specs.Own.{IsTable, own_conns, item_conn}
 use Rattle.zy_home.specs.Home.{conns_in}
 use Rattle.zy_home.specs.declared.links.Links.{Links}
-use Rattle.zy_home.specs.Links.{AreOwn, ComesIn}
+use Rattle.zy_home.specs.Links.{AreOfCore, ComesIn}
 use Rattle.zy_home.proofs.OwnLemmas.{own-here, own-else, conn_at}
 use Rattle.zy_home.proofs.ReceiveLemmas.{for_is, is_for}
 
@@ -86,7 +86,7 @@ past_table conns table t conn past place e =
     absurd (cc)
 
 -- the place that was looked up, or none, for an item of a connection
-module _ (L : Links) (own : AreOwn L) (conn : ℕ) (item : Rx) (is : item_conn item ≡ Some conn) where
+module _ (L : Links) (own : AreOfCore L) (conn : ℕ) (item : Rx) (is : item_conn item ≡ Some conn) where
   pub place_found : L.ended ≡ false → (result : Option ℕ) → IfSome result (λ place. slice_get (own_conns L.places.core L.places.cores L.places.count) place ≡ Some conn) → IfSome result (λ place. ComesIn L place item)
   place_found live (Some place) at =
       let found = link_of L.items.items place conn (ap (λ (l : List ℕ). slice_get l place) own ∙ at) in record {

@@ -1,5 +1,6 @@
 -- What a home keeps, and what it may have received, after a step at one of its places.
-use Rattle.std.proofs.Common.{◌≡◌, ◌≢◌, ℕ, zero, suc, ◌<◌, List, [], ◌∷◌, set, false, Option, Some, None, slice_get, refl, sym, ap, ◌∙◌, subst, length, length-set, ⊎_elim}
+use Rattle.std.specs.Prelude.{Ok}
+use Rattle.std.proofs.Common.{◌≡◌, ◌≢◌, ℕ, zero, suc, ◌<◌, List, [], ◌∷◌, set, Bool, true, false, Option, Some, None, slice_get, refl, sym, ap, ◌∙◌, subst, length, length-set, ⊎_elim}
 use mathlib.Core.Logic.{dite}
 use native.Mathlib.Decide.{ℕ_discrete}
 use Rattle.zy_table.specs.Member.{is_in}
@@ -11,9 +12,9 @@ use Rattle.zy_shuffle.specs.Pass.{Held}
 use Rattle.zy_conn.specs.Block.{Blocked}
 use Rattle.zy_home.specs.Link.{Link, LinkStands, StandsOn, conn_of}
 use Rattle.zy_home.specs.Idle.{mark_in}
-use Rattle.zy_home.specs.Home.{Homed, IsSoundHome, SameHome, StandsHome, IsAt, IsHere, conns_in}
+use Rattle.zy_home.specs.Home.{Homed, IsSoundBut, IsSoundHome, SameHome, StandsHome, IsAt, IsHere, conns_in}
 use Rattle.zy_home.specs.Turn.{Turns, home_turned}
-use Rattle.zy_home.specs.Between.{IsOpen, IsBetween, Between}
+use Rattle.zy_home.specs.Receiving.{left_after}
 
 -- what holds of a new member and of each other one holds of all
 pub each_set : {A : Type 0} (P : ℕ → A → Type 0) (xs : List A) (p : ℕ) (m : A) → P p m → ((q : ℕ) (n : A) → q ≢ p → slice_get xs q ≡ Some n → P q n) → (q : ℕ) (n : A) → slice_get (set xs p m) q ≡ Some n → P q n
@@ -28,43 +29,36 @@ conns-set (y ∷ ys) (suc p) l m e same = ap (λ l. conn_of y ∷ l) (conns-set 
 
 -- ---- the rule
 
-pub opens : (h : Homed) → IsSoundHome h → IsOpen h
-opens h k = record { core = k.core; cores = k.cores; conns = k.conns; long = k.long; places = k.places; here = k.here; each = λ e. absurd (cc) }
-
--- between two calls no place is touched
-pub between_none : (h : Homed) → IsSoundHome h → h.refused ≡ false → Between h []
-between_none h k live = (λ p x l eb el. go p x l (k.each live p x l eb el), λ p e. absurd (cc))
+-- one place more is left to settle
+pub sound_one : (h : Homed) (p : ℕ) → p < length h.blocks → IsSoundHome h → IsSoundBut (p ∷ []) h
+sound_one h p near k = record {
+  core = k.core;
+  cores = k.cores;
+  conns = k.conns;
+  long = k.long;
+  places = k.places;
+  here = k.here;
+  each = λ live q x l eb el. go q x l (k.each live q x l eb el);
+  near = λ live q e. ⊎_elim (λ same. subst (λ z. z < length h.blocks) (sym same) near) (λ no. absurd (let is = no.1 in cc)) (in_or p q [] e);
+}
   where
-    go : (p : ℕ) (x : Option Blocked) (l : Link) → IsAt h.pass p l x → IsBetween [] h.pass p l x
-    go p None l at = at
-    go p (Some b) l at = (at.0, λ e. at.1)
+    go : (q : ℕ) (x : Option Blocked) (l : Link) → IsAt [] h.pass q l x → IsAt (p ∷ []) h.pass q l x
+    go q None l at = at
+    go q (Some c) l at = (at.0, λ _. at.1 refl)
 
--- one place more
-pub between_one : (h : Homed) (p : ℕ) → p < length h.blocks → Between h [] → Between h (p ∷ [])
-between_one h p near b = (
-  λ q x l eb el. go q x l (b.0 q x l eb el),
-  λ q e. ⊎_elim (λ same. subst (λ z. z < length h.blocks) (sym same) near) (λ no. absurd (let is = no.1 in cc)) (in_or p q [] e),
-)
-  where
-    go : (q : ℕ) (x : Option Blocked) (l : Link) → IsBetween [] h.pass q l x → IsBetween (p ∷ []) h.pass q l x
-    go q None l r = r
-    go q (Some c) l r = (r.0, λ _. r.1 refl)
+-- if memory was refused, it doesn't matter which places are left
+pub sound_refused : (left left' : List ℕ) (h : Homed) (refused : Bool) → refused ≡ true → IsSoundBut left h → IsSoundBut left' (record h { refused = refused })
+sound_refused left left' h refused is k = record { core = k.core; cores = k.cores; conns = k.conns; long = k.long; places = k.places; here = k.here; each = λ live. absurd (cc); near = λ live. absurd (cc) }
 
-pub closed : (h : Homed) → IsOpen h → Between h [] → IsSoundHome h
-closed h k b = record { core = k.core; cores = k.cores; conns = k.conns; long = k.long; places = k.places; here = k.here; each = λ live p x l eb el. go p x l (b.0 p x l eb el) }
-  where
-    go : (p : ℕ) (x : Option Blocked) (l : Link) → IsBetween [] h.pass p l x → IsAt h.pass p l x
-    go p None l r = r
-    go p (Some c) l r = (r.0, r.1 refl)
+-- an item was cut for the connection of a place, whether or not the place was touched
+pub sound_left : (h : Homed) (p : ℕ) (touched : Bool) → p < length h.blocks → IsSoundBut (left_after p (Ok touched) []) h → IsSoundBut (p ∷ []) h
+sound_left h p true near k = k
+sound_left h p false near k = sound_one h p near k
 
 -- what holds of another place
-pub at_else : (v w : Held Blocked) (q : ℕ) (l : Link) (x : Option Blocked) → is_in q w.hand ≡ is_in q v.hand → marked mark_in q w.kept ≡ marked mark_in q v.kept → IsAt v q l x → IsAt w q l x
-at_else v w q l None hand kept k = λ out. kept ∙ k (sym hand ∙ out)
-at_else v w q l (Some b) hand kept k = k
-
-pub between_else : (touched touched' : List ℕ) (v w : Held Blocked) (q : ℕ) (l : Link) (x : Option Blocked) → is_in q w.hand ≡ is_in q v.hand → marked mark_in q w.kept ≡ marked mark_in q v.kept → is_in q touched' ≡ is_in q touched → IsBetween touched v q l x → IsBetween touched' w q l x
-between_else touched touched' v w q l None hand kept same b = at_else v w q l None hand kept b
-between_else touched touched' v w q l (Some c) hand kept same b = (b.0, λ e. b.1 (sym same ∙ e))
+pub at_else : (left left' : List ℕ) (v w : Held Blocked) (q : ℕ) (l : Link) (x : Option Blocked) → is_in q w.hand ≡ is_in q v.hand → marked mark_in q w.kept ≡ marked mark_in q v.kept → is_in q left' ≡ is_in q left → IsAt left v q l x → IsAt left' w q l x
+at_else left left' v w q l None hand kept same at = λ out. kept ∙ at (sym hand ∙ out)
+at_else left left' v w q l (Some c) hand kept same at = (at.0, λ e. at.1 (sym same ∙ e))
 
 -- ---- a step
 
@@ -77,9 +71,10 @@ set_stands h p l m there conn on items s = record {
       (λ q n ne e. s.links q n e);
 }
 
-module _ (h : Homed) (p : ℕ) (x : Option Blocked) (l m : Link) (w : Held Blocked) (t : Turns h p x l m w) where
-  pub turned_open : IsOpen h → IsOpen (home_turned h p x m w)
-  turned_open k = record {
+module _ (h : Homed) (p : ℕ) (x : Option Blocked) (l m : Link) (w : Held Blocked) (t : Turns h p x l m w) (refused : Bool) where
+  -- the place is left no more, if it is as it should be or memory was refused
+  pub turned_sound : (rest : List ℕ) → h.refused ≡ false → (refused ≡ false → IsAt rest w p m x) → IsSoundBut (p ∷ rest) h → IsSoundBut rest (home_turned h p x m w refused)
+  turned_sound rest live at k = record {
     core = k.core;
     cores = k.cores;
     conns = conns-set h.links p l m t.there t.conn ∙ k.conns;
@@ -88,10 +83,14 @@ module _ (h : Homed) (p : ℕ) (x : Option Blocked) (l m : Link) (w : Held Block
     here = λ q b e. each_set (λ q y. (b : Blocked) → y ≡ Some b → IsHere w q b) h.blocks p x t.here
         (λ q y ne e b is. let old = k.here q b (e ∙ ap Some is) in (t.pass.hand q ne ∙ old.0, old.1 ∙ sym t.pass.label))
         q (Some b) e b refl;
-    each = λ e. absurd (cc);
+    each = λ none q y n eb el. each_set (λ q y. (n : Link) → slice_get (set h.links p m) q ≡ Some n → IsAt rest w q n y) h.blocks p x
+        (λ n e. subst (λ z. IsAt rest w p z x) (get_set_same h.links p m n e) (at none))
+        (λ q y ne e n el. at_else (p ∷ rest) rest h.pass w q n y (t.pass.hand q ne) (t.pass.kept q ne) (sym (in_cons p q rest ne)) (k.each live q y n e (sym (get_set_else h.links p q m ne) ∙ el)))
+        q y eb n el;
+    near = λ _ q e. subst (λ z. q < z) (sym (length-set h.blocks p x)) (k.near live q (in_more p q rest e));
   }
 
-  pub turned_same : SameHome h (home_turned h p x m w)
+  pub turned_same : SameHome h (home_turned h p x m w refused)
   turned_same = record {
     core = refl;
     cores = refl;
@@ -102,17 +101,3 @@ module _ (h : Homed) (p : ℕ) (x : Option Blocked) (l m : Link) (w : Held Block
     conns = conns-set h.links p l m t.there t.conn;
     few = t.pass.once;
   }
-
-  -- the place is as between two calls
-  pub turned_between : IsAt w p m x → (rest : List ℕ) → Between h (p ∷ rest) → Between (home_turned h p x m w) rest
-  turned_between at rest b = (
-    λ q y n eb el. each_set (λ q y. (n : Link) → slice_get (set h.links p m) q ≡ Some n → IsBetween rest w q n y) h.blocks p x
-        (λ n e. subst (λ z. IsBetween rest w p z x) (get_set_same h.links p m n e) (go x at))
-        (λ q y ne e n el. between_else (p ∷ rest) rest h.pass w q n y (t.pass.hand q ne) (t.pass.kept q ne) (sym (in_cons p q rest ne)) (b.0 q y n e (sym (get_set_else h.links p q m ne) ∙ el)))
-        q y eb n el,
-    λ q e. subst (λ z. q < z) (sym (length-set h.blocks p x)) (b.1 q (in_more p q rest e)),
-  )
-    where
-      go : (y : Option Blocked) → IsAt w p m y → IsBetween rest w p m y
-      go None r = r
-      go (Some c) r = (r.0, λ _. r.1)

@@ -52,19 +52,20 @@ pub record IsMade (core cores count : ℕ) (pass : Held Blocked) (blocks : List 
 
 -- ---- the rule
 
--- a connection's block: in the hand it is idle and has the expected mark; away from it the pass
--- keeps this mark for its place
-abbrev pub IsAt : Held Blocked → ℕ → Link → Option Blocked → Type 0
-IsAt pass place link (Some block) = (mark_in block ≡ due_mark link) × IsIdleWith block.work link
-IsAt pass place link None =
+-- a connection's block: in the hand it has the expected mark, and is idle unless its place is left to settle; away from
+-- it the pass keeps this mark for its place
+abbrev pub IsAt : List ℕ → Held Blocked → ℕ → Link → Option Blocked → Type 0
+IsAt left pass place link (Some block) =
+    (mark_in block ≡ due_mark link) × (is_in place left ≡ false → IsIdleWith block.work link)
+IsAt left pass place link None =
     is_in place pass.hand ≡ false → marked mark_in place pass.kept ≡ Some (due_mark link)
 
 -- a block in the hand: its place is in the hand of the pass, and it has the ring's label
 abbrev pub IsHere : Held Blocked → ℕ → Blocked → Type 0
 IsHere pass place block = (is_in place pass.hand ≡ true) × (label_in block ≡ pass.label)
 
--- the rule that each home keeps
-pub record IsSoundHome (h : Homed) : Type 0 where
+-- the rule of a home that has these places left to settle
+pub record IsSoundBut (left : List ℕ) (h : Homed) : Type 0 where
   pub core : h.core < h.cores
   pub cores : h.cores ≤ 64
   -- its connections are its core's, by rising number, each with a place in the ring
@@ -73,9 +74,14 @@ pub record IsSoundHome (h : Homed) : Type 0 where
   pub places : h.pass.table.slots ≡ length h.links
   -- the rule of the blocks in the hand, even if an allocation failed
   pub here : (p : ℕ) (b : Blocked) → slice_get h.blocks p ≡ Some (Some b) → IsHere h.pass p b
-  -- if none failed, each block in the hand is idle
+  -- if none failed, each place is as it should be, and the places left are the home's
   pub each : h.refused ≡ false → (p : ℕ) (x : Option Blocked) (l : Link)
-      → slice_get h.blocks p ≡ Some x → slice_get h.links p ≡ Some l → IsAt h.pass p l x
+      → slice_get h.blocks p ≡ Some x → slice_get h.links p ≡ Some l → IsAt left h.pass p l x
+  pub near : h.refused ≡ false → (p : ℕ) → is_in p left ≡ true → p < length h.blocks
+
+-- the rule that each home keeps between two calls: no place is left to settle
+abbrev pub IsSoundHome : Homed → Type 0
+IsSoundHome h = IsSoundBut [] h
 
 -- these items may be what the home received: each of its connections may have received the sessions that they have
 -- for it

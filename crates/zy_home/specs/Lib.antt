@@ -10,4 +10,4 @@ pub mod Links
 pub mod Place
 pub mod Items
 pub mod Turn
-pub mod Between
+pub mod Receiving

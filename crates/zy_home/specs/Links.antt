@@ -1,5 +1,5 @@
 -- The connections of a home without their blocks.
-use Rattle.std.specs.Prelude.{◌≡◌, ℕ, List, Bool, false, Option, Some, slice_get}
+use Rattle.std.specs.Prelude.{◌≡◌, ℕ, List, false, Option, Some, slice_get}
 use Rattle.zy_rx.specs.declared.rx.Rx.{Rx}
 use Rattle.zy_shuffle.specs.Pass.{Held}
 use Rattle.zy_conn.specs.Block.{Blocked}
@@ -9,8 +9,8 @@ use Rattle.zy_home.specs.Own.{own_conns}
 use Rattle.zy_home.specs.Home.{Homed, conns_in}
 
 -- the home of these parts
-abbrev pub homed : Held Blocked → List (Option Blocked) → Links → Bool → Homed
-homed pass blocks l refused = record {
+abbrev pub homed : Held Blocked → List (Option Blocked) → Links → Homed
+homed pass blocks l = record {
   core = l.places.core;
   cores = l.places.cores;
   count = l.places.count;
@@ -18,7 +18,7 @@ homed pass blocks l refused = record {
   blocks = blocks;
   links = l.items.items;
   ended = l.ended;
-  refused = refused;
+  refused = l.refused;
 }
 
 -- the item is for the connection at this place, and no end came before it
@@ -29,8 +29,8 @@ pub record ComesIn (l : Links) (place : ℕ) (item : Rx) : Type 0 where
   pub own : IsFor (conn_of link) item
 
 -- the connections are those of their core, by rising number
-abbrev pub AreOwn : Links → Type 0
-AreOwn l = conns_in l.items.items ≡ own_conns l.places.core l.places.cores l.places.count
+abbrev pub AreOfCore : Links → Type 0
+AreOfCore l = conns_in l.items.items ≡ own_conns l.places.core l.places.cores l.places.count
 
 -- the connections are the same
 pub record SameConns (l l' : Links) : Type 0 where

@@ -1,5 +1,6 @@
 -- What the calls on a home do at one of its places, and which causes of the ring their answers pass on.
-use Rattle.std.specs.Prelude.{◌≡◌, ℕ, ◌+◌, ◌≤◌, [], ◌++◌, true, false, Bool, Some, None, slice_get, slice_set, map, is_some}
+use Rattle.std.specs.Prelude.{◌≡◌, ℕ, ◌+◌, ◌≤◌, [], ◌++◌, true, false, Bool, Some, None, slice_get, slice_set}
+use Rattle.std.specs.Prelude.{map, is_some}
 use Rattle.zy_table.specs.Member.{is_in}
 use Rattle.zy_rx.specs.declared.rx.Rx.{Rx}
 use Rattle.zy_shuffle.specs.declared.claim.Claim.TheVariants as Claims

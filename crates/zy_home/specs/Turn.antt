@@ -1,5 +1,5 @@
 -- A step at one place, in terms of the parts of a home. No public clause cites this module.
-use Rattle.std.specs.Prelude.{◌≡◌, ◌≢◌, ℕ, ◌+◌, ◌≤◌, true, false, Option, Some, None, slice_get, slice_set}
+use Rattle.std.specs.Prelude.{◌≡◌, ◌≢◌, ℕ, ◌+◌, ◌≤◌, Bool, true, false, Option, Some, None, slice_get, slice_set}
 use Rattle.zy_table.specs.Member.{is_in}
 use Rattle.zy_shuffle.specs.Hand.{marked}
 use Rattle.zy_shuffle.specs.Run.{Before}
@@ -54,12 +54,13 @@ pub record PassTurns (place : ℕ) (pass pass' : Held Blocked) : Type 0 where
   pub hand : (q : ℕ) → q ≢ place → is_in q pass'.hand ≡ is_in q pass.hand
   pub kept : (q : ℕ) → q ≢ place → marked mark_in q pass'.kept ≡ marked mark_in q pass.kept
 
--- the home after a step at one place
-abbrev pub home_turned : Homed → ℕ → Option Blocked → Link → Held Blocked → Homed
-home_turned h place slot link pass = record h {
+-- the home after a step at one place, and whether memory was refused
+abbrev pub home_turned : Homed → ℕ → Option Blocked → Link → Held Blocked → Bool → Homed
+home_turned h place slot link pass refused = record h {
   pass = pass;
   blocks = slice_set h.blocks place slot;
   links = slice_set h.links place link;
+  refused = refused;
 }
 
 -- the step is one that a home may make

@@ -24,7 +24,6 @@ pub struct Home {
     // By place: the block of the connection, if it is in the hand.
     blocks: Vec<Option<Block>>,
     links: Links,
-    refused: bool,
     // For the texts of the blocks that the home holds.
     room: Room,
 }
@@ -35,9 +34,9 @@ impl Model for Home {
 
     ghost Value = { Homed };
 
-    ghost view = { λ h. homed h.pass h.blocks.items h.links h.refused };
+    ghost view = { λ h. homed h.pass h.blocks.items h.links };
 
-    ghost invariant = { λ h. IsSoundHome (homed h.pass h.blocks.items h.links h.refused) };
+    ghost invariant = { λ h. IsSoundHome (homed h.pass h.blocks.items h.links) };
 }
 
 impl Home {
@@ -47,7 +46,7 @@ impl Home {
         ensures value { result ≡ is_settled self.now }
         ensures keeps { IsSoundHome self.now }
     {
-        self.links.ended && !self.refused && are_here(&self.blocks)
+        self.links.ended && !self.links.refused && are_here(&self.blocks)
     }
 
     /// Checks whether each block is in the home's hand, so that no other core has one and none is
@@ -62,7 +61,7 @@ impl Home {
     pub fn is_refused(&self) -> bool
         ensures value { result ≡ self.now.refused }
     {
-        self.refused
+        self.links.refused
     }
 
     /// Returns the pass, the blocks in the home's hand, and the ends of the connections. Takes no
@@ -78,13 +77,13 @@ impl Home {
             pass,
             blocks,
             links,
-            refused: _,
             room,
         } = self;
         let Links {
             places,
             items,
             ended: _,
+            refused: _,
             touched,
         } = links;
         drop(places);

@@ -12,6 +12,7 @@ pub struct Links {
     // By place, and so by rising number: the connection.
     pub(crate) items: Vec<Link>,
     pub(crate) ended: bool,
-    // The places whose blocks got an event from the items that were cut last.
+    pub(crate) refused: bool,
+    // The places whose blocks got an event from the items that were cut last: they are left to settle.
     pub(crate) touched: Vec<usize>,
 }

@@ -1,5 +1,6 @@
 //! The steps at one place of a home: what is done with a block, its link and the pass.
-ghost use Rattle.std.specs.Prelude.{◌≡◌, ◌≢◌, ◌<◌, ◌≤◌, ◌+◌, ◌^◌, ◌||◌, ℕ, false, OnOk, OnErr, IfOk, IfSome, IfNone, Some, None, slice_get};
+ghost use Rattle.std.specs.Prelude.{◌≡◌, ◌≢◌, ◌<◌, ◌≤◌, ◌+◌, ◌^◌, ◌||◌, ℕ, false, OnOk, OnErr, IfOk, IfSome};
+ghost use Rattle.std.specs.Prelude.{IfNone, Some, None, slice_get, is_err};
 ghost use Rattle.zy_conn.specs.Hold.{HeldTo, IsRecorded};
 ghost use Rattle.zy_conn.specs.Work.{mark_of};
 ghost use Rattle.zy_home.specs.Link.{Link, SameLink, StandsOn, TakesIn, IsFor, conn_of};
@@ -8,7 +9,7 @@ ghost use Rattle.zy_home.specs.Idle.{due_mark};
 ghost use Rattle.zy_home.specs.Own.{IsRising, is_end, item_conn};
 ghost use Rattle.zy_home.specs.Home.{conns_in};
 ghost use Rattle.zy_home.specs.Turn.{IsDue, IsSettled, IsPutBack};
-ghost use Rattle.zy_home.specs.Between.{StaysIdle};
+ghost use Rattle.zy_home.specs.Receiving.{StaysIdle};
 
 use crate::link::Link;
 use mc_store::StoreTable;
@@ -67,7 +68,7 @@ pub(crate) fn hold<G: Gate>(
 }
 
 // Settles a block: it is published if it then has an event, and otherwise is put into its slot. `B`
-// is what its connection was before.
+// is what its connection was before. It notes a failed allocation in `refused`.
 pub(crate) fn settle_at<B: Publishing>(
     ring: &Ring<Block>,
     pass: &mut HomePass<Block>,
@@ -76,14 +77,17 @@ pub(crate) fn settle_at<B: Publishing>(
     room: &mut Room,
     place: u32,
     block: Block,
+    refused: &mut bool,
 ) -> Result<(), NoMemory>
     requires table { pass.old.table ≡ ring.now.id }
     requires few { pass.old.count < 2 ^ 63 }
+    requires live { refused.old ≡ false }
     requires due { IsDue pass.old place link.old block }
     ensures ok { OnOk result (IsSettled B.before place block link.new pass.old pass.new slot.new) }
     ensures err { OnErr result (IsPutBack pass.old pass.new slot.new) }
     ensures stands { OnOk result (StandsOn link.old link.new) }
     ensures same { SameLink link.old link.new }
+    ensures refused { refused.new ≡ is_err result }
 {
     let mut block = block;
     let settled = link.settle(&mut block);
@@ -100,22 +104,34 @@ pub(crate) fn settle_at<B: Publishing>(
         }
         Err(e) => {
             put(slot, Some(block));
+            *refused = true;
             Err(e)
         }
     }
 }
 
 // Cuts an item of the connection. If its block is away, the frames that wait are offered. Says
-// whether its block is in the slot, was idle until now, and has a frame waiting for it.
-pub(crate) fn cut_at(slot: &Option<Block>, link: &mut Link, item: &Rx) -> Result<bool, NoMemory>
+// whether its block is in the slot, was idle until now, and has a frame waiting for it. It notes a
+// failed allocation in `refused`.
+pub(crate) fn cut_at(
+    slot: &Option<Block>,
+    link: &mut Link,
+    item: &Rx,
+    refused: &mut bool,
+) -> Result<bool, NoMemory>
     requires own { IsFor (conn_of link.old) item.now }
+    requires live { refused.old ≡ false }
     ensures takes { OnOk result (TakesIn item.now link.old link.new) }
     ensures away { OnOk result (slot.now ≡ None → WaitsFull link.new) }
     ensures idle { IfOk result (λ touched. touched ≡ false → StaysIdle slot.now link.old link.new) }
     ensures due { due_mark link.new ≡ due_mark link.old }
+    ensures refused { refused.new ≡ is_err result }
 {
     let waits = link.is_waiting();
-    link.receive(item)?;
+    if let Err(e) = link.receive(item) {
+        *refused = true;
+        return Err(e);
+    }
     if slot.is_none() {
         link.offer_waiting();
         return Ok(false);

@@ -1,5 +1,6 @@
 //! Dealing cores to groups in turn, and collecting them again in their order.
-ghost use Rattle.std.specs.Prelude.{◌≡◌, ◌+◌, ◌<◌, ◌≤◌, ℕ, List, [], ◌∷◌, ◌++◌, length, vec_len, vec_capacity, IfSome, IfNone};
+ghost use Rattle.std.specs.Prelude.{◌≡◌, ◌+◌, ◌<◌, ◌≤◌, ℕ, List, [], ◌∷◌, ◌++◌, length, vec_len, vec_capacity};
+ghost use Rattle.std.specs.Prelude.{IfSome, IfNone};
 ghost use Rattle.zy_drive.specs.Deal.{lists_of, Deals, gathered, TakesFirst, HasNoFirst, HaveRoom};
 
 // Takes the first item of the first group, `count` times; each time that group goes to the end.

@@ -1,5 +1,6 @@
 //! How a home is made.
-ghost use Rattle.std.specs.Prelude.{◌≡◌, ◌<◌, ◌≤◌, ◌+◌, List, [], map, Some, length, IfOk, IfErr, vec_len, vec_capacity};
+ghost use Rattle.std.specs.Prelude.{◌≡◌, ◌<◌, ◌≤◌, ◌+◌, List, [], map, Some, length, IfOk, IfErr, vec_len};
+ghost use Rattle.std.specs.Prelude.{vec_capacity};
 ghost use Rattle.zy_home.specs.Parts.{AreParts, AreFresh, rings_of_blocks, rings_of_inlets};
 ghost use Rattle.zy_home.specs.Home.{HomeStands, IsMade};
 
@@ -56,9 +57,9 @@ impl Home {
                 places,
                 items: links,
                 ended: false,
+                refused: false,
                 touched: Vec::new(alloc),
             },
-            refused: false,
             room: Room::new(alloc),
         })
     }

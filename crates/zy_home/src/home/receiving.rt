@@ -44,18 +44,9 @@ impl Home {
         };
         let cut = self.links.cut_for(at, &self.blocks, &item);
         drop(item);
-        if let Err(e) = cut {
-            self.refused = true;
-            return Err(e);
-        }
-        if let Err(e) = self
-            .links
+        cut?;
+        self.links
             .settle_place(ring, &mut self.pass, &mut self.blocks, &mut self.room, at)
-        {
-            self.refused = true;
-            return Err(e);
-        }
-        Ok(())
     }
 
     /// Takes items from the outlet and receives them, until none is known or there were 64, and
@@ -72,20 +63,9 @@ impl Home {
         ensures refused { self.new.refused ≡ is_err result }
         ensures err { OnErr result (RefusedAmid self.old self.new) }
     {
-        let count = match self.links.cut_all(&self.blocks, outlet) {
-            Ok(count) => count,
-            Err(e) => {
-                self.refused = true;
-                return Err(e);
-            }
-        };
-        if let Err(e) = self
-            .links
-            .settle_all(ring, &mut self.pass, &mut self.blocks, &mut self.room)
-        {
-            self.refused = true;
-            return Err(e);
-        }
+        let count = self.links.cut_all(&self.blocks, outlet)?;
+        self.links
+            .settle_all(ring, &mut self.pass, &mut self.blocks, &mut self.room)?;
         Ok(count)
     }
 }

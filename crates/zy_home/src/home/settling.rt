@@ -29,16 +29,8 @@ impl Home {
         ensures err { OnErr result (PutsBack place self.old self.new) }
     {
         let (pass, slots, room) = (&mut self.pass, &mut self.blocks, &mut self.room);
-        match self
-            .links
+        self.links
             .settle::<WasHeld>(ring, pass, slots, room, place, block)
-        {
-            Ok(()) => Ok(()),
-            Err(e) => {
-                self.refused = true;
-                Err(e)
-            }
-        }
     }
 }
 
@@ -104,7 +96,7 @@ impl Home {
                     },
                     Err(e) => {
                         put(&mut self.blocks[place as usize], Some(block));
-                        self.refused = true;
+                        self.links.refused = true;
                         Err(e)
                     }
                 }

@@ -1,11 +1,12 @@
 //! Cutting items for the connections of a home, which leaves its pass and its blocks as they are.
-ghost use Rattle.std.specs.Prelude.{◌≡◌, ◌≤◌, ◌<◌, ◌++◌, ◌∷◌, [], true, false, Bool, length, is_err, ℕ};
+ghost use Rattle.std.specs.Prelude.{◌≡◌, ◌≤◌, ◌<◌, ◌+◌, [], true, false, length, is_err, ℕ, List};
+ghost use Rattle.std.specs.Prelude.{Ok, OnOk, OnErr, IfOk, IfSome, IfNone};
 ghost use Rattle.zy_shuffle.specs.Pass.{Held};
 ghost use Rattle.zy_conn.specs.Block.{Blocked};
-ghost use Rattle.std.specs.Prelude.{Ok, OnOk, OnErr, IfOk, IfSome, IfNone};
-ghost use Rattle.zy_home.specs.Links.{AreOwn, ComesIn, SameConns, homed};
+ghost use Rattle.zy_home.specs.Home.{IsSoundBut, IsSoundHome};
+ghost use Rattle.zy_home.specs.Links.{AreOfCore, ComesIn, SameConns, homed};
 ghost use Rattle.zy_home.specs.Items.{RefusedAmid};
-ghost use Rattle.zy_home.specs.Between.{CutsAll, CutsFor, CutsIn};
+ghost use Rattle.zy_home.specs.Receiving.{CutsAll, CutsIn, left_after};
 
 use super::Links;
 use crate::place::{conn_in, cut_at, ended_by};
@@ -20,7 +21,7 @@ impl Links {
     // Returns the place of the connection that an item is for; `None` if the item is dropped or the
     // end.
     pub(crate) fn place_for(&self, item: &Rx) -> Option<usize>
-        requires own { AreOwn self.now }
+        requires own { AreOfCore self.now }
         ensures some { IfSome result (λ at. ComesIn self.now at item.now) }
         ensures none { IfNone result ((at : ℕ) → ComesIn self.now at item.now → ⊥) }
     {
@@ -40,18 +41,23 @@ impl Links {
         slots: &Vec<Option<Block>>,
         outlet: &mut Outlet,
     ) -> Result<u32, NoMemory>
-        requires own { AreOwn self.old }
+        requires own { AreOfCore self.old }
         requires long { length slots.now.items ≡ length self.old.items.items }
-        ensures value { IfOk result (λ count. (pass : Held Blocked) (refused : Bool)
-            → CutsAll (homed pass slots.now.items self.old refused) outlet.old.taken
-            (homed pass slots.now.items self.new refused) outlet.new.taken self.new.touched.items count) }
+        requires live { self.old.refused ≡ false }
+        ensures value { IfOk result (λ count. (pass : Held Blocked)
+            → CutsAll (homed pass slots.now.items self.old) outlet.old.taken
+            (homed pass slots.now.items self.new) outlet.new.taken count) }
         ensures few { IfOk result (λ count. (count ≤ 64) × (count < 64 → outlet.new.known ≡ [])) }
-        ensures err { OnErr result ((pass : Held Blocked) (before after : Bool)
-            → RefusedAmid (homed pass slots.now.items self.old before) (homed pass slots.now.items self.new after)) }
+        ensures room { IfOk result (λ count. length self.new.touched.items ≤ count) }
+        ensures err { OnErr result ((pass : Held Blocked)
+            → RefusedAmid (homed pass slots.now.items self.old) (homed pass slots.now.items self.new)) }
+        ensures sound { (pass : Held Blocked) → IsSoundHome (homed pass slots.now.items self.old)
+            → IsSoundBut self.new.touched.items (homed pass slots.now.items self.new) }
         ensures same { SameConns self.old self.new }
         ensures ring { outlet.new.ring ≡ outlet.old.ring }
         ensures still { self.old.ended ≡ true → (is_err result ≡ false)
             × (self.new ≡ record self.old { touched = self.new.touched }) × (self.new.touched.items ≡ []) }
+        ensures refused { self.new.refused ≡ is_err result }
     {
         self.touched.clear();
         for count in 0..ITEMS_AT_ONCE {
@@ -60,22 +66,24 @@ impl Links {
             };
             let cut = self.cut_in(slots, &item);
             drop(item);
-            if let Err(e) = cut {
-                return Err(e);
-            }
+            cut?;
         }
         Ok(ITEMS_AT_ONCE)
     }
 
     // Cuts an item, or drops it, or notes the end.
     fn cut_in(&mut self, slots: &Vec<Option<Block>>, item: &Rx) -> Result<(), NoMemory>
-        requires own { AreOwn self.old }
+        requires own { AreOfCore self.old }
         requires long { length slots.now.items ≡ length self.old.items.items }
-        ensures value { OnOk result ((pass : Held Blocked) (refused : Bool)
-            → CutsIn (homed pass slots.now.items self.old refused) self.old.touched.items item.now
-            (homed pass slots.now.items self.new refused) self.new.touched.items) }
+        requires live { self.old.refused ≡ false }
+        ensures value { OnOk result ((pass : Held Blocked)
+            → CutsIn (homed pass slots.now.items self.old) item.now (homed pass slots.now.items self.new)) }
+        ensures sound { (pass : Held Blocked) → IsSoundBut self.old.touched.items (homed pass slots.now.items self.old)
+            → IsSoundBut self.new.touched.items (homed pass slots.now.items self.new) }
+        ensures room { length self.new.touched.items ≤ length self.old.touched.items + 1 }
         ensures still { self.old.ended ≡ true → (result ≡ Ok tt) × (self.new ≡ self.old) }
         ensures same { SameConns self.old self.new }
+        ensures refused { self.new.refused ≡ is_err result }
     {
         let Some(at) = self.place_for(item) else {
             self.ended = ended_by(self.ended, item);
@@ -84,7 +92,10 @@ impl Links {
         match self.cut_for(at, slots, item) {
             Ok(true) => match self.touched.push(at) {
                 Ok(()) => Ok(()),
-                Err(_) => Err(NoMemory),
+                Err(_) => {
+                    self.refused = true;
+                    Err(NoMemory)
+                }
             },
             Ok(false) => Ok(()),
             Err(e) => Err(e),
@@ -99,15 +110,18 @@ impl Links {
         slots: &Vec<Option<Block>>,
         item: &Rx,
     ) -> Result<bool, NoMemory>
-        requires own { AreOwn self.old }
+        requires own { AreOfCore self.old }
         requires long { length slots.now.items ≡ length self.old.items.items }
         requires comes { ComesIn self.old at item.now }
-        ensures value { IfOk result (λ touched. (pass : Held Blocked) (refused : Bool)
-            → CutsFor at item.now (homed pass slots.now.items self.old refused)
-            (homed pass slots.now.items self.new refused) touched) }
+        requires live { self.old.refused ≡ false }
+        ensures value { OnOk result ((pass : Held Blocked)
+            → CutsIn (homed pass slots.now.items self.old) item.now (homed pass slots.now.items self.new)) }
+        ensures sound { (pass : Held Blocked) (left : List ℕ) → IsSoundBut left (homed pass slots.now.items self.old)
+            → IsSoundBut (left_after at result left) (homed pass slots.now.items self.new) }
         ensures same { SameConns self.old self.new }
         ensures kept { (self.new.touched ≡ self.old.touched) × (self.new.ended ≡ self.old.ended) }
+        ensures refused { self.new.refused ≡ is_err result }
     {
-        cut_at(&slots[at], &mut self.items[at], item)
+        cut_at(&slots[at], &mut self.items[at], item, &mut self.refused)
     }
 }

@@ -1,11 +1,11 @@
 //! Settling the blocks of a home's connections.
-ghost use Rattle.std.specs.Prelude.{◌≡◌, ◌<◌, ◌≤◌, ◌^◌, ℕ, List, [], ◌∷◌, Bool, true, length, Ok, OnOk, OnErr};
+ghost use Rattle.std.specs.Prelude.{◌≡◌, ◌<◌, ◌≤◌, ◌^◌, ℕ, List, [], ◌∷◌, false, length, Ok, OnOk, OnErr, is_err};
 ghost use Rattle.zy_shuffle.specs.Run.{was_idle};
-ghost use Rattle.zy_home.specs.Home.{SameFor, SameHome};
-ghost use Rattle.zy_home.specs.Place.{IsOut, PutsBack, SameHand};
+ghost use Rattle.zy_home.specs.Home.{IsSoundBut, IsSoundHome, SameFor, SameHome, StandsHome};
+ghost use Rattle.zy_home.specs.Place.{IsOut, PutsBack, SameHand, Settles};
 ghost use Rattle.zy_home.specs.Links.{homed};
 ghost use Rattle.zy_home.specs.Items.{RefusedAmid};
-ghost use Rattle.zy_home.specs.Between.{Between, IsOpen, SettlesAt, SettlesOn, Stepped};
+ghost use Rattle.zy_home.specs.Receiving.{SettlesAt, SettlesOn};
 
 use super::Links;
 use crate::place::settle_at;
@@ -28,16 +28,18 @@ impl Links {
     ) -> Result<(), NoMemory>
         requires table { pass.old.table ≡ ring.now.id }
         requires few { pass.old.count < 2 ^ 63 }
-        requires sound { IsOpen (homed pass.old slots.old.items self.old true) }
-        requires out { IsOut (homed pass.old slots.old.items self.old true) place block }
-        ensures ok { OnOk result ((refused : Bool) → Stepped B.before place block
-            (homed pass.old slots.old.items self.old refused) (homed pass.new slots.new.items self.new refused)) }
-        ensures err { OnErr result ((before after : Bool) → PutsBack place
-            (homed pass.old slots.old.items self.old before) (homed pass.new slots.new.items self.new after)) }
-        ensures sound { IsOpen (homed pass.new slots.new.items self.new true) }
-        ensures same { SameHome (homed pass.old slots.old.items self.old true)
-            (homed pass.new slots.new.items self.new true) }
-        ensures ended { self.new.ended ≡ self.old.ended }
+        requires live { self.old.refused ≡ false }
+        requires sound { IsSoundHome (homed pass.old slots.old.items self.old) }
+        requires out { IsOut (homed pass.old slots.old.items self.old) place block }
+        ensures settled { OnOk result (Settles B.before place block
+            (homed pass.old slots.old.items self.old) (homed pass.new slots.new.items self.new)) }
+        ensures stands { OnOk result (StandsHome
+            (homed pass.old slots.old.items self.old) (homed pass.new slots.new.items self.new)) }
+        ensures err { OnErr result (PutsBack place
+            (homed pass.old slots.old.items self.old) (homed pass.new slots.new.items self.new)) }
+        ensures sound { IsSoundHome (homed pass.new slots.new.items self.new) }
+        ensures same { SameHome (homed pass.old slots.old.items self.old) (homed pass.new slots.new.items self.new) }
+        ensures kept { (self.new.ended ≡ self.old.ended) × (self.new.refused ≡ is_err result) }
     {
         let at = place as usize;
         settle_at::<B>(
@@ -48,6 +50,7 @@ impl Links {
             room,
             place,
             block,
+            &mut self.refused,
         )
     }
 
@@ -61,24 +64,23 @@ impl Links {
     ) -> Result<(), NoMemory>
         requires table { pass.old.table ≡ ring.now.id }
         requires few { pass.old.count < 2 ^ 62 }
-        requires sound { IsOpen (homed pass.old slots.old.items self.old true) }
-        requires between { Between (homed pass.old slots.old.items self.old true) self.old.touched.items }
+        requires live { self.old.refused ≡ false }
+        requires left { IsSoundBut self.old.touched.items (homed pass.old slots.old.items self.old) }
         requires most { length self.old.touched.items ≤ 64 }
-        ensures ok { OnOk result ((refused : Bool) → SettlesOn (homed pass.old slots.old.items self.old refused)
-            (homed pass.new slots.new.items self.new refused) []) }
-        ensures err { OnErr result ((before after : Bool) → RefusedAmid
-            (homed pass.old slots.old.items self.old before) (homed pass.new slots.new.items self.new after)) }
-        ensures sound { IsOpen (homed pass.new slots.new.items self.new true) }
-        ensures same { SameFor 64 (homed pass.old slots.old.items self.old true)
-            (homed pass.new slots.new.items self.new true) }
+        ensures ok { OnOk result (SettlesOn
+            (homed pass.old slots.old.items self.old) (homed pass.new slots.new.items self.new)) }
+        ensures err { OnErr result (RefusedAmid
+            (homed pass.old slots.old.items self.old) (homed pass.new slots.new.items self.new)) }
+        ensures sound { IsSoundHome (homed pass.new slots.new.items self.new) }
+        ensures same { SameFor 64
+            (homed pass.old slots.old.items self.old) (homed pass.new slots.new.items self.new) }
         ensures still { self.old.touched.items ≡ [] → (result ≡ Ok tt)
             × (self.new ≡ self.old) × (pass.new ≡ pass.old) × (slots.new.items ≡ slots.old.items) }
+        ensures refused { self.new.refused ≡ is_err result }
     {
         for i in 0..self.touched.len() {
             let place = self.touched[i];
-            if let Err(e) = self.settle_place(ring, pass, slots, room, place) {
-                return Err(e);
-            }
+            self.settle_place(ring, pass, slots, room, place)?;
         }
         Ok(())
     }
@@ -94,23 +96,24 @@ impl Links {
     ) -> Result<(), NoMemory>
         requires table { pass.old.table ≡ ring.now.id }
         requires few { pass.old.count < 2 ^ 63 }
-        requires sound { IsOpen (homed pass.old slots.old.items self.old true) }
-        requires between { (rest : List ℕ) × Between (homed pass.old slots.old.items self.old true) (place ∷ rest) }
-        ensures ok { OnOk result ((refused : Bool) → SettlesAt place
-            (homed pass.old slots.old.items self.old refused) (homed pass.new slots.new.items self.new refused)) }
-        ensures err { OnErr result ((before after : Bool) → SameHand
-            (homed pass.old slots.old.items self.old before) (homed pass.new slots.new.items self.new after)) }
-        ensures sound { IsOpen (homed pass.new slots.new.items self.new true) }
-        ensures same { SameHome (homed pass.old slots.old.items self.old true)
-            (homed pass.new slots.new.items self.new true) }
+        requires live { self.old.refused ≡ false }
+        requires left { (rest : List ℕ) × IsSoundBut (place ∷ rest) (homed pass.old slots.old.items self.old) }
+        ensures ok { OnOk result (SettlesAt place
+            (homed pass.old slots.old.items self.old) (homed pass.new slots.new.items self.new)) }
+        ensures err { OnErr result (SameHand
+            (homed pass.old slots.old.items self.old) (homed pass.new slots.new.items self.new)) }
+        ensures sound { (rest : List ℕ) → IsSoundBut (place ∷ rest) (homed pass.old slots.old.items self.old)
+            → IsSoundBut rest (homed pass.new slots.new.items self.new) }
+        ensures same { SameHome (homed pass.old slots.old.items self.old) (homed pass.new slots.new.items self.new) }
         ensures kept { (self.new.touched ≡ self.old.touched) × (self.new.ended ≡ self.old.ended) }
+        ensures refused { self.new.refused ≡ is_err result }
     {
         // The call tells the prover that the places are the slots of the ring's table, at most 4096.
         let _places = ring.places();
-        let (slot, link) = (&mut slots[place], &mut self.items[place]);
+        let (slot, link, refused) = (&mut slots[place], &mut self.items[place], &mut self.refused);
         let Some(block) = mem::replace(slot, None) else {
             return Ok(());
         };
-        settle_at::<WasIdle>(ring, pass, slot, link, room, place as u32, block)
+        settle_at::<WasIdle>(ring, pass, slot, link, room, place as u32, block, refused)
     }
 }

@@ -73,4 +73,5 @@ pub invariant_of-self-in-Err : goal.invariant_of-self-in-Err
 invariant_of-self-in-Err g c =
     put_back _ (keeps_joins _ c.claim_home.new.home c.args.ring.now.places c.in-Took.place c.in-Took.block c.self.invariant c.in-Took.ensures.value.0) c.in-Took.place c.in-Took.block c.hold.new.block c.put.new.slot
     (out_joins _ c.claim_home.new.home c.args.ring.now.places c.in-Took.place c.in-Took.block c.self.invariant c.in-Took.ensures.value.0 (sym c.places-places.ensures.value ∙ c.places-places.ensures.count ∙ ap (λ z. z.slots) (sym c.requires.table) ∙ ap (λ (h : Homed). h.pass.table.slots) (sym c.self.view_is) ∙ c.self.invariant.places) (ap (λ (h : Homed). h.refused) c.self.view_is ∙ c.requires.live) c.in-Took.ensures.kept)
+    (ap (λ (h : Homed). h.refused) c.self.view_is ∙ c.requires.live)
     (λ i. label_of (c.hold.ensures.table i) (c.hold.ensures.cores i)) c.put.ensures.value

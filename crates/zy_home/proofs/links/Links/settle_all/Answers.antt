@@ -1,43 +1,46 @@
-use Rattle.std.proofs.Common.{[], true, drop, ◌+◌, get_or, refl, ap, ◌∙◌, subst, arith}
+use Rattle.std.proofs.Common.{[], drop, ◌+◌, get_or, refl, sym, ap, ◌∙◌, subst, arith}
 use Rattle.std.proofs.lemmas.List.{drop_all}
+use Rattle.zy_home.specs.Home.{IsSoundBut}
 use Rattle.zy_home.specs.Links.{homed}
-use Rattle.zy_home.specs.Between.{Between, SettlesOn}
-use Rattle.zy_home.proofs.SettleLemmas.{first_left, same_for_on, settles_first}
+use Rattle.zy_home.proofs.SettleLemmas.{first_left, same_for_on, settles_next}
+use Rattle.zy_home.proofs.TurnLemmas.{sound_refused}
 use Rattle.zy_home.proofs.links.Links.settle_all.Goals as goal
 
-pub settle_place-requires-clause-between : goal.settle_place-requires-clause-between
-settle_place-requires-clause-between c =
+pub settle_place-requires-clause-left : goal.settle_place-requires-clause-left
+settle_place-requires-clause-left c =
     let more = c.loop-i-test.true in
     let long = c.len-i-end.ensures in
     let place = c.index-place.result.now in
-    let at = c.index-place.ensures ∙ ap (λ ts. get_or ts.items c.loop-i.i place) c.loop-i.invariant.touched in (
+    let at = c.index-place.ensures ∙ ap (λ ts. get_or ts.items c.loop-i.i place) c.loop-i.invariant.kept.0 in (
       drop (c.loop-i.i + 1) c.args.self.now.touched.items,
-      subst (Between (homed c.loop-i.pass c.loop-i.slots.items c.loop-i.self true)) (first_left c.args.self.now.touched.items c.loop-i.i place (omega arith) at) (c.loop-i.invariant.on true).between,
+      subst (λ left. IsSoundBut left (homed c.loop-i.pass c.loop-i.slots.items c.loop-i.self)) (first_left c.args.self.now.touched.items c.loop-i.i place (omega arith) at) c.loop-i.invariant.left,
     )
 
 pub loop-i-preserved : goal.loop-i-preserved
 loop-i-preserved c =
     let i = c.loop-i.invariant in
-    let more = c.loop-i-test.true in
-    let long = c.len-i-end.ensures in
-    let place = c.index-place.result.now in
-    let at = c.index-place.ensures ∙ ap (λ ts. get_or ts.items c.loop-i.i place) i.touched in record {
-      on = λ refused. settles_first _ _ _ c.args.self.now.touched.items c.loop-i.i place (omega arith) at (i.on refused) (c.in_default.ensures.ok refused);
-      sound = c.in_default.ensures.sound;
-      same = same_for_on c.loop-i.i 1 (c.loop-i.i + 1) _ _ _ i.same c.in_default.ensures.same (omega arith);
-      touched = c.in_default.ensures.kept.0 ∙ i.touched;
+    let left = settle_place-requires-clause-left c in record {
+      on = settles_next _ _ _ c.index-place.result.now i.on c.in_ok-settle_place.ensures.ok;
+      left = c.in_ok-settle_place.ensures.sound left.0 left.1;
+      same = same_for_on c.loop-i.i 1 (c.loop-i.i + 1) _ _ _ i.same c.in_ok-settle_place.ensures.same (omega arith);
+      kept = (c.in_ok-settle_place.ensures.kept.0 ∙ i.kept.0, c.in_ok-settle_place.ensures.refused ∙ sym c.requires.live);
       still = λ e. absurd (omega arith);
     }
 
 -- all were settled
-pub returns-clause-ok : goal.returns-clause-ok
-returns-clause-ok c refused =
+pub returns-clause-sound : goal.returns-clause-sound
+returns-clause-sound c =
     let done = c.loop-i-test.false in
     let long = c.len-i-end.ensures in
-    subst (SettlesOn (homed c.args.pass.now c.args.slots.now.items c.args.self.now refused) (homed c.loop-i.pass c.loop-i.slots.items c.loop-i.self refused)) (drop_all c.loop-i.i c.args.self.now.touched.items (omega arith)) (c.loop-i.invariant.on refused)
+    subst (λ left. IsSoundBut left (homed c.loop-i.pass c.loop-i.slots.items c.loop-i.self)) (drop_all c.loop-i.i c.args.self.now.touched.items (omega arith)) c.loop-i.invariant.left
 
 -- memory was refused
-pub returns-in-Err-clause-err : goal.returns-in-Err-clause-err
-returns-in-Err-clause-err c before after =
-    let s = c.loop-i.invariant.on before in
-    record { items = []; cut = homed c.args.pass.now c.args.slots.now.items c.args.self.now before; cuts = refl; places = s.places; between = homed c.loop-i.pass c.loop-i.slots.items c.loop-i.self before; settles = s.settles; hand = c.in-Err.ensures.err before after }
+pub returns-in_err-settle_place-clause-err : goal.returns-in_err-settle_place-clause-err
+returns-in_err-settle_place-clause-err c =
+    let s = c.loop-i.invariant.on in
+    record { items = []; cut = homed c.args.pass.now c.args.slots.now.items c.args.self.now; cuts = refl; places = s.places; between = homed c.loop-i.pass c.loop-i.slots.items c.loop-i.self; settles = s.settles; hand = c.in_err-settle_place.ensures.err }
+
+pub returns-in_err-settle_place-clause-sound : goal.returns-in_err-settle_place-clause-sound
+returns-in_err-settle_place-clause-sound c =
+    let left = settle_place-requires-clause-left c in
+    sound_refused left.0 [] _ _ c.in_err-settle_place.ensures.refused (c.in_err-settle_place.ensures.sound left.0 left.1)
