@@ -21,7 +21,7 @@ pub use capture_fault::{CaptureFault, FeedFault};
 pub use laws::a_capture_is_good_exactly_where_it_is_a_spelling;
 pub use outputs::Outputs;
 pub use reader::Reader;
-pub use record::{Record, Segment};
+pub use record::{Held, Record, Segment};
 pub use replies_reader::RepliesReader;
 pub use session_bytes::SessionBytes;
 pub use streams::Streams;

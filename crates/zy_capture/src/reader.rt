@@ -1,7 +1,9 @@
 //! The reader of captures.
-ghost use Rattle.std.specs.Prelude.{◌≡◌, ◌+◌, ◌<◌, ◌≤◌, [], ◌∷◌, ◌++◌, length, take, drop, get_or, Err, Ok, None};
+ghost use Rattle.std.specs.Prelude.{◌≡◌, ◌+◌, ◌<◌, ◌≤◌, [], ◌∷◌, ◌++◌, length, take, drop, get_or, Err, Ok, Some};
+ghost use Rattle.std.specs.Prelude.{None, IfSome, IfNone};
 ghost use Rattle.zy_read.specs.Standing.{given_in, Feeds, FeedsAs, TellsFault, TellsLasting, AnswersBy, Follows};
 ghost use Rattle.zy_read.specs.declared.not_taken.NotTaken.TheVariants.{NoMemory};
+ghost use Rattle.zy_capture.specs.declared.record.Record.TheVariants as Kinds;
 ghost use Rattle.zy_capture.specs.Verdict.{captures, verdict, version_of, count_of, is_within_record, is_good};
 ghost use Rattle.zy_capture.specs.Standing.{StandsForRecords, EndsBy, IsLengthEnd};
 
@@ -13,7 +15,7 @@ use crate::capture_fault::{CaptureFault, FeedFault};
 use crate::capture_state::CaptureState;
 use crate::due::Due;
 use crate::reader::whole::{copy_of, part_of};
-use crate::record::Record;
+use crate::record::{Held, Record};
 use std::alloc::Global;
 use std::marker::Model;
 use zy_base::Filling;
@@ -134,6 +136,26 @@ impl Reader {
                 self.take_segment(pieces.left(), head, part)
             }
             None => feed_piece(self, pieces.left()),
+        }
+    }
+
+    /// Takes the segment with which the bytes that are left of a piece begin, if the piece holds it whole,
+    /// and leaves them there. Otherwise, and if memory is refused, nothing is taken.
+    #[inline(always)]
+    pub fn take_held(&mut self, pieces: &mut Pieces) -> Option<Held>
+        ensures within { IfSome result (λ held. held.taken ≤ length pieces.old) }
+        ensures some { IfSome result (λ held. 0 < held.taken) }
+        ensures fed { IfSome result (λ held. Feeds captures self.old self.new (take held.taken pieces.old)
+            (Kinds.Segment held.segment ∷ [])) }
+        ensures exact { IfSome result (λ held. TellsFault captures self.old (take held.taken pieces.old)
+            (Ok (Some (Kinds.Segment held.segment)))) }
+        ensures none { IfNone result (self.new ≡ self.old) }
+        ensures kept { pieces.new ≡ pieces.old }
+    {
+        let head = self.lawful_segment(pieces.left())?;
+        match part_of(self.alloc, pieces, head.size) {
+            Ok(bytes) => Some(self.pass_segment(pieces.left(), head, bytes)),
+            Err(_) => None,
         }
     }
 

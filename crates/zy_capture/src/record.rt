@@ -11,6 +11,13 @@ pub struct Segment {
     pub bytes: Blob,
 }
 
+/// A segment that was taken at once, and how many bytes of a capture it was.
+#[derive(Drop)]
+pub struct Held {
+    pub taken: usize,
+    pub segment: Segment,
+}
+
 /// A record of a capture.
 #[derive(PartialEq, Eq, Drop)]
 pub enum Record {

@@ -1,7 +1,7 @@
 -- The effect of a feeder's step on what it has read and sent.
 use Rattle.std.proofs.Common.{◌≡◌, ◌≢◌, ◌⊎◌, inl, inr, ℕ, ◌+◌, ◌<◌, ◌≤◌, Bool, true, false, List, [], ◌∷◌, ◌++◌, length, set, refl, sym, ◌∙◌, ap, subst, arith, length-set}
 use Rattle.std.specs.Prelude.{◌==◌, nat_lt, Option, None, Some, slice_get, Result, Ok, Err}
-use Rattle.std.proofs.lemmas.List.{append-nil, length-map}
+use Rattle.std.proofs.lemmas.List.{append-nil, append_assoc, length-map}
 use Rattle.std.proofs.lemmas.Bool.{eqb-true}
 use Rattle.std.proofs.lemmas.Bool.Decides.{nat_tests}
 use Rattle.std.proofs.lemmas.Option.{slice_get_within}
@@ -18,7 +18,7 @@ use Rattle.zy_rx.specs.Feed.{sent_by}
 use Rattle.zy_read.specs.declared.stop.Stop.{Stop}
 use Rattle.zy_capture.specs.declared.capture_fault.CaptureFault.{CaptureFault}
 use Rattle.zy_feed.specs.declared.stage.Stage.TheVariants.{Cutting, Waiting, Ending, Ended, Broken}
-use Rattle.zy_feed.specs.Reads.{Intake, HasRead, Cuts}
+use Rattle.zy_feed.specs.Reads.{Intake, HasRead, Cuts, TakesFirst}
 use Rattle.zy_feed.specs.Feeding.{home_in, kept_for, end_before, OffersTo, Feeding, feeding, AreSent, Stands, LeadsTo}
 
 -- ---- which core an item is for
@@ -70,6 +70,23 @@ cores_are : (inlets : List Offering) → length (sent_by inlets) ≡ length inle
 cores_are inlets = length-map inlets (λ (i : Offering). i.sent)
 
 -- ---- a record is cut
+
+-- a record was cut of the piece
+pub held_cuts : {S : Type 0} (rest : S → Option (List ℕ)) (faults : S → ℕ) (first now : S) (p q : Intake) (records : List Record) (bytes : List ℕ) (most : ℕ) (r : Record) → TakesFirst most p q (Ok (Some r)) → HasRead rest faults first now p records bytes
+    → Cuts rest faults first now q records bytes (Ok (Some r))
+held_cuts rest faults first now p q records bytes most r takes has =
+    let rest_is : (bytes ++ takes.fed) ++ q.left ≡ bytes ++ p.left = append_assoc bytes takes.fed q.left ∙ ap (λ (l : List ℕ). bytes ++ l) (sym takes.left) in (
+      takes.fed,
+      record {
+        reader = takes.feeds records bytes has.reader;
+        clean = takes.exact records bytes has.reader;
+        given = record {
+          source = rw rest_is has.given.source;
+          bytes = rw rest_is has.given.bytes;
+          count = has.given.count;
+        };
+      },
+    )
 
 pub cut_leads : {S : Type 0} (rest : S → Option (List ℕ)) (faults : S → ℕ) (old now : S) (p q : Intake) (inlets : List Offering) (result : Result (Option Record) (Stop CaptureFault)) (r : Record) (item : Rx) → result ≡ Ok (Some r) → item ≡ offered_item r
     → ((first : S) (records : List Record) (bytes : List ℕ) → HasRead rest faults first old p records bytes → Cuts rest faults first now q records bytes result)

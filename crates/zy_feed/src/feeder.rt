@@ -68,7 +68,22 @@ impl<'s, S: Source> CaptureFeeder<'s, S> {
         (source, inlets, stop)
     }
 
+    // Cuts the next record and offers it, at once if it is a segment that the piece holds whole.
+    fn cut_next(&mut self) -> Fed
+        requires cutting { self.old.stage ≡ Stages.Cutting }
+        ensures source { self.new.source.ghost_name ≡ self.old.source.ghost_name }
+        ensures steps { StepsTo self.old.inlets self.new.inlets self.new.stage result }
+        ensures leads { LeadsTo S.rest S.faults
+            (in_stage self.old Stages.Cutting) (feeder_state self.new) }
+    {
+        match self.intake.cut_held() {
+            Some(segment) => self.deliver(item_of(Record::Segment(segment))),
+            None => self.cut(),
+        }
+    }
+
     // Cuts the next record and offers it; if there is none, offers the end to the first core.
+    #[inline(never)]
     fn cut(&mut self) -> Fed
         requires cutting { self.old.stage ≡ Stages.Cutting }
         ensures source { self.new.source.ghost_name ≡ self.old.source.ghost_name }
@@ -149,7 +164,7 @@ impl<'s, S: Source> Feeder for CaptureFeeder<'s, S> {
 
     fn step(&mut self) -> Fed {
         match &self.stage {
-            Stage::Cutting => self.cut(),
+            Stage::Cutting => self.cut_next(),
             Stage::Waiting(_) => self.offer_again(),
             Stage::Ending(core) => {
                 let core = *core;

@@ -1,7 +1,8 @@
 //! Reading a capture in pieces.
-ghost use Rattle.std.specs.Prelude.{◌≡◌, ◌<◌, ◌≤◌, ℕ, List, [], length, true, Ok};
+ghost use Rattle.std.specs.Prelude.{◌≡◌, ◌<◌, ◌≤◌, ℕ, List, [], length, true, Ok, Some};
 ghost use Rattle.std.specs.Prelude.{IfOk, IfErr, IfSome, IfNone};
 ghost use Rattle.zy_capture.specs.declared.record.Record.{Record};
+ghost use Rattle.zy_capture.specs.declared.record.Record.TheVariants as Kinds;
 ghost use Rattle.zy_capture.specs.Standing.{StandsForRecords};
 ghost use Rattle.zy_feed.specs.Reads.{IsUnread, HasRead, HasBegun, StopsIntakeBy, TellsHeader};
 ghost use Rattle.zy_feed.specs.Reads.{TellsNoHeader, Cuts, RefillsIntake, TakesFirst, HoldsRecord};
@@ -10,7 +11,7 @@ use crate::stop::Stop;
 use std::alloc::Global;
 use std::marker::Model;
 use zy_base::{NoMemory, Source};
-use zy_capture::{CaptureFault, FeedFault, Reader, Record, begins_with_record};
+use zy_capture::{CaptureFault, FeedFault, Held, Reader, Record, Segment, begins_with_record};
 use zy_read::{Fed, Pieces};
 
 /// What a capture begins with.
@@ -119,6 +120,24 @@ impl Intake {
         }
         // No capture has this many bytes.
         Err(Stop::Refused(CaptureFault::TooLong))
+    }
+
+    // Cuts the next record if it is a segment that the piece holds whole. Otherwise, and if memory is refused, nothing
+    // changes.
+    #[inline(always)]
+    pub(crate) fn cut_held(&mut self) -> Option<Segment>
+        ensures some { IfSome result (λ segment. TakesFirst (length self.old.left) self.old self.new
+            (Ok (Some (Kinds.Segment segment)))) }
+        ensures none { IfNone result (self.new ≡ self.old) }
+    {
+        match self.reader.take_held(&mut self.pieces) {
+            Some(held) => {
+                let Held { taken, segment } = held;
+                self.pieces.pass(taken);
+                Some(segment)
+            }
+            None => None,
+        }
     }
 
     // Checks whether the piece holds the whole next record, so that no read is needed to cut it.

@@ -1,8 +1,9 @@
 //! A segment that bytes hold whole, taken at once.
 ghost use Rattle.std.specs.Prelude.{◌≡◌, ◌≢◌, ◌+◌, ◌<◌, ◌≤◌, length, take, drop, get_or, IfSome, IfOk, OnErr};
-ghost use Rattle.std.specs.Prelude.{Ok, Err, None};
+ghost use Rattle.std.specs.Prelude.{Ok, Err, Some, None, [], ◌∷◌};
 ghost use Rattle.zy_read.specs.Standing.{given_in, Feeds, TellsFault, TellsLasting};
 ghost use Rattle.zy_read.specs.declared.not_taken.NotTaken.TheVariants as Answers;
+ghost use Rattle.zy_capture.specs.declared.record.Record.TheVariants as Kinds;
 ghost use Rattle.zy_capture.specs.Standing.{IsLengthEnd};
 ghost use Rattle.zy_capture.specs.Verdict.{captures};
 ghost use Rattle.zy_capture.specs.Whole.{TakesSegment};
@@ -11,7 +12,7 @@ use super::Reader;
 use super::steps::{CAPTURE_LIMIT, HEAD, SEGMENT_LIMIT};
 use crate::capture_fault::{CaptureFault, FeedFault};
 use crate::due::Due;
-use crate::record::{Record, Segment};
+use crate::record::{Held, Record, Segment};
 use crate::whole::{Head, held_segment};
 use std::alloc::Global;
 use zy_base::{Blob, NoMemory};
@@ -83,6 +84,30 @@ impl Reader {
                     answer: Err(FeedFault::NoMemory),
                 }
             }
+        }
+    }
+
+    // Takes the segment that has this head and these bytes, for which there was memory.
+    #[inline(always)]
+    pub(super) fn pass_segment(&mut self, bytes: &[u8], head: Head, payload: Blob) -> Held
+        requires takes { TakesSegment self.old bytes.now head.conn head.size }
+        requires payload { payload ≡ take head.size (drop 9 bytes.now) }
+        ensures within { result.taken ≤ length bytes.now }
+        ensures some { 0 < result.taken }
+        ensures fed { Feeds captures self.old self.new (take result.taken bytes.now)
+            (Kinds.Segment result.segment ∷ []) }
+        ensures exact { TellsFault captures self.old (take result.taken bytes.now)
+            (Ok (Some (Kinds.Segment result.segment))) }
+    {
+        let Head { conn, size } = head;
+        let taken = FRONT + size as usize;
+        self.at += taken as u64;
+        Held {
+            taken,
+            segment: Segment {
+                conn,
+                bytes: payload,
+            },
         }
     }
 }
