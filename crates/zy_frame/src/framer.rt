@@ -6,7 +6,7 @@ ghost use Rattle.zy_frame.specs.Feed.{Appends, AppendsFirst};
 ghost use Rattle.zy_frame.specs.Steps.{Advances};
 
 use crate::frames::Frames;
-use crate::state::{State, put};
+use crate::state::{State, refuse};
 use crate::stepping::step;
 use mc_parse::Parsed;
 use std::alloc::Global;
@@ -104,7 +104,7 @@ impl Framer {
         ) {
             Ok(taken) => Ok(taken),
             Err(e) => {
-                put(&mut self.state, State::Refused);
+                refuse(&mut self.state);
                 Err(e)
             }
         }

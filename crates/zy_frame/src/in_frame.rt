@@ -47,7 +47,8 @@ pub(crate) fn take_block(
     }
     keep(block, piece, bytes, left)?;
     wanted.left = 0;
-    let line = chomp_kept(mem::replace(&mut wanted.line, Blob::new(alloc)));
+    chomp_kept(&mut wanted.line);
+    let line = mem::replace(&mut wanted.line, Blob::new(alloc));
     let block = mem::replace(block, Blob::new(alloc));
     append(frames, FrameKind::Block { line, block }, parsed)?;
     Ok(left)
@@ -84,7 +85,8 @@ pub(crate) fn pass_block(
         return Ok(bytes.len());
     }
     wanted.left = 0;
-    let line = chomp_kept(mem::replace(&mut wanted.line, Blob::new(alloc)));
+    chomp_kept(&mut wanted.line);
+    let line = mem::replace(&mut wanted.line, Blob::new(alloc));
     append(frames, FrameKind::Large { line }, &Parsed::nothing())?;
     Ok(left)
 }

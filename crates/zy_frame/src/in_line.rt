@@ -74,7 +74,8 @@ fn close_line(
 {
     match read_need(chomp(kept.bytes()), parsed) {
         Need::Nothing => {
-            let line = chomp_kept(mem::replace(kept, Blob::new(alloc)));
+            chomp_kept(kept);
+            let line = mem::replace(kept, Blob::new(alloc));
             append(frames, FrameKind::Line { line }, parsed)?;
             Ok(Need::Nothing)
         }

@@ -27,11 +27,10 @@ pub(crate) fn chomp(line: &[u8]) -> &[u8]
     &line[..last]
 }
 
-// Returns such a line, which is moved. Takes no memory.
-pub(crate) fn chomp_kept(mut line: Blob) -> Blob
-    ensures value { result ≡ chomped line }
+// Takes one carriage return off the end of the line. Takes no memory.
+pub(crate) fn chomp_kept(line: &mut Blob)
+    ensures value { line.new ≡ chomped line.old }
 {
     let len = chomp(line.bytes()).len();
     line.truncate(len);
-    line
 }

@@ -1,6 +1,6 @@
 //! The unfinished frame of a framer.
 ghost use Rattle.std.specs.Prelude.{◌≡◌, []};
-ghost use Rattle.zy_frame.specs.declared.state.State.TheVariants.{Line};
+ghost use Rattle.zy_frame.specs.declared.state.State.TheVariants.{Line, Long, Refused};
 ghost use Rattle.zy_frame.specs.Steps.{after_line, after_block, waiting};
 
 use crate::wanted::Wanted;
@@ -32,6 +32,22 @@ pub(crate) fn put(state: &mut State, next: State)
     ensures value { state.new ≡ next }
 {
     drop(mem::replace(state, next));
+}
+
+// Goes on where memory was refused. It is a call of its own, so that a step makes no room for the next state.
+#[inline(never)]
+pub(crate) fn refuse(state: &mut State)
+    ensures value { state.new ≡ Refused }
+{
+    put(state, State::Refused);
+}
+
+// Goes on in a line that is too long. It is a call of its own for the same reason.
+#[inline(never)]
+pub(crate) fn go_on_long(state: &mut State)
+    ensures value { state.new ≡ Long }
+{
+    put(state, State::Long);
 }
 
 // Begins a line.

@@ -9,7 +9,7 @@ use crate::frames::{Frames, append};
 use crate::in_frame::{pass_block, take_block};
 use crate::in_line::{end_line, grow_line};
 use crate::line_end::line_end;
-use crate::state::{State, begin_line, end_block, put, take_line};
+use crate::state::{State, begin_line, end_block, go_on_long, take_line};
 use mc_parse::Parsed;
 use std::alloc::Global;
 use zy_base::{Blob, NoMemory};
@@ -41,7 +41,7 @@ pub(crate) fn step(
             }
             None => {
                 if grow_line(kept, bytes)? {
-                    put(state, State::Long);
+                    go_on_long(state);
                 }
                 Ok(bytes.len())
             }

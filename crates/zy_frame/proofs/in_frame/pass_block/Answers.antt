@@ -1,5 +1,4 @@
-use Rattle.std.proofs.Common.{◌∙◌, ap}
-use Rattle.zy_frame.specs.Line.{chomped}
+use Rattle.std.proofs.Common.{◌∙◌}
 use Rattle.zy_frame.proofs.GoingOn.{is_large_frame}
 use Rattle.zy_frame.proofs.StepLemmas.{large_moves, large_ends}
 use Rattle.zy_frame.proofs.in_frame.pass_block.Goals as goal
@@ -12,12 +11,12 @@ pub append-requires : goal.append-requires
 append-requires c =
     let keeps = c.requires.keeps in
     record {
-      frame = rw (c.chomp_kept-line.ensures.value ∙ ap chomped c.replace.ensures.value)
+      frame = rw (c.replace-line.ensures.value ∙ c.chomp_kept.ensures.value)
           (is_large_frame c.args.wanted.now.line c.args.wanted.now.size keeps.awaits.short keeps.awaits.sized keeps.large);
       parsed = tt;
     }
 
 pub returns-clause-value : goal.returns-clause-value
 returns-clause-value c =
-    large_ends c.args.wanted.now.line c.args.bytes.now c.chomp_kept-line.result c.args.wanted.now.size c.args.wanted.now.left c.args.frames.now c.append.new.frames c.requires.keeps c.if-bytes-left.false
-    (c.chomp_kept-line.ensures.value ∙ ap chomped c.replace.ensures.value) c.in_ok-append.ensures.ok
+    large_ends c.args.wanted.now.line c.args.bytes.now c.replace-line.result c.args.wanted.now.size c.args.wanted.now.left c.args.frames.now c.append.new.frames c.requires.keeps c.if-bytes-left.false
+    (c.replace-line.ensures.value ∙ c.chomp_kept.ensures.value) c.in_ok-append.ensures.ok

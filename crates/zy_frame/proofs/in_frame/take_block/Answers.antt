@@ -1,5 +1,4 @@
-use Rattle.std.proofs.Common.{◌∙◌, ap}
-use Rattle.zy_frame.specs.Line.{chomped}
+use Rattle.std.proofs.Common.{◌∙◌}
 use Rattle.zy_frame.proofs.GoingOn.{is_block_frame}
 use Rattle.zy_frame.proofs.StepLemmas.{block_moves, block_ends, block_length}
 use Rattle.zy_frame.proofs.in_frame.take_block.Goals as goal
@@ -12,11 +11,11 @@ returns-then-bytes-left-clause-value c =
 pub append-requires-clause-frame : goal.append-requires-clause-frame
 append-requires-clause-frame c =
     let keeps = c.requires.keeps in
-    rw (c.chomp_kept-line.ensures.value ∙ ap chomped c.replace.ensures.value, c.replace-block.ensures.value ∙ c.in_ok-keep.ensures.ok)
+    rw (c.replace-line.ensures.value ∙ c.chomp_kept.ensures.value, c.replace-block.ensures.value ∙ c.in_ok-keep.ensures.ok)
     (is_block_frame c.args.wanted.now.line _ c.args.wanted.now.size keeps.awaits.short keeps.awaits.sized keeps.small
     (block_length c.args.wanted.now.line c.args.block.now c.args.bytes.now c.args.wanted.now.size c.args.wanted.now.left keeps c.if-bytes-left.false))
 
 pub returns-clause-value : goal.returns-clause-value
 returns-clause-value c =
-    block_ends c.args.wanted.now.line c.args.block.now c.args.bytes.now c.chomp_kept-line.result c.replace-block.result c.args.wanted.now.size c.args.wanted.now.left c.args.frames.now c.append.new.frames
-    c.requires.keeps c.if-bytes-left.false (c.chomp_kept-line.ensures.value ∙ ap chomped c.replace.ensures.value) (c.replace-block.ensures.value ∙ c.in_ok-keep.ensures.ok) c.in_ok-append.ensures.ok
+    block_ends c.args.wanted.now.line c.args.block.now c.args.bytes.now c.replace-line.result c.replace-block.result c.args.wanted.now.size c.args.wanted.now.left c.args.frames.now c.append.new.frames
+    c.requires.keeps c.if-bytes-left.false (c.replace-line.ensures.value ∙ c.chomp_kept.ensures.value) (c.replace-block.ensures.value ∙ c.in_ok-keep.ensures.ok) c.in_ok-append.ensures.ok

@@ -14,14 +14,14 @@ read_need-requires c =
 pub append-requires-clause-frame : goal.append-requires-clause-frame
 append-requires-clause-frame c =
     let same = c.chomp.ensures.value ∙ ap chomped c.bytes.ensures.value in
-    rw (c.chomp_kept-line.ensures.value ∙ ap chomped c.replace.ensures.value)
+    rw (c.replace-line.ensures.value ∙ c.chomp_kept.ensures.value)
     (is_line_frame c.args.kept.now c.requires.short (ap need (sym same) ∙ sym c.read_need.ensures.value ∙ c.in-Nothing.is))
 
 pub returns-in_ok-append-in-Nothing-clause-value : goal.returns-in_ok-append-in-Nothing-clause-value
 returns-in_ok-append-in-Nothing-clause-value c =
     let same = c.chomp.ensures.value ∙ ap chomped c.bytes.ensures.value in
-    line_frame c.args.kept.now c.chomp_kept-line.result c.replace.new.dest c.args.frames.now c.append.new.frames c.requires.short (ap need (sym same) ∙ sym c.read_need.ensures.value ∙ c.in-Nothing.is)
-    (c.chomp_kept-line.ensures.value ∙ ap chomped c.replace.ensures.value) (c.replace.ensures.after ∙ c.new.ensures.value) c.in_ok-append-in-Nothing.ensures.ok
+    line_frame c.args.kept.now c.replace-line.result c.replace-line.new.dest c.args.frames.now c.append.new.frames c.requires.short (ap need (sym same) ∙ sym c.read_need.ensures.value ∙ c.in-Nothing.is)
+    (c.replace-line.ensures.value ∙ c.chomp_kept.ensures.value) (c.replace-line.ensures.after ∙ c.new.ensures.value) c.in_ok-append-in-Nothing.ensures.ok
 
 pub returns-in_default-clause-value : goal.returns-in_default-clause-value
 returns-in_default-clause-value c =
