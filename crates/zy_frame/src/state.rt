@@ -34,7 +34,7 @@ pub(crate) fn put(state: &mut State, next: State)
     drop(mem::replace(state, next));
 }
 
-// Goes on where memory was refused. It is a call of its own, so that a step makes no room for the next state.
+// Enters the state after a failed allocation. It is never inlined, so that a step clears no room for this state.
 #[inline(never)]
 pub(crate) fn refuse(state: &mut State)
     ensures value { state.new ≡ Refused }
@@ -42,7 +42,7 @@ pub(crate) fn refuse(state: &mut State)
     put(state, State::Refused);
 }
 
-// Goes on in a line that is too long. It is a call of its own for the same reason.
+// Goes on in a line that is too long. It is never inlined for the same reason.
 #[inline(never)]
 pub(crate) fn go_on_long(state: &mut State)
     ensures value { state.new ≡ Long }
