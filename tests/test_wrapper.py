@@ -200,7 +200,7 @@ class Said(Wrapper):
         for words, status, output, line, advice in (
             (("run",), 3, b"", "zygos: capture: bad-magic at 0\n", "zygos: this is no capture; "),
             (("check",), 1, b"no not-next entry 3\n", "", "zygos: give the capture that was served, and the --shards"),
-            (("report",), 3, b"", "zygos: journal: form at 0\n", "zygos: give a journal alone, "),
+            (("report",), 3, b"", "zygos: journal: form at 0\n", "zygos: give only a journal, "),
             (("pcap", "--port", "7"), 0, advising.NOTHING, "", "zygos: no packet goes to port 7; --port names another\n"),
             (("pcap",), 0, advising.NOTHING, "", "zygos: no packet goes to port 11211; "),
             (("gen",), 0, b"%70000s" % b"made", "", ""),

@@ -16,9 +16,9 @@ import tempfile
 # what to do about a line of the program, by how the line begins
 ADVICE = (
     (r"no (not-next|wrong-reply|missing) ",
-     "give the capture that was served, and the --shards of the run; else the journal is not of a legal run"),
+     "give the capture that was served, and the --shards of the run; otherwise the journal is not that of a legal run"),
     (r"no wrong-output ", "the replies file is not the one of this journal and this capture"),
-    (r"no wrong-holds ", "the journal is not of a run of this capture"),
+    (r"no wrong-holds ", "the journal is not that of a run of this capture"),
     (r"no early-end ", "was the capture recorded with --ends, and are the replies those of the recording? docs/JUDGE.md says more"),
     (r"no out-of-time ", "the journal has an order that the recorded times rule out; tools/judge searches for one that fits"),
     (r"\w+: usage: ", "./zygos help has the commands and their options"),
@@ -27,18 +27,18 @@ ADVICE = (
     (r"\w+: capture: conn-count ", "a capture has at most 4,096 connections: split it, or use sessions"),
     (r"\w+: capture: bad-tag ", "the file is damaged, or has a close record in version 1"),
     (r"\w+: capture: conn-range ", "the file's count of connections is too small"),
-    (r"\w+: capture: segment-length ", "a segment has at most 65,535 bytes: make several of it"),
+    (r"\w+: capture: segment-length ", "a segment has at most 65,535 bytes: split it"),
     (r"\w+: capture: truncated ", "give the whole file; tools/record --repair completes a recording that was killed"),
-    (r"\w+: capture: trailing ", "run takes one capture alone, which tools/part capture cuts out"),
+    (r"\w+: capture: trailing ", "run takes one capture with nothing after it, which tools/part capture cuts out"),
     (r"\w+: capture: too-long", "split the capture"),
     (r"\w+: replies: (form|truncated) ", "a replies file has to come last, and once; zygos run writes it"),
-    (r"\w+: pcap: fault ", "tools/packets FILE names this fault, its place and what to do"),
+    (r"\w+: pcap: fault ", "tools/packets FILE names this error, its offset and what to do"),
     (r"\w+: reading failed", "the system refused a read of standard input"),
     (r"\w+: writing failed", "the disk is full, or the reader of the output went away"),
     (r"\w+: out of memory", "a run takes about 14 times its capture, and more for long answers; docs/COMMANDS.md, \"Memory\""),
 )
 JOURNAL = re.compile(r"\w+: journal: (form|truncated) ")
-OF_JOURNAL = {"report": "give a journal alone, which tools/part journal cuts out of what zygos run --out both writes"}
+OF_JOURNAL = {"report": "give only a journal, which tools/part journal cuts out of what zygos run --out both writes"}
 IN_ORDER = "give a capture, a journal and a replies file, in this order; zygos run --out both writes the last two"
 # a capture of no connection, as pcap writes it if no packet goes to the port
 NOTHING = b"ZYGCAP2\n\0\0\0\0E"
@@ -75,7 +75,7 @@ def beginning(given, size):
 
 
 def kind_in(given):
-    """What an input is that is no capture, to be printed; nothing if that is not known."""
+    """What an input is if it is no capture, to be printed; nothing if that is not known."""
     head = beginning(given, HEAD)
     kind = next((kind for pattern, kind in KINDS if re.match(pattern, head)), None) if head is not None else None
     return f" but {kind}" if kind else ""

@@ -12,24 +12,24 @@ CAPTURE, REPLIES  what clients sent and what the server answered, best as `tools
 --out FILES   where the files are written, one after the other: a capture, a journal of the order, and replies. Without
               --out, --order, --check and --json they go to standard output, and what is said to standard error
 --order FILE  where the order of the commands is written, for tools/inline and tools/compare
---over        write over files; without it, a file that is not empty is refused
---shards N    of the run whose journal it is, 1 to 256 (if left out, 16); the checkers take the same number
+--over        overwrites files that are not empty
+--shards N    the shards of the journal's run, 1 to 256 (if left out, 16); give the checkers the same number
 --times KIND  what is known of when commands ended. ends: segments without bytes, which `--ends` writes; segments: each
-              client waits for its answers before it sends again; none. If left out, ends where there are some
+              client waits for its answers before it sends again; none. If left out, ends if there are any
 --warm        the server had items before: a connection is added that stores those that answers imply
---may-forget  the server may lose items: a connection is added that deletes them where they are missed
---keys GLOBS  judges the keys that match one of these patterns, parted by spaces, as 'user:* count:*'
---except-keys GLOBS  judges all keys but those that match
---first       stops at the first fault; without it, all keys are searched
---json        prints one line with the verdict and the counts, or with the fault of a file, and nothing else
+--may-forget  the server may lose items: a connection is added that deletes those that answers show to be gone
+--keys GLOBS  judges the keys that match one of these patterns, separated by spaces, as 'user:* count:*'
+--except-keys GLOBS  judges all keys except those that match
+--first       stops at the first key without an order; without it, all keys are searched
+--json        prints one line with the verdict and the counts, or with the error of a file, and nothing else
 --seconds N   gives up after N seconds (if left out, 600)
---states N    gives up a key after N states of it (if left out, 200,000)
+--states N    gives up on a key after N of its states (if left out, 200,000)
 --processes N  searches keys in N processes (if left out, as many as there are processors that are not busy)
 
 The first line is `order found: ..`, and a second one says what is translated; `no: ..`, with a few commands that no
 order explains; or `unknown: ..`, with the reason. Then follow how many keys have an order, and a line for each that has
-none. The status is 0, 1 or 3, and after an order, with --check, that of the checker, which says `yes`. For a fault in a
-file it is 1, and for one in the words 2. docs/JUDGE.md says what `yes` means, and what it does not.
+none. The status is 0, 1 or 3, and after an order, with --check, that of the checker, which says `yes`. For an error in
+a file it is 1, and for a wrong option 2. docs/JUDGE.md says what `yes` means, and what it does not.
 """
 from __future__ import annotations
 
