@@ -7,7 +7,7 @@ ten times the input. Values grow by `append`, so ten times the commands of each 
 
 usage: bench/run check [PROGRAM]
 
-PROGRAM       a program that is built (if left out, the repository's, which is proved and built first where it isn't)
+PROGRAM       a program that is built (if left out, the repository's, which is proved and built first if it isn't)
 """
 import os
 import shutil

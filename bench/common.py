@@ -1,6 +1,6 @@
 """What the scripts of bench share: the programs, their runs and what these cost, made traffic, and words.
 
-A script ends with a line on standard error where a run fails, with status 1, and at words that it does not know, with
+A script ends with a line on standard error if a run fails, with status 1, and at words that it does not know, with
 status 2.
 """
 import argparse
@@ -18,7 +18,7 @@ from zygos_tools.repository import TOP
 
 HERE = os.path.join(TOP, "bench")
 DOCS = os.path.join(TOP, "docs")
-# quiet where it is interrupted, or its reader goes away
+# quiet if it is interrupted, or its reader goes away
 signal.signal(signal.SIGPIPE, signal.SIG_DFL)
 signal.signal(signal.SIGINT, signal.SIG_DFL)
 
@@ -137,7 +137,7 @@ def say_quotes(name):
 
 
 def built(program, given=None):
-    """The path of a program of the repository, which is proved and built first where it isn't; or the given one."""
+    """The path of a program of the repository, which is proved and built first if it isn't; or the given one."""
     if given:
         if not os.access(given, os.X_OK):
             stop(f"{given}: no program")

@@ -21,7 +21,7 @@ usage: bench/run crowd [--traffic KIND] [--commands N] [--keys N] [--runs N] [--
 --rest N        when idle cores sleep (1; with more than four threads 100)
 --only WHAT     one of the two parts
 --capture FILE  a capture that is served in place of that traffic
-PROGRAM         a program that is built (if left out, the repository's, which is proved and built first where it isn't)
+PROGRAM         a program that is built (if left out, the repository's, which is proved and built first if it isn't)
 """
 import contextlib
 import os

@@ -68,7 +68,7 @@ def law_of_file(path):
 
 
 def loads_of(load, cores, skewed):
-    """The loads of the cores, of which the first has half of all requests where they are skewed."""
+    """The loads of the cores, of which the first has half of all requests if they are skewed."""
     if skewed and cores > 1:
         return [load * cores / 2] + [load * cores / 2 / (cores - 1)] * (cores - 1)
     return [load] * cores

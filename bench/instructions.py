@@ -17,7 +17,7 @@ usage: bench/run instructions [--traffic KIND] [--commands N] [--keys N] [--func
 --functions N  the number of functions (40)
 --check        counts 20,000 commands of zygos only; the status is 1 if a command takes more instructions than its bound
 --note         writes them into bench/figures.json, which the pages quote
-PROGRAM        a program that is built (if left out, the repository's, which is proved and built first where it isn't)
+PROGRAM        a program that is built (if left out, the repository's, which is proved and built first if it isn't)
 """
 import collections
 import os
@@ -64,7 +64,7 @@ class Count:
         self.all = sum(self.own.values())
 
     def name(self, text):
-        """The name of a function, which is spelled out where it first comes."""
+        """The name of a function, which is written out when it first comes."""
         number, _, name = text.strip().partition(" ")
         return self.names.setdefault(number, name)
 

@@ -6,7 +6,7 @@ ratios. Ten times the input is to cost at most eleven times the time and the mem
 
 usage: bench/run pairs [PROGRAM]
 
-PROGRAM       a program that is built (if left out, the repository's, which is proved and built first where it isn't)
+PROGRAM       a program that is built (if left out, the repository's, which is proved and built first if it isn't)
 """
 import os
 import tempfile

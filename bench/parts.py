@@ -199,12 +199,12 @@ PAGE = """Measures {what}: {said}.
 
 usage: bench/run {what} [PROGRAM]
 
-PROGRAM       `zygos_bench`, built (if left out, that of the repository, which is proved and built first where it isn't)
+PROGRAM       `zygos_bench`, built (if left out, that of the repository, which is proved and built first if it isn't)
 """
 
 
 def main(what, words):
-    """Measures a part; the status is 1 where it costs more than it may."""
+    """Measures a part; the status is 1 if it costs more than it may."""
     common.called(f"bench/run {what}")
     given = common.Words(PAGE.format(what=what, said=PARTS[what].__doc__), "program").given(words)
     return int(PARTS[what](Bench(common.built("zygos_bench", given.program))))

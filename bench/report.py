@@ -6,7 +6,7 @@ multiple of the journal. The status is 1 where an entry of the largest journal c
 
 usage: bench/run report [PROGRAM]
 
-PROGRAM       a program that is built (if left out, the repository's, which is proved and built first where it isn't)
+PROGRAM       a program that is built (if left out, the repository's, which is proved and built first if it isn't)
 """
 import os
 import sys

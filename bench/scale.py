@@ -29,7 +29,7 @@ usage: bench/run scale [--traffic KIND] [--commands N] [--keys N] [--runs N] [--
 --picture FILE  writes a chart, for which all kinds are served
 --note          writes figures of `even` into bench/figures.json, which the pages quote: of generated traffic the
                 medians of seconds, of cache the ratios to plain C
-PROGRAM         a program that is built (if left out, the repository's, which is proved and built first where it isn't)
+PROGRAM         a program that is built (if left out, the repository's, which is proved and built first if it isn't)
 """
 import os
 import subprocess

@@ -20,7 +20,7 @@ usage: bench/run serve [--traffic KIND] [--runs N] [--commands N] [--keys N] [--
 --commands N    the commands of the larger capture; the smaller one has a tenth (1000000)
 --keys N        the keys of the larger capture of cache; the smaller one has a tenth (half the commands)
 --note          writes the memory of the larger capture into bench/figures.json, which the pages quote
-PROGRAM         a program that is built (if left out, the repository's, which is proved and built first where it isn't)
+PROGRAM         a program that is built (if left out, the repository's, which is proved and built first if it isn't)
 """
 import filecmp
 import os

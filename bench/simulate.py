@@ -19,7 +19,7 @@ usage: bench/run simulate [--measure FILE | --costs FILE] [--tail FILE] [--comma
 --costs FILE      costs that were measured before
 --tail FILE       what `bench/run tail --json` printed
 --commands N      the commands of a simulated run (100000)
---traffic N       the commands that the program serves where it is measured (1000000)
+--traffic N       the commands that the program serves if it is measured (1000000)
 --picture FOLDER  writes scale-cores.svg and tail-cores.svg
 --program PATH    `zygos`, built;
 --bench PATH      `zygos_bench`, and

@@ -39,7 +39,7 @@ usage: bench/run tail [--cores N] [--loads L,..] [--service US,..] [--law LAW] [
 --runs N          the number of runs of each point (3)
 --seconds S       the seconds of a run; it is longer for service times over 10 microseconds (0.2)
 --costs FILE      what turns cost, as --virtual --json printed it before, in place of measuring it
---picture FOLDER  writes a chart for each law, mean and kind: tail.svg and tail-skew.svg where there is one law and mean
+--picture FOLDER  writes a chart for each law, mean and kind: tail.svg and tail-skew.svg if there is one law and mean
 --json            prints all points as JSON
 --note            with --virtual, writes the loads into bench/figures.json, which the pages quote
 PROGRAM           `zygos_tail`, built (if left out, the repository's, which is proved and built first if it isn't)
@@ -70,7 +70,7 @@ TRIES = 3
 
 
 def hurry():
-    """Gives this process a real-time priority, where the system allows it."""
+    """Gives this process a real-time priority, if the system allows it."""
     try:
         os.sched_setscheduler(0, os.SCHED_FIFO, os.sched_param(50))
     except (OSError, AttributeError):
@@ -256,7 +256,7 @@ def cases_of(given):
 
 
 def draw(found, cores, cases, case, given, prices=None):
-    """Says which loads the curves carry, and draws them where that is asked for."""
+    """Says which loads the curves carry, and draws them if that is asked for."""
     skewed, law = case
     curves = curves_of(found, cores, skewed, law)
     if given.picture:
@@ -304,7 +304,7 @@ class OfCores:
 
 
 def in_virtual_time(given, cases, program, say):
-    """Finds the loads in virtual time, and points where they are asked for. Gives what is printed as JSON."""
+    """Finds the loads in virtual time, and points if they are asked for. Gives what is printed as JSON."""
     given.cores = [int(cores) for cores in given.cores or virtual.CORES]
     say(f"{common.machine()}; in virtual time, median of {given.runs} runs")
     points = []

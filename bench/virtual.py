@@ -14,7 +14,7 @@ import simulate
 BOUND = 10
 # Calibrating runs: the load in percent, and whether it is skewed; each is made this number of times.
 CALIBRATING, TIMES, TURNS = ((50, False), (90, True), (130, False)), 7, 40_000
-# A class of turns counts where it has this number of them, and no class counts for more turns than that.
+# A class of turns counts if it has this number of them, and no class counts for more turns than that.
 LEAST, MOST = 20, 400
 # The lines that come from another processor: those of a call are in `moved`.
 LINE = simulate.REQUEST["away"]

@@ -413,7 +413,7 @@ def streams_in(text):
 
 
 def compare(name, words, text, port, ask):
-    """Ends with status 1 where the program and the model differ."""
+    """Ends with status 1 if the program and the model differ."""
     wanted = expected(text, port)
     if words and ask(words, text, port) != wanted:
         with open("packets.failed", "wb") as file:

@@ -45,7 +45,7 @@ def streams_of(capture):
 
 
 def commands_in(given, connection):
-    """The commands of a connection, session after session; where there is no such connection, none."""
+    """The commands of a connection, session after session; if there is no such connection, none."""
     sessions = given.streams[connection] if connection < len(given.streams) else []
     return [command for text in sessions for command in commands_of(text)]
 
