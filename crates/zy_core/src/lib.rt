@@ -13,6 +13,6 @@ mod turn;
 pub use cores::Cores;
 pub use logical_core::Core;
 pub use nap::Nap;
-pub use running::{Running, abandon_parts};
+pub use running::Running;
 pub use shared::Shared;
 pub use turn::{Came, Turn};

@@ -15,7 +15,7 @@ pub struct Running {
 }
 
 impl Running {
-    /// Drops the parts.
+    /// Drops the parts here, so that no crate above needs to prove it.
     pub fn abandon(self) {
         let Running {
             cores,
@@ -23,14 +23,9 @@ impl Running {
             inlets,
             root,
         } = self;
-        abandon_parts(cores, shared, inlets, root);
+        drop(cores);
+        drop(shared);
+        drop(inlets);
+        drop(root);
     }
-}
-
-/// Drops the parts of a run here, so that no crate above needs to prove it.
-pub fn abandon_parts(cores: Cores, shared: Shared, inlets: Vec<Inlet>, root: Root) {
-    drop(cores);
-    drop(shared);
-    drop(inlets);
-    drop(root);
 }

@@ -2,6 +2,7 @@
 use Rattle.std.specs.Prelude.{map, is_some, is_err, Result, Ok, Err, OnOk, OnErr}
 use Rattle.std.proofs.Common.{◌≡◌, ℕ, zero, suc, drop, ◌+◌, ◌<◌, ◌≤◌, List, [], ◌∷◌, ◌++◌, length, set, get_or, Bool, true, false, Option, Some, None, slice_get, refl, sym, ap, ◌∙◌, subst, arith}
 use Rattle.std.proofs.lemmas.List.{drop_more}
+use Rattle.std.proofs.lemmas.Result.{on_err_weaker}
 use Rattle.zy_base.specs.declared.outside.NoMemory.{NoMemory}
 use Rattle.zy_table.specs.Member.{is_in}
 use Rattle.zy_table.proofs.MemberLemmas.{in_cons, in_front, in_more, in_without}
@@ -16,7 +17,7 @@ use Rattle.zy_home.specs.Link.{Link, StandsOn, conn_of}
 use Rattle.zy_home.specs.Offer.{WaitsBehind}
 use Rattle.zy_home.specs.Idle.{IsIdleWith, mark_in}
 use Rattle.zy_home.specs.Home.{Homed, IsAt, IsSoundBut, IsSoundHome, SameFor, SameHome, StandsHome}
-use Rattle.zy_home.specs.Place.{IsOut, KnowsAll, Settles}
+use Rattle.zy_home.specs.Place.{IsOut, KnowsAll, SameHand, Settles}
 use Rattle.zy_home.specs.Items.{SettlesEach, SettlesHere}
 use Rattle.zy_home.specs.Turn.{IsDue, IsSettled, IsPutBack, PassTurns, Turns, home_turned}
 use Rattle.zy_home.specs.Receiving.{SettlesAt, SettlesOn, StepsIn}
@@ -148,10 +149,6 @@ module _ (h : Homed) (p : ℕ) (live : h.refused ≡ false) (t : (rest : List �
     pub place_empty : (x : Option Blocked) → x ≡ x0 → record h { blocks = set h.blocks p x; links = set h.links p l } ≡ h
     place_empty x same i = record h { blocks = (ap (set h.blocks p) same ∙ set_there h.blocks p x0 touched_slot) i; links = set_there h.links p l touched_there i }
 
-    pub place_settled : (c : Blocked) → x0 ≡ Some c → {h' : Homed} (r : Result Unit NoMemory) → OnOk r (Settles was_idle p c h h') → OnOk r (StandsHome h h') → OnOk r (SettlesAt p h h')
-    place_settled c e (Ok done) settles stands = record { slot = Some c; there = touched_slot ∙ ap Some e; steps = (settles, stands) }
-    place_settled c e (Err e2) settles stands = tt
-
     -- the block may be settled
     pub touched_due : (c : Blocked) → x0 ≡ Some c → IsDue h.pass p l c
     touched_due c e =
@@ -159,14 +156,26 @@ module _ (h : Homed) (p : ℕ) (live : h.refused ≡ false) (t : (rest : List �
         let each = t.1.each live p (Some c) l (touched_slot ∙ ap Some e) touched_there in
         record { hand = here.0; mark = each.0; label = here.1 }
 
+    -- it was settled, or put back
+    module _ (c : Blocked) (e : x0 ≡ Some c) (m : Link) (w : Held Blocked) (x : Option Blocked) (conn : conn_of m ≡ conn_of l) (r : Result Unit NoMemory) (ok : OnOk r (IsSettled was_idle p c m h.pass w x)) (err : OnErr r (IsPutBack h.pass w x)) (refused : Bool) (is : refused ≡ is_err r) where
+      pub touched_settling : Settling was_idle h p c l m w x r refused
+      touched_settling = settling h p l m w x touched_there conn (touched_due c e).hand c live r ok err refused is
+
+      pub place_settled : OnOk r (StandsOn l m) → OnOk r (SettlesAt p h (home_turned h p x m w refused))
+      place_settled on = go r touched_settling.settled (touched_settling.stands on)
+        where
+          go : (r : Result Unit NoMemory) → OnOk r (Settles was_idle p c h (home_turned h p x m w refused)) → OnOk r (StandsHome h (home_turned h p x m w refused)) → OnOk r (SettlesAt p h (home_turned h p x m w refused))
+          go (Ok done) settles stands = record { slot = Some c; there = touched_slot ∙ ap Some e; steps = (settles, stands) }
+          go (Err e2) settles stands = tt
+
+      pub place_back : OnErr r (SameHand h (home_turned h p x m w refused))
+      place_back = on_err_weaker r (λ s. record { pass = s.pass_is; blocks = same_hand h.blocks p h.pass w x c (touched_slot ∙ ap Some e) s }) err
+
 -- ---- blocks one after another
 
 settles_more : (a b c : Homed) (places : List ℕ) (p : ℕ) → SettlesEach a places b → SettlesHere p b c → SettlesEach a (places ++ p ∷ []) c
 settles_more a b c [] p s t = (c, subst (λ z. SettlesHere p z c) s t, refl)
 settles_more a b c (q ∷ qs) p s t = (s.0, s.1, settles_more s.0 b c qs p s.2 t)
-
-pub first_left : (xs : List ℕ) (i p : ℕ) → i < length xs → p ≡ get_or xs i p → drop i xs ≡ p ∷ drop (i + 1) xs
-first_left xs i p lt e = drop_more xs i p lt ∙ ap (λ x. x ∷ drop (i + 1) xs) (sym e)
 
 -- a place without a block need not be left
 pub rest_none : (h : Homed) (p : ℕ) (rest : List ℕ) → slice_get h.blocks p ≡ Some None → IsSoundBut (p ∷ rest) h → IsSoundBut rest h
@@ -184,6 +193,10 @@ rest_none h p rest none k = record {
     go : (q : ℕ) (x : Option Blocked) (l : Link) → slice_get h.blocks q ≡ Some x → IsAt (p ∷ rest) h.pass q l x → IsAt rest h.pass q l x
     go q None l eb at = at
     go q (Some c) l eb at = (at.0, λ e. at.1 (in_cons p q rest (λ same. let f = sym none ∙ ap (slice_get h.blocks) (sym same) ∙ eb in absurd (cc)) ∙ e))
+
+-- the first of the places that are left
+pub left_first : (xs : List ℕ) (i p : ℕ) → i < length xs → p ≡ get_or xs i p → (h : Homed) → IsSoundBut (drop i xs) h → IsSoundBut (p ∷ drop (i + 1) xs) h
+left_first xs i p lt e h = subst (λ left. IsSoundBut left h) (drop_more xs i p lt ∙ ap (λ x. x ∷ drop (i + 1) xs) (sym e))
 
 pub settles_next : (a b c : Homed) (p : ℕ) → SettlesOn a b → SettlesAt p b c → SettlesOn a c
 settles_next a b c p s t = go t.slot t.there t.steps

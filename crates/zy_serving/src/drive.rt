@@ -17,7 +17,7 @@ use std::thread;
 use std::thread::Threads;
 use zy_base::{Gate, NoMemory, Source};
 use zy_command_line::Run;
-use zy_core::{Cores, Running, Shared, abandon_parts};
+use zy_core::{Cores, Running, Shared};
 use zy_drive::{Driven, FirstGroup, drive_groups, drive_ordered, rest_of, take_back};
 use zy_feed::{
     CaptureFeeder, Inlets, Intake, Stop, a_broken_feeder_has_its_cause,
@@ -76,14 +76,26 @@ pub(crate) fn drive_capture<R: Threads + Wait + Sync, S: Source, G: Gate + Sync>
             root,
         }),
         Driven::Broken(cores) => {
-            abandon_parts(cores, shared, inlets, root);
+            let broken = Running {
+                cores,
+                shared,
+                inlets,
+                root,
+            };
+            broken.abandon();
             match stop {
                 Some(stop) => Err(stop),
                 None => Err(Stop::NoMemory),
             }
         }
         Driven::NoMemory(cores) => {
-            abandon_parts(cores, shared, inlets, root);
+            let refused = Running {
+                cores,
+                shared,
+                inlets,
+                root,
+            };
+            refused.abandon();
             Err(Stop::NoMemory)
         }
     }

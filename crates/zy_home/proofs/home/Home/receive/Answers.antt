@@ -15,9 +15,6 @@ pub returns-in_default-clause-forwards : goal.returns-in_default-clause-forwards
 returns-in_default-clause-forwards c = rw (← c.self.view_is) (forwards_none _ _ c.args.item (λ p to. c.in_default.ensures.none p (record { live = to.live; link = to.link; there = to.there; own = to.own })))
 
 -- memory was refused when it was cut
-pub invariant_of-self : goal.invariant_of-self
-invariant_of-self c = c.in_err-cut.ensures.sound c.self.inside.pass [] c.self.invariant
-
 pub returns-in_err-cut-clause-others : goal.returns-in_err-cut-clause-others
 returns-in_err-cut-clause-others c = rw (← c.self.view_is) (λ others. absurd (comes_not_others (homed c.self.inside.pass c.self.inside.blocks.items c.self.inside.links) c.self.invariant.conns c.in-Some.at c.args.item (comes_to _ _ c.self.inside.links _ _ c.in-Some.ensures.some) others))
 
@@ -26,7 +23,7 @@ pub settle_place-requires-clause-left : goal.settle_place-requires-clause-left
 settle_place-requires-clause-left c = ([], sound_left _ c.in-Some.at _ (cut_near c.in-Some.at c.args.item c.self.inside.blocks.items c.self.inside.links c.self.invariant.long c.in-Some.ensures.some).0 (c.in_ok-cut.ensures.sound c.self.inside.pass [] c.self.invariant))
 
 pub invariant_of-self-2 : goal.invariant_of-self-2
-invariant_of-self-2 c = c.settle_place.ensures.sound [] (settle_place-requires-clause-left c).1
+invariant_of-self-2 c = c.settle_place.ensures.sound [] (sound_left _ c.in-Some.at _ (cut_near c.in-Some.at c.args.item c.self.inside.blocks.items c.self.inside.links c.self.invariant.long c.in-Some.ensures.some).0 (c.in_ok-cut.ensures.sound c.self.inside.pass [] c.self.invariant))
 
 pub returns-clause-stands : goal.returns-clause-stands
 returns-clause-stands c = rw (← c.self.view_is) (on_ok_weaker c.settle_place.result (one_stands _ _ _ _ c.args.item (c.in_ok-cut.ensures.value c.self.inside.pass)) c.settle_place.ensures.ok)

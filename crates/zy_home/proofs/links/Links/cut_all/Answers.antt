@@ -1,4 +1,5 @@
 use Rattle.std.proofs.Common.{[], ◌≡◌, length, ap, ◌∙◌, refl, sym, subst, arith}
+use Rattle.std.proofs.lemmas.Result.{MatchResult-from_err}
 use Rattle.zy_home.specs.declared.links.Links.{Links}
 use Rattle.zy_home.specs.Home.{IsSoundBut}
 use Rattle.zy_home.specs.Links.{homed}
@@ -34,10 +35,10 @@ loop-count-preserved c =
 
 -- memory was refused
 pub returns-in_err-cut-clause-err : goal.returns-in_err-cut-clause-err
-returns-in_err-cut-clause-err c pass =
+returns-in_err-cut-clause-err c = MatchResult-from_err c.from_residual.result _ _ c.from_residual.ensures.0 (λ _ pass.
     let s = c.loop-count.invariant.whole pass in
     let cut = homed pass c.args.slots.now.items c.loop-count.self in
-    record { items = s.items; cut = cut; cuts = s.cuts; places = []; between = cut; settles = refl; hand = record { pass = refl; blocks = refl } }
+    record { items = s.items; cut = cut; cuts = s.cuts; places = []; between = cut; settles = refl; hand = record { pass = refl; blocks = refl } })
 
 pub returns-in_err-cut-clause-still : goal.returns-in_err-cut-clause-still
 returns-in_err-cut-clause-still c e = absurd (let still = (c.in_err-cut.ensures.still (ap (λ (l : Links). l.ended) (c.loop-count.invariant.still e).0 ∙ e)).0 in let is = c.in_err-cut.is in cc)

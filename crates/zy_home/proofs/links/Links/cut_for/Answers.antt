@@ -9,8 +9,8 @@ index-requires c = let near = (cut_near c.args.at c.args.item.now c.args.slots.n
 pub index_mut-requires : goal.index_mut-requires
 index_mut-requires c = let near = (cut_near c.args.at c.args.item.now c.args.slots.now.items c.args.self.now c.requires.long c.requires.comes).1 in omega arith
 
-pub cut_at-requires : goal.cut_at-requires
-cut_at-requires c = record { own = cut_own c.args.at c.args.item.now c.args.slots.now.items c.args.self.now c.requires.long c.requires.comes c.index_mut.result.now c.index_mut.ensures.value }
+pub cut_at-requires-clause-own : goal.cut_at-requires-clause-own
+cut_at-requires-clause-own c = cut_own c.args.at c.args.item.now c.args.slots.now.items c.args.self.now c.requires.long c.requires.comes c.index_mut.result.now c.index_mut.ensures.value
 
 pub returns-clause-value : goal.returns-clause-value
 returns-clause-value c = cut_value c.args.at c.args.item.now c.args.slots.now.items c.args.self.now c.requires.long c.requires.comes c.index_mut.result.now c.index_mut.ensures.value c.requires.own c.index.result.now c.index.ensures c.cut_at.new.link c.cut_at.ensures.due _ c.cut_at.result c.cut_at.ensures.takes c.cut_at.ensures.away

@@ -1,8 +1,7 @@
 use Rattle.std.proofs.Common.{None, Some, sym, ap, ◌∙◌, subst, arith}
-use Rattle.std.proofs.lemmas.Result.{on_err_weaker}
 use Rattle.zy_home.specs.Home.{IsSoundBut}
 use Rattle.zy_home.specs.Links.{homed}
-use Rattle.zy_home.proofs.SettleLemmas.{place_empty, place_settled, rest_none, same_hand, settling, touched_due, touched_near, touched_slot, touched_there}
+use Rattle.zy_home.proofs.SettleLemmas.{place_back, place_empty, place_settled, rest_none, touched_due, touched_near, touched_settling, touched_slot}
 use Rattle.zy_home.proofs.links.Links.settle_place.Goals as goal
 
 pub index_mut-requires : goal.index_mut-requires
@@ -41,28 +40,13 @@ settle_at-requires-clause-due c = touched_due (homed c.args.pass.now c.args.slot
 
 -- it was settled, or put back
 pub returns-clause-ok : goal.returns-clause-ok
-returns-clause-ok c =
-    let h = homed c.args.pass.now c.args.slots.now.items c.args.self.now in
-    let there = touched_there h c.args.place c.requires.live c.requires.left _ _ c.index_mut.ensures.value c.index_mut-2.ensures.value in
-    let step = settling h c.args.place _ _ _ _ there c.settle_at.ensures.same.conn (settle_at-requires-clause-due c).hand c.in-Some.block c.requires.live c.settle_at.result c.settle_at.ensures.ok c.settle_at.ensures.err _ c.settle_at.ensures.refused in
-    place_settled h c.args.place c.requires.live c.requires.left _ _ c.index_mut.ensures.value c.index_mut-2.ensures.value c.in-Some.block (sym c.replace.ensures.value ∙ c.in-Some.is) c.settle_at.result step.settled (step.stands c.settle_at.ensures.stands)
+returns-clause-ok c = place_settled (homed c.args.pass.now c.args.slots.now.items c.args.self.now) c.args.place c.requires.live c.requires.left _ _ c.index_mut.ensures.value c.index_mut-2.ensures.value c.in-Some.block (sym c.replace.ensures.value ∙ c.in-Some.is) _ _ _ c.settle_at.ensures.same.conn c.settle_at.result c.settle_at.ensures.ok c.settle_at.ensures.err _ c.settle_at.ensures.refused c.settle_at.ensures.stands
 
 pub returns-clause-err : goal.returns-clause-err
-returns-clause-err c =
-    let h = homed c.args.pass.now c.args.slots.now.items c.args.self.now in
-    let slot = touched_slot h c.args.place c.requires.live c.requires.left _ _ c.index_mut.ensures.value c.index_mut-2.ensures.value in
-    on_err_weaker c.settle_at.result (λ s. record { pass = s.pass_is; blocks = same_hand c.args.slots.now.items c.args.place _ _ _ c.in-Some.block (slot ∙ ap Some (sym c.replace.ensures.value ∙ c.in-Some.is)) s }) c.settle_at.ensures.err
+returns-clause-err c = place_back (homed c.args.pass.now c.args.slots.now.items c.args.self.now) c.args.place c.requires.live c.requires.left _ _ c.index_mut.ensures.value c.index_mut-2.ensures.value c.in-Some.block (sym c.replace.ensures.value ∙ c.in-Some.is) _ _ _ c.settle_at.ensures.same.conn c.settle_at.result c.settle_at.ensures.ok c.settle_at.ensures.err _ c.settle_at.ensures.refused
 
 pub returns-clause-sound : goal.returns-clause-sound
-returns-clause-sound c =
-    let h = homed c.args.pass.now c.args.slots.now.items c.args.self.now in
-    let there = touched_there h c.args.place c.requires.live c.requires.left _ _ c.index_mut.ensures.value c.index_mut-2.ensures.value in
-    let step = settling h c.args.place _ _ _ _ there c.settle_at.ensures.same.conn (settle_at-requires-clause-due c).hand c.in-Some.block c.requires.live c.settle_at.result c.settle_at.ensures.ok c.settle_at.ensures.err _ c.settle_at.ensures.refused in
-    step.sound
+returns-clause-sound c = (touched_settling (homed c.args.pass.now c.args.slots.now.items c.args.self.now) c.args.place c.requires.live c.requires.left _ _ c.index_mut.ensures.value c.index_mut-2.ensures.value c.in-Some.block (sym c.replace.ensures.value ∙ c.in-Some.is) _ _ _ c.settle_at.ensures.same.conn c.settle_at.result c.settle_at.ensures.ok c.settle_at.ensures.err _ c.settle_at.ensures.refused).sound
 
 pub returns-clause-same : goal.returns-clause-same
-returns-clause-same c =
-    let h = homed c.args.pass.now c.args.slots.now.items c.args.self.now in
-    let there = touched_there h c.args.place c.requires.live c.requires.left _ _ c.index_mut.ensures.value c.index_mut-2.ensures.value in
-    let step = settling h c.args.place _ _ _ _ there c.settle_at.ensures.same.conn (settle_at-requires-clause-due c).hand c.in-Some.block c.requires.live c.settle_at.result c.settle_at.ensures.ok c.settle_at.ensures.err _ c.settle_at.ensures.refused in
-    step.same
+returns-clause-same c = (touched_settling (homed c.args.pass.now c.args.slots.now.items c.args.self.now) c.args.place c.requires.live c.requires.left _ _ c.index_mut.ensures.value c.index_mut-2.ensures.value c.in-Some.block (sym c.replace.ensures.value ∙ c.in-Some.is) _ _ _ c.settle_at.ensures.same.conn c.settle_at.result c.settle_at.ensures.ok c.settle_at.ensures.err _ c.settle_at.ensures.refused).same
