@@ -32,7 +32,7 @@ from zygos_tools.files.part import Part
 
 ALONE = ["run", "--cores", "1", "--threads", "1"]
 # For --check, the number of commands and the bounds on the instructions of one: 3 % more than it takes.
-FEW, MOST = 20_000, {common.GENERATED: 5_320, common.CACHE: 3_380}
+FEW, MOST = 20_000, {common.GENERATED: 5_260, common.CACHE: 3_330}
 # The groups of bench/figures.json.
 GROUPS = {common.GENERATED: "instructions", common.CACHE: "instructions, cache"}
 # The functions by which a segment is fed.

@@ -184,10 +184,10 @@ fn next_waiting(front: &mut Option<Frame>, waiting: &mut Frames) -> Option<Frame
     ensures front { front.new ≡ None }
     ensures none { IfNone result (option_to_list front.old ++ waiting.old ≡ []) }
 {
-    match mem::replace(front, None) {
-        Some(frame) => Some(frame),
-        None => waiting.next(),
+    if front.is_none() {
+        return waiting.next();
     }
+    mem::replace(front, None)
 }
 
 // Offers frames until one is handed back or none is left.
