@@ -6,14 +6,14 @@ usage: tests/packets.py [--files N] [--from NUMBER] [PROGRAM | COMMAND ..]
 
 Draws N files (2,000 if not said), numbered from NUMBER (0) on, after cases of bad input. Each is given to the command
 `pcap` of PROGRAM, or to COMMAND, with its port in the option `--port`; what comes back is compared byte for byte with
-the model. Without either the model runs alone. At the end a recording is made by tcpdump, where it is installed and may
+the model. Without either the model runs alone. At the end a recording is made by tcpdump, if it is installed and may
 record.
 
 With --crowd it says in how many of 200 draws of COUNT connections, of 8 clients with random ports, a group has over 32
-flows, so that the file is refused.
+flows, so that the file is rejected.
 
-The model is that of the tools, `tools/recorded.py`; it looks at whole files by their places, and shares no code with
-the program.
+The model is that of the tools, tools/zygos_tools/recording/packets/recorded.py. It looks at whole files by their offsets,
+and shares no code with the program.
 """
 
 import os
