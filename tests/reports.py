@@ -5,7 +5,7 @@ usage: tests/reports.py [--files N] [--from NUMBER] [PROGRAM]
 
 Draws N journals (2,000 if not said), numbered from NUMBER (0) on, after cases of calls, replies and faults. Each is given
 to the command `report` of PROGRAM (crates/zygos/out/zygos if not said); what comes back is compared byte for byte with the
-model, which counts the entries of each shard as docs/FORMATS.md says, "The report".
+model, which counts the entries of each shard as docs/FORMATS.md says, "Report".
 """
 import os
 import random
