@@ -141,24 +141,32 @@ def vain_laws(top):
 def spare_calls(top):
     """The public functions of the programs' crates that no run of a program reaches, as crate and name.
 
-    Functions are told apart by their names alone, so one that shares its name with a function in use is not found.
+    A call means each function of its name in its crate and in those below, and any that is not public, as a trait's
+    may be. So a function that shares its name with one in use there is not found.
     """
     needs = crates_in(top)
-    public, calls = [], {}
-    for crate in program_crates(needs):
+    names = program_crates(needs)
+    public, hidden, calls = set(), {}, {}
+    for crate in names:
         for text in sources(top, crate):
             text = re.sub(r"(?m)^\s*//.*$", "", LAW.sub("", text))
             for head in FUNCTION.finditer(text):
                 rest = text[head.end():]
                 end = re.search(rf"(?m)^ {{{len(head['indent'])}}}\}}", rest)
                 body = CLAUSES.sub("", rest[:end.end()] if end else rest)
-                calls.setdefault(head["name"], set()).update(one or other for one, other in NAMES.findall(body))
+                found = crate, head["name"]
+                calls.setdefault(found, set()).update(one or other for one, other in NAMES.findall(body))
                 if head["pub"]:
-                    public.append((crate, head["name"]))
-    reached, wanted = set(), list(ROOTS)
+                    public.add(found)
+                else:
+                    hidden.setdefault(head["name"], set()).add(found)
+    seen = {crate: [crate, *below_of(crate, needs)] for crate in names}
+    reached, wanted = set(), [found for name in ROOTS for found in hidden.get(name, ())]
     while wanted:
-        name = wanted.pop()
-        if name in calls and name not in reached:
-            reached.add(name)
-            wanted += calls[name]
-    return [found for found in public if found[1] not in reached]
+        found = wanted.pop()
+        if found not in reached:
+            reached.add(found)
+            for name in calls[found]:
+                wanted += [(crate, name) for crate in seen[found[0]] if (crate, name) in calls]
+                wanted += hidden.get(name, ())
+    return [found for found in calls if found in public and found not in reached]

@@ -155,14 +155,14 @@ cas_ends = record { is = refl; few = omega arith; may = may; other = other }
 no_zero : (ask : Ask) (zero : List ℕ) → is_noreply zero ≡ true → with_zero ask (zero ∷ []) ≡ None
 no_zero ask zero ends = rw (is_the_word zero ends) refl
 
+-- a name whose words are read in this form
+form_ends : (name : Name) (least most : ℕ) (form : List (List ℕ) → Option Ask) → arity_of name ≡ from_to least most → least < most → ((words : List (List ℕ)) → ask_of name words ≡ form words) → ((words : List (List ℕ)) → may_all (form words) ≡ true)
+    → ((words : List (List ℕ)) → ends_in_noreply words ≡ true → least < length words → form words ≡ None) → MayEnd name least most
+form_ends name least most form is few asked may other = record { is = is; few = few; may = λ words. ap may_all (asked words) ∙ may words; other = λ words ends more. asked words ∙ other words ends more }
+
 -- a name that asks by a key, and a zero that may follow it
 zero_ends : (name : Name) (ask : List ℕ → Ask) → arity_of name ≡ from_to 1 3 → ((words : List (List ℕ)) → ask_of name words ≡ key_zero ask words) → ((key : List ℕ) → may_be_quiet (ask key) ≡ true) → MayEnd name 1 3
-zero_ends name ask is asked quiet = record {
-  is = is;
-  few = omega arith;
-  may = λ words. ap may_all (asked words) ∙ may words;
-  other = λ words ends more. asked words ∙ other words ends more;
-}
+zero_ends name ask is asked quiet = form_ends name 1 3 (key_zero ask) is (omega arith) asked may other
   where
     may : (words : List (List ℕ)) → may_all (key_zero ask words) ≡ true
     may [] = refl
@@ -176,12 +176,7 @@ zero_ends name ask is asked quiet = record {
 
 -- a name that asks by a key and a number
 number_ends : (name : Name) (ask : List ℕ → ℕ → Ask) → arity_of name ≡ from_to 2 3 → ((words : List (List ℕ)) → ask_of name words ≡ key_number ask words) → ((key : List ℕ) (number : ℕ) → may_be_quiet (ask key number) ≡ true) → MayEnd name 2 3
-number_ends name ask is asked quiet = record {
-  is = is;
-  few = omega arith;
-  may = λ words. ap may_all (asked words) ∙ may words;
-  other = λ words ends more. asked words ∙ other words ends more;
-}
+number_ends name ask is asked quiet = form_ends name 2 3 (key_number ask) is (omega arith) asked may other
   where
     may : (words : List (List ℕ)) → may_all (key_number ask words) ≡ true
     may [] = refl

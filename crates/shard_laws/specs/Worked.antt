@@ -1,5 +1,5 @@
 -- Example calls on one shard: what it answers to them, one after the other.
-use Rattle.std.specs.Prelude.{ℕ, List, [], ◌∷◌, codes}
+use Rattle.std.specs.Prelude.{◌≡◌, ℕ, List, [], ◌∷◌, map, codes}
 use Rattle.mc_calls.specs.declared.call.Call.{Call}
 use Rattle.mc_calls.specs.declared.call.Call.TheVariants as Calls
 use Rattle.mc_calls.specs.declared.call_reply.CallReply.{CallReply}
@@ -16,123 +16,75 @@ answers_from shards number state (call ∷ calls) =
 abbrev pub answers : List Call → List CallReply
 answers calls = answers_from 16 12 empty_state calls
 
+-- example calls, each with the reply to it
+abbrev pub Rows : Type 0
+Rows = List (Call × CallReply)
+
+-- that shard answers these calls so
+abbrev pub AreAnswered : Rows → Type 0
+AreAnswered rows = answers (map (λ row. row.0) rows) ≡ map (λ row. row.1) rows
+
 -- ---- items and their uniques
 
 -- an item is stored, and then exchanged by its CAS value
-abbrev pub exchanges : List Call
+abbrev pub exchanges : Rows
 exchanges =
-    Calls.Get (codes "a")
-    ∷ Calls.Set (codes "a") 0 (codes "x")
-    ∷ Calls.Cas 0 (codes "a") 99 (codes "y")
-    ∷ Calls.Get (codes "a")
-    ∷ Calls.Cas 0 (codes "b") 1 (codes "z")
-    ∷ Calls.Cas 0 (codes "a") 28 (codes "y")
-    ∷ Calls.Get (codes "a")
-    ∷ []
-
--- the replies to these calls
-abbrev pub exchanged : List CallReply
-exchanged =
-    Replies.Miss
-    ∷ Replies.Stored
-    ∷ Replies.Exists
-    ∷ Replies.Hit 0 28 (codes "x")
-    ∷ Replies.NotFound
-    ∷ Replies.Stored
-    ∷ Replies.Hit 0 44 (codes "y")
+    (Calls.Get (codes "a"), Replies.Miss)
+    ∷ (Calls.Set (codes "a") 0 (codes "x"), Replies.Stored)
+    ∷ (Calls.Cas 0 (codes "a") 99 (codes "y"), Replies.Exists)
+    ∷ (Calls.Get (codes "a"), Replies.Hit 0 28 (codes "x"))
+    ∷ (Calls.Cas 0 (codes "b") 1 (codes "z"), Replies.NotFound)
+    ∷ (Calls.Cas 0 (codes "a") 28 (codes "y"), Replies.Stored)
+    ∷ (Calls.Get (codes "a"), Replies.Hit 0 44 (codes "y"))
     ∷ []
 
 -- ---- values that are joined and replaced
 
 -- calls that need an item, first without one and then with one
-abbrev pub joins : List Call
+abbrev pub joins : Rows
 joins =
-    Calls.Replace (codes "b") 0 (codes "x")
-    ∷ Calls.Append (codes "b") (codes "x")
-    ∷ Calls.Prepend (codes "b") (codes "x")
-    ∷ Calls.Add (codes "b") 7 (codes "x")
-    ∷ Calls.Add (codes "b") 0 (codes "y")
-    ∷ Calls.Append (codes "b") (codes "yz")
-    ∷ Calls.Prepend (codes "b") (codes "w")
-    ∷ Calls.Get (codes "b")
-    ∷ Calls.Replace (codes "b") 1 (codes "v")
-    ∷ Calls.Get (codes "b")
-    ∷ []
-
--- the replies to these calls
-abbrev pub joined : List CallReply
-joined =
-    Replies.NotStored
-    ∷ Replies.NotStored
-    ∷ Replies.NotStored
-    ∷ Replies.Stored
-    ∷ Replies.NotStored
-    ∷ Replies.Stored
-    ∷ Replies.Stored
-    ∷ Replies.Hit 7 60 (codes "wxyz")
-    ∷ Replies.Stored
-    ∷ Replies.Hit 1 76 (codes "v")
+    (Calls.Replace (codes "b") 0 (codes "x"), Replies.NotStored)
+    ∷ (Calls.Append (codes "b") (codes "x"), Replies.NotStored)
+    ∷ (Calls.Prepend (codes "b") (codes "x"), Replies.NotStored)
+    ∷ (Calls.Add (codes "b") 7 (codes "x"), Replies.Stored)
+    ∷ (Calls.Add (codes "b") 0 (codes "y"), Replies.NotStored)
+    ∷ (Calls.Append (codes "b") (codes "yz"), Replies.Stored)
+    ∷ (Calls.Prepend (codes "b") (codes "w"), Replies.Stored)
+    ∷ (Calls.Get (codes "b"), Replies.Hit 7 60 (codes "wxyz"))
+    ∷ (Calls.Replace (codes "b") 1 (codes "v"), Replies.Stored)
+    ∷ (Calls.Get (codes "b"), Replies.Hit 1 76 (codes "v"))
     ∷ []
 
 -- ---- numbers
 
 -- values that are counted up past the largest number, up from padded digits, and down to 0; and
 -- values that are no numbers
-abbrev pub counts : List Call
+abbrev pub counts : Rows
 counts =
-    Calls.Incr (codes "c") 1
-    ∷ Calls.Set (codes "c") 5 (codes "18446744073709551615")
-    ∷ Calls.Incr (codes "c") 1
-    ∷ Calls.Get (codes "c")
-    ∷ Calls.Set (codes "c") 0 (codes "007")
-    ∷ Calls.Incr (codes "c") 3
-    ∷ Calls.Decr (codes "c") 11
-    ∷ Calls.Set (codes "c") 0 (codes "x")
-    ∷ Calls.Decr (codes "c") 5
-    ∷ Calls.Decr (codes "d") 5
-    ∷ []
-
--- the replies to these calls
-abbrev pub counted : List CallReply
-counted =
-    Replies.NotFound
-    ∷ Replies.Stored
-    ∷ Replies.Number 0
-    ∷ Replies.Hit 5 44 (codes "0")
-    ∷ Replies.Stored
-    ∷ Replies.Number 10
-    ∷ Replies.Number 0
-    ∷ Replies.Stored
-    ∷ Replies.NotNumber
-    ∷ Replies.NotFound
+    (Calls.Incr (codes "c") 1, Replies.NotFound)
+    ∷ (Calls.Set (codes "c") 5 (codes "18446744073709551615"), Replies.Stored)
+    ∷ (Calls.Incr (codes "c") 1, Replies.Number 0)
+    ∷ (Calls.Get (codes "c"), Replies.Hit 5 44 (codes "0"))
+    ∷ (Calls.Set (codes "c") 0 (codes "007"), Replies.Stored)
+    ∷ (Calls.Incr (codes "c") 3, Replies.Number 10)
+    ∷ (Calls.Decr (codes "c") 11, Replies.Number 0)
+    ∷ (Calls.Set (codes "c") 0 (codes "x"), Replies.Stored)
+    ∷ (Calls.Decr (codes "c") 5, Replies.NotNumber)
+    ∷ (Calls.Decr (codes "d") 5, Replies.NotFound)
     ∷ []
 
 -- ---- items that are removed
 
 -- one item is removed, and then all are
-abbrev pub removals : List Call
+abbrev pub removals : Rows
 removals =
-    Calls.Delete (codes "d")
-    ∷ Calls.Set (codes "a") 0 (codes "x")
-    ∷ Calls.Delete (codes "a")
-    ∷ Calls.Get (codes "a")
-    ∷ Calls.Set (codes "b") 0 (codes "x")
-    ∷ Calls.Flush
-    ∷ Calls.Get (codes "b")
-    ∷ Calls.Set (codes "a") 0 []
-    ∷ Calls.Get (codes "a")
-    ∷ []
-
--- the replies to these calls
-abbrev pub removed : List CallReply
-removed =
-    Replies.NotFound
-    ∷ Replies.Stored
-    ∷ Replies.Deleted
-    ∷ Replies.Miss
-    ∷ Replies.Stored
-    ∷ Replies.Flushed
-    ∷ Replies.Miss
-    ∷ Replies.Stored
-    ∷ Replies.Hit 0 60 []
+    (Calls.Delete (codes "d"), Replies.NotFound)
+    ∷ (Calls.Set (codes "a") 0 (codes "x"), Replies.Stored)
+    ∷ (Calls.Delete (codes "a"), Replies.Deleted)
+    ∷ (Calls.Get (codes "a"), Replies.Miss)
+    ∷ (Calls.Set (codes "b") 0 (codes "x"), Replies.Stored)
+    ∷ (Calls.Flush, Replies.Flushed)
+    ∷ (Calls.Get (codes "b"), Replies.Miss)
+    ∷ (Calls.Set (codes "a") 0 [], Replies.Stored)
+    ∷ (Calls.Get (codes "a"), Replies.Hit 0 60 [])
     ∷ []

@@ -25,3 +25,6 @@ pub not_plain : (words : List Word) (i : ℕ) (d : Word) → i < length words �
     → list_all is_plain (drop i words) ≡ list_all is_plain words → list_all is_plain words ≡ false
 not_plain words i d near plain same =
     sym same ∙ ap (list_all is_plain) (drop_more words i d near) ∙ ap (λ b. b && list_all is_plain (drop (i + 1) words)) plain
+
+-- what the loop over words needs
+pub ruleset words_taken = (joined_more, plain_more, not_plain)

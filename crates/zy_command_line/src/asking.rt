@@ -91,7 +91,7 @@ fn self_by(given: &ArgMatches<'_>) -> Option<Request>
 }
 
 // Returns the words as texts; `None` if one of them is not plain.
-#[tactic(auto, using(crate::proofs::Taken::joined_more, crate::proofs::Taken::plain_more, crate::proofs::Taken::not_plain))]
+#[tactic(auto, using(crate::proofs::Taken::words_taken))]
 fn texts<'a>(alloc: Global, words: &'a [Blob]) -> Result<Option<Vec<&'a str>>, NoMemory>
     ensures some { IfOk result (λ o. MatchOption o (list_all is_plain words.now ≡ false)
         (λ t. (map (λ w. w.now) t.items ≡ words.now) × (list_all is_plain words.now ≡ true))) }

@@ -17,13 +17,70 @@ pub fn generate(alloc: Global, number: u32, conns: u32, commands: u32) -> Result
     requires traffic { IsTraffic number conns commands }
     ensures value { IfOk result (λ made. made ≡ gen_bytes number conns commands) }
 {
-    let mut words = Lcg64Xsh32::new(u64::from(number), 54);
-    let mut out = Blob::new(alloc);
-    let mut line = Blob::new(alloc);
-    append_head(&mut out, conns)?;
-    append_rounds(&mut out, &mut line, &mut words, conns, commands)?;
-    out.append(b"E")?;
+    let mut making = Making {
+        words: Lcg64Xsh32::new(u64::from(number), 54),
+        out: Blob::new(alloc),
+        line: Blob::new(alloc),
+    };
+    append_head(&mut making.out, conns)?;
+    making.append_rounds(conns, commands)?;
+    making.out.append(b"E")?;
+    let Making {
+        words: _,
+        out,
+        line: _,
+    } = making;
     Ok(out)
+}
+
+// The capture so far, the command that is written, and the numbers that are left.
+#[derive(Drop)]
+struct Making {
+    words: Lcg64Xsh32,
+    out: Blob,
+    line: Blob,
+}
+
+impl Making {
+    // Appends the segments of `commands` rounds.
+    fn append_rounds(&mut self, conns: u32, commands: u32) -> Result<(), NoMemory>
+        requires few { conns ≤ 4096 }
+        ensures ok { OnOk result (self.new.out ≡
+            self.old.out ++ flat_map spelled (rounds conns commands self.old.words).items) }
+    {
+        for _ in 0..commands {
+            self.append_round(conns)?;
+        }
+        Ok(())
+    }
+
+    // Appends the segments of one command of each connection.
+    fn append_round(&mut self, conns: u32) -> Result<(), NoMemory>
+        requires few { conns ≤ 4096 }
+        ensures ok { OnOk result (self.new.out ≡
+            self.old.out ++ flat_map spelled (one_round 0 conns self.old.words).items) }
+        ensures left { OnOk result (self.new.words ≡ (one_round 0 conns self.old.words).left) }
+    {
+        for conn in 0..conns {
+            self.append_command(conn)?;
+        }
+        Ok(())
+    }
+
+    // Appends the segments of one command of a connection.
+    #[tactic(auto, using(crate::proofs::StepLemmas::cut_on), unfolding(crate::specs::Traffic::one_command))]
+    fn append_command(&mut self, conn: u32) -> Result<(), NoMemory>
+        requires few { conn < 4096 }
+        ensures ok { OnOk result (self.new.out ≡
+            self.old.out ++ flat_map spelled (one_command conn self.old.words).items) }
+        ensures left { OnOk result (self.new.words ≡ (one_command conn self.old.words).left) }
+    {
+        draw_text(&mut self.line, &mut self.words, conn)?;
+        let bytes = self.line.bytes();
+        let at = draw(&mut self.words, bytes.len() as u32 + 1) as usize;
+        append_segment(&mut self.out, conn, &bytes[..at])?;
+        append_segment(&mut self.out, conn, &bytes[at..])
+    }
 }
 
 // Appends the magic and the number of connections.
@@ -32,62 +89,6 @@ fn append_head(out: &mut Blob, conns: u32) -> Result<(), NoMemory>
 {
     out.append(b"ZYGCAP1\n")?;
     out.append(&conns.to_be_bytes())
-}
-
-// Appends the segments of `commands` rounds.
-fn append_rounds(
-    out: &mut Blob,
-    line: &mut Blob,
-    words: &mut Lcg64Xsh32,
-    conns: u32,
-    commands: u32,
-) -> Result<(), NoMemory>
-    requires few { conns ≤ 4096 }
-    ensures ok { OnOk result (out.new ≡
-        out.old ++ flat_map spelled (rounds conns commands words.old).items) }
-{
-    for _ in 0..commands {
-        append_round(out, line, words, conns)?;
-    }
-    Ok(())
-}
-
-// Appends the segments of one command of each connection.
-fn append_round(
-    out: &mut Blob,
-    line: &mut Blob,
-    words: &mut Lcg64Xsh32,
-    conns: u32,
-) -> Result<(), NoMemory>
-    requires few { conns ≤ 4096 }
-    ensures ok { OnOk result (out.new ≡
-        out.old ++ flat_map spelled (one_round 0 conns words.old).items) }
-    ensures left { OnOk result (words.new ≡ (one_round 0 conns words.old).left) }
-{
-    for conn in 0..conns {
-        append_command(out, line, words, conn)?;
-    }
-    Ok(())
-}
-
-// Appends the segments of one command of a connection.
-#[tactic(auto, using(crate::proofs::StepLemmas::cut_on), unfolding(crate::specs::Traffic::one_command))]
-fn append_command(
-    out: &mut Blob,
-    line: &mut Blob,
-    words: &mut Lcg64Xsh32,
-    conn: u32,
-) -> Result<(), NoMemory>
-    requires few { conn < 4096 }
-    ensures ok { OnOk result (out.new ≡
-        out.old ++ flat_map spelled (one_command conn words.old).items) }
-    ensures left { OnOk result (words.new ≡ (one_command conn words.old).left) }
-{
-    draw_text(line, words, conn)?;
-    let bytes = line.bytes();
-    let at = draw(words, bytes.len() as u32 + 1) as usize;
-    append_segment(out, conn, &bytes[..at])?;
-    append_segment(out, conn, &bytes[at..])
 }
 
 // Writes the bytes of the next command of a connection into `line`.

@@ -110,28 +110,14 @@ reply_code_on p at byte text ends lawful =
     let P : Done → Type 0 = λ (j : Done). Leads text j in
     let is = between_true byte 1 last_reply_code lawful in
     let call : List ℕ = call_text (call_in p.draft) in
-    let coded : (code : ℕ) → byte ≡ code → (head p.draft ++ call) ++ byte ∷ [] ≡ head p.draft ++ (call ++ code ∷ []) = λ code same. append_assoc (head p.draft) call (byte ∷ []) ∙ ap (λ (b : ℕ). head p.draft ++ (call ++ b ∷ [])) same in
+    let coded : (code : ℕ) → (byte == code) ≡ true → text ≡ front p.entries p.holds ++ (head p.draft ++ (call ++ code ∷ [])) = λ code is. joined text (front p.entries p.holds) (head p.draft ++ call) (byte ∷ []) (head p.draft ++ (call ++ code ∷ [])) ends.bytes
+        (append_assoc (head p.draft) call (byte ∷ []) ∙ ap (λ (b : ℕ). head p.draft ++ (call ++ b ∷ [])) (eqb-true byte code is)) in
     chosen P (byte == hit_code) _ _
-    (λ hit. record {
-      bytes = joined text (front p.entries p.holds) (head p.draft ++ call) (byte ∷ []) (head p.draft ++ (call ++ hit_code ∷ [])) ends.bytes (coded hit_code (eqb-true byte hit_code hit));
-      kept = ends.kept;
-      field = tt;
-      known = ends.known;
-    })
+    (λ hit. record { bytes = coded hit_code hit; kept = ends.kept; field = tt; known = ends.known })
     (λ no_hit. chosen P (byte == number_code) _ _
-    (λ number. record {
-      bytes = joined text (front p.entries p.holds) (head p.draft ++ call) (byte ∷ []) (head p.draft ++ (call ++ number_code ∷ [])) ends.bytes (coded number_code (eqb-true byte number_code number));
-      kept = ends.kept;
-      field = tt;
-      known = ends.known;
-    })
+    (λ number. record { bytes = coded number_code number; kept = ends.kept; field = tt; known = ends.known })
     (λ no_number. chosen P (byte == tally_code) _ _
-    (λ tallied. record {
-      bytes = joined text (front p.entries p.holds) (head p.draft ++ call) (byte ∷ []) (head p.draft ++ (call ++ tally_code ∷ [])) ends.bytes (coded tally_code (eqb-true byte tally_code tallied));
-      kept = ends.kept;
-      field = tt;
-      known = ends.known;
-    })
+    (λ tallied. record { bytes = coded tally_code tallied; kept = ends.kept; field = tt; known = ends.known })
     (λ no_tally. entry_on p (plain_reply byte) text
     (ends.bytes ∙ ap (λ (l : List ℕ). front p.entries p.holds ++ ((head p.draft ++ call) ++ l)) (sym (plain_text byte is.0 is.1 no_hit no_number no_tally)))
     ends.kept ends.known (plain_within byte is.0 is.1 no_hit no_number no_tally) (plain_fits byte is.0 is.1 no_hit no_number no_tally))))

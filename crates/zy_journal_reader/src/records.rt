@@ -9,7 +9,7 @@ mod replies;
 
 use crate::past::Past;
 use calls::call_fields;
-use fields::four;
+use fields::{after, four};
 use heads::head_fields;
 use mc_calls::{Entry, Hold};
 use replies::reply;
@@ -39,10 +39,7 @@ pub(crate) fn entry(alloc: Global, past: Past, bytes: &[u8]) -> Option<(Entry, &
 pub(crate) fn hold(past: Past, bytes: &[u8]) -> Option<(Hold, &[u8])>
     ensures value { IfSome result (λ found. HasHold past bytes.now found.0 found.1.now) }
 {
-    let (tag, numbers) = bytes.split_first()?;
-    if *tag != b'H' {
-        return None;
-    }
+    let numbers = after(b'H', bytes)?;
     let (conn, after_conn) = four(numbers)?;
     let (core, after_core) = four(after_conn)?;
     let (count, rest) = four(after_core)?;

@@ -29,6 +29,9 @@ pub some_width : (due : Due) → 0 < due_width due
 some_width (Dues.Frame others) = omega arith
 some_width due = omega arith
 
+-- what a byte does to the bytes that are kept
+pub ruleset kept_words = (word_seen, word_kept, word_short, some_width)
+
 -- a list that grew by an element, without it
 pub take_front : (xs : List ℕ) (x : ℕ) → take (length (xs ++ x ∷ []) - 1) (xs ++ x ∷ []) ≡ xs
 take_front xs x = ap (λ (n : ℕ). take n (xs ++ x ∷ [])) (omega (arith, length-append xs (x ∷ []))) ∙ front xs

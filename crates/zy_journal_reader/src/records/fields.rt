@@ -1,11 +1,21 @@
 //! Fields that bytes begin with, each with the bytes after it.
-ghost use Rattle.std.specs.Prelude.{◌≡◌, ◌<◌, ◌^◌, ◌++◌, IfSome};
+ghost use Rattle.std.specs.Prelude.{◌≡◌, ◌<◌, ◌^◌, ◌∷◌, ◌++◌, IfSome};
 ghost use Rattle.std.specs.Int.{to_be_bytes, w32, w64};
 ghost use Rattle.mc_calls.specs.Bounds.{IsKey, IsValue};
 ghost use Rattle.zy_journal.specs.Journal.{key_text, value_text};
 ghost use Rattle.zy_journal_reader.specs.Found.{HasField};
 
 use zy_base::{KEY_LIMIT, VALUE_LIMIT};
+
+// Returns the bytes after this letter, with which a record begins.
+pub(crate) fn after(letter: u8, bytes: &[u8]) -> Option<&[u8]>
+    ensures value { IfSome result (λ rest. bytes.now ≡ letter ∷ rest.now) }
+{
+    match bytes.split_first() {
+        Some((first, rest)) if *first == letter => Some(rest),
+        _ => None,
+    }
+}
 
 // Returns a number of four bytes.
 #[tactic(auto, using(crate::proofs::FoundLemmas::four_found))]

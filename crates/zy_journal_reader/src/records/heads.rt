@@ -2,7 +2,7 @@
 ghost use Rattle.std.specs.Prelude.{◌≡◌, IfSome};
 ghost use Rattle.zy_journal_reader.specs.Found.{HasHead, HasTag, entry_at, is_next};
 
-use super::fields::{eight, four};
+use super::fields::{after, eight, four};
 use crate::past::Past;
 use mc_calls::{Call, CallReply, Entry, Tag};
 use zy_base::{COMMAND_LIMIT, CONNECTION_LIMIT, SHARD_LIMIT, STAMP_LIMIT};
@@ -47,10 +47,7 @@ impl Head {
 pub(crate) fn head_fields(past: Past, bytes: &[u8]) -> Option<(Head, &[u8])>
     ensures value { IfSome result (λ found. HasHead past bytes.now found.0 found.1.now) }
 {
-    let (letter, numbers) = bytes.split_first()?;
-    if *letter != b'J' {
-        return None;
-    }
+    let numbers = after(b'J', bytes)?;
     let (stamp, after_stamp) = eight(numbers)?;
     let (shard, after_shard) = four(after_stamp)?;
     let (tag, rest) = owner(after_shard)?;

@@ -72,7 +72,7 @@ impl Records {
     }
 
     // Keeps a byte that is not the last one of its field.
-    #[tactic(auto, using(crate::proofs::DueLemmas::word_seen, crate::proofs::DueLemmas::word_kept, crate::proofs::DueLemmas::word_short))]
+    #[tactic(auto, using(crate::proofs::DueLemmas::kept_words))]
     fn keep(&mut self, byte: u8)
         requires word { IsWord self.old.state.due }
         requires short { length self.old.seen + 1 < due_width self.old.state.due }
@@ -131,7 +131,7 @@ impl Records {
     }
 
     // Goes on after the last byte of a field, to this state.
-    #[tactic(auto, using(crate::proofs::DueLemmas::word_seen, crate::proofs::DueLemmas::word_kept, crate::proofs::DueLemmas::some_width))]
+    #[tactic(auto, using(crate::proofs::DueLemmas::kept_words))]
     pub(super) fn go_on(&mut self, next: PcapState)
         requires word { IsWord next.due }
         requires none { self.old.fault ≡ None }
