@@ -111,7 +111,7 @@ reply_code_on p at byte text ends lawful =
     let is = between_true byte 1 last_reply_code lawful in
     let call : List ℕ = call_text (call_in p.draft) in
     let coded : (code : ℕ) → (byte == code) ≡ true → text ≡ front p.entries p.holds ++ (head p.draft ++ (call ++ code ∷ [])) = λ code is. joined text (front p.entries p.holds) (head p.draft ++ call) (byte ∷ []) (head p.draft ++ (call ++ code ∷ [])) ends.bytes
-        (append_assoc (head p.draft) call (byte ∷ []) ∙ ap (λ (b : ℕ). head p.draft ++ (call ++ b ∷ [])) (eqb-true byte code is)) in
+    (append_assoc (head p.draft) call (byte ∷ []) ∙ ap (λ (b : ℕ). head p.draft ++ (call ++ b ∷ [])) (eqb-true byte code is)) in
     chosen P (byte == hit_code) _ _
     (λ hit. record { bytes = coded hit_code hit; kept = ends.kept; field = tt; known = ends.known })
     (λ no_hit. chosen P (byte == number_code) _ _
