@@ -21,8 +21,8 @@ abbrev pub Rows : Type 0
 Rows = List (Call × CallReply)
 
 -- that shard answers these calls so
-abbrev pub AreAnswered : Rows → Type 0
-AreAnswered rows = answers (map (λ row. row.0) rows) ≡ map (λ row. row.1) rows
+abbrev pub HaveTheseReplies : Rows → Type 0
+HaveTheseReplies rows = answers (map (λ row. row.0) rows) ≡ map (λ row. row.1) rows
 
 -- ---- items and their uniques
 

@@ -10,10 +10,10 @@ ghost use Rattle.shard_laws.specs.WorkedItems.{none, item_of, outcome};
 
 /// Example calls, one after the other, on shard 12 of 16: what the table of calls answers.
 pub fn worked_calls()
-    ensures exchanges { Worked.AreAnswered Worked.exchanges }
-    ensures joins { Worked.AreAnswered Worked.joins }
-    ensures counts { Worked.AreAnswered Worked.counts }
-    ensures removals { Worked.AreAnswered Worked.removals }
+    ensures exchanges { Worked.HaveTheseReplies Worked.exchanges }
+    ensures joins { Worked.HaveTheseReplies Worked.joins }
+    ensures counts { Worked.HaveTheseReplies Worked.counts }
+    ensures removals { Worked.HaveTheseReplies Worked.removals }
 {}
 
 /// Example calls on a key without an item: what the table of calls computes.
