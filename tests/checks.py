@@ -116,8 +116,17 @@ def script(main, page):
     ends.run(carried_out, page, f"tests/{os.path.basename(sys.argv[0])}")
 
 
+def help_if_asked():
+    """Prints the first lines of the script as its page of help, and ends, if a word asks for that."""
+    if {"-h", "--help"} & set(sys.argv[1:]):
+        signal.signal(signal.SIGPIPE, signal.SIG_DFL)
+        print((sys.modules["__main__"].__doc__ or "").strip())
+        sys.exit()
+
+
 def carry_out(*parts):
     """Runs functions as tests, and ends."""
+    help_if_asked()
     suite = unittest.defaultTestLoader.loadTestsFromTestCase(cases(*parts))
     sys.exit(not run_suite(suite))
 
