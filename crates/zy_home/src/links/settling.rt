@@ -1,6 +1,5 @@
 //! Settling the blocks of a home's connections.
 ghost use Rattle.std.specs.Prelude.{◌≡◌, ◌<◌, ◌≤◌, ◌^◌, ℕ, List, [], ◌∷◌, false, length, Ok, OnOk, OnErr, is_err};
-ghost use Rattle.zy_shuffle.specs.Run.{was_idle};
 ghost use Rattle.zy_home.specs.Home.{IsSoundBut, IsSoundHome, SameFor, SameHome, StandsHome};
 ghost use Rattle.zy_home.specs.Place.{IsOut, PutsBack, SameHand, Settles};
 ghost use Rattle.zy_home.specs.Links.{homed};

@@ -1,4 +1,4 @@
-use Rattle.std.proofs.Common.{[], ap, ◌∙◌, arith}
+use Rattle.std.proofs.Common.{[], ◌∙◌, arith}
 use Rattle.std.proofs.lemmas.Result.{MatchResult-from_err}
 use Rattle.zy_home.specs.Links.{homed}
 use Rattle.zy_home.proofs.HomeLemmas.{none_cut, none_left, refused_on}
