@@ -13,6 +13,7 @@ import threading
 import unittest
 
 import forked
+from forked import LONGEST
 from zygos_tools.cli import ends
 from zygos_tools.repository import TOP
 
@@ -159,7 +160,7 @@ def run(tool, *words, given=b"", environment=None):
 
 def started(tool, *words, given=b"", environment=None):
     """Carries out a tool as a command."""
-    return subprocess.run([path_of(tool), *words], input=given, capture_output=True, timeout=600, check=False,
+    return subprocess.run([path_of(tool), *words], input=given, capture_output=True, timeout=LONGEST, check=False,
                           env={**os.environ, **(environment or {})})
 
 

@@ -19,8 +19,8 @@ from typing import IO
 from zygos_tools.cli import screen
 from zygos_tools.repository import TOP
 
-# seconds after which a tool is ended: it hangs
-LONGEST = 600
+# seconds after which a program is ended: it hangs. Beside a hundred others it may take a hundred times as long as alone
+LONGEST = 3600
 FIRST_LINE = "#!/usr/bin/env python3\n"
 IMPORT = re.compile(r"^from (zygos_tools[.\w]*) import (\w+)", re.MULTILINE)
 

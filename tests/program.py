@@ -7,6 +7,8 @@ from zygos_tools.repository import TOP
 
 ONE = ["run", "--cores", "1", "--threads", "1"]
 BOTH = ["--out", "both"]
+# seconds after which a program hangs
+LONGEST = 3600
 failures = []
 
 
@@ -25,7 +27,7 @@ def path():
 
 def run(words, given, output=subprocess.PIPE, **how):
     given = {} if given is None else {"input": given}
-    return subprocess.run([path(), *words], stdout=output, stderr=subprocess.PIPE, timeout=600, check=False, **given, **how)
+    return subprocess.run([path(), *words], stdout=output, stderr=subprocess.PIPE, timeout=LONGEST, check=False, **given, **how)
 
 
 def answer(words, given):

@@ -20,7 +20,7 @@ from typing import IO
 from checks import counts_of
 
 # seconds after which a test is ended: it hangs
-LONGEST = 1800
+LONGEST = 5400
 # what a process of Python begins with
 USUAL = {signal.SIGPIPE: signal.SIG_IGN, signal.SIGINT: signal.default_int_handler, signal.SIGTERM: signal.SIG_DFL,
          signal.SIGHUP: signal.SIG_DFL}

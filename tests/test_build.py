@@ -6,7 +6,7 @@ import subprocess
 import tempfile
 import unittest
 
-from checks import TOP, cases, run, same
+from checks import LONGEST, TOP, cases, run, same
 from traffic import until
 
 # a stand-in of rt, which notes what it is called for; the proofs of `ci` go on while there is a file `hold`, until somebody
@@ -85,7 +85,7 @@ class Repository:
     def shell(self, script, begin=SHELL):
         """What a script prints, which has the folder as $made; without the ends of the last lines."""
         ran = subprocess.run(["bash", "-c", begin + script], cwd=TOP, stdin=subprocess.DEVNULL, stdout=subprocess.PIPE,
-                             env=self.environment(), timeout=600, check=False)
+                             env=self.environment(), timeout=LONGEST, check=False)
         return ran.stdout.decode().rstrip("\n")
 
     def environment(self):

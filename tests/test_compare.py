@@ -49,7 +49,7 @@ def compared(one, other, *words, sent=None):
     """The status, and the lines that are printed of two files and a capture."""
     with tempfile.TemporaryDirectory() as folder:
         paths = written(folder, a=one, b=other, sent=sent or b"")
-        more = ("--capture", paths["sent"]) if sent else ()
+        more = ("--capture", paths["sent"], "--seconds", "3600") if sent else ()
         ran = run("compare", *more, *words, paths["a"], paths["b"])
     return ran.returncode, (ran.stdout + ran.stderr).decode().replace(folder + "/", "").rstrip("\n").split("\n")
 

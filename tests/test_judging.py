@@ -33,7 +33,7 @@ def recorded(name):
 
 def files_of(texts, **more):
     """The files that are found for a recording."""
-    judge = Judge(texts[0], outputs_of(texts[1]), clock=Clock(600), **more)
+    judge = Judge(texts[0], outputs_of(texts[1]), clock=Clock(3600), **more)
     judge.run()
     return b"".join(judge.certificate().pieces())
 
@@ -314,7 +314,7 @@ def keys_in_processes():
     texts = recorded("pipelined")
     found = []
     for count in (1, 2):
-        judge = Judge(texts[0], outputs_of(texts[1]), clock=Clock(600))
+        judge = Judge(texts[0], outputs_of(texts[1]), clock=Clock(3600))
         judge.search(count)
         found.append(judge.keys.found)
     same("the orders of keys", *found)

@@ -19,7 +19,7 @@ import unittest
 
 import forked
 import packets
-from checks import cases, fail, path_of, same, written
+from checks import LONGEST, cases, fail, path_of, same, written
 from zygos_tools.comparing.search import FIRST_LINE, digest, order_text
 from zygos_tools.files.formats import Call, Entry, Hold, Reply, capture, close, journal, replies, segment
 
@@ -169,7 +169,7 @@ def interrupted():
             with subprocess.Popen([path_of(words[0]), *words[1:]], stdout=subprocess.PIPE, stderr=subprocess.PIPE) as tool:
                 with open(pipe, "wb"):  # the tool has opened it
                     tool.send_signal(signal.SIGINT)
-                    said = tool.communicate(timeout=600)
+                    said = tool.communicate(timeout=LONGEST)
             same(f"{words[0]} at Ctrl-C", (-signal.SIGINT, (b"", b"")), (tool.returncode, said))
             same(f"what {words[0]} leaves", ["pipe"], os.listdir(folder))
 
@@ -292,7 +292,7 @@ def unforeseen():
             with open(path, "w", encoding="utf-8") as file:
                 file.write(program.format(what))
             ran = subprocess.run([sys.executable, path, path_of("")], capture_output=True, check=False,
-                                 env=dict(os.environ, TMPDIR=folder), timeout=600)
+                                 env=dict(os.environ, TMPDIR=folder), timeout=LONGEST)
             same(f"what is said of {what}", (status, True),
                  (ran.returncode, re.fullmatch(wanted, ran.stderr.decode()) is not None))
         same("the traces", 2, sum(name.endswith(".trace") for name in os.listdir(folder)))

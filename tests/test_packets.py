@@ -13,7 +13,7 @@ import unittest
 
 import checks
 import packets
-from checks import built_program, cases, program_path, same, skip
+from checks import LONGEST, built_program, cases, program_path, same, skip
 from traffic import connected, memcached, take, until
 from zygos_tools.files.formats import Close, capture, close, read_capture, read_replies, segment, sessions
 from zygos_tools.files.part import Part
@@ -351,7 +351,7 @@ def nothing_written():
 
 def served(text, *words):
     """What the program writes for these words and this input."""
-    return subprocess.run([program_path(), *words], input=text, stdout=subprocess.PIPE, timeout=600, check=False).stdout
+    return subprocess.run([program_path(), *words], input=text, stdout=subprocess.PIPE, timeout=LONGEST, check=False).stdout
 
 
 def is_recorded(path):

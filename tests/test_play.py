@@ -7,7 +7,7 @@ import subprocess
 import tempfile
 import unittest
 
-from checks import TOP, built_program, cases, fail, program_path, run, same
+from checks import LONGEST, TOP, built_program, cases, fail, program_path, run, same
 from traffic import (Recorder, Server, at_once, connected, files_of, free_port, memcached, patched, take, talk,
                      until)
 from zygos_tools.files import spool
@@ -18,9 +18,13 @@ from zygos_tools.protocol.pace import Pace
 
 
 
+# a wait for answers that a loaded machine does not end
+WAITS = "--wait", "3600"
+
+
 def played(name, server, given, *words, status=0):
     """What is written when a capture is played, and what is said besides times."""
-    wait = () if "--wait" in words else ("--wait", "600")
+    wait = () if "--wait" in words else WAITS
     ran = run("play", "-", "--server", server.place, *wait, *words, given=given)
     said = re.sub(r" in [0-9.]+ s\n", "\n", ran.stderr.decode())
     said = re.sub(r"tools/play: answered within: .*\n", "", said)
@@ -185,7 +189,7 @@ def held_back():
         with Server() as server:
             recorder = Recorder(server.place)
             given = capture(1, pieces(0, text, 1))
-            ran = run("play", "-", "--server", recorder.place, "--wait", "600", given=given)
+            ran = run("play", "-", "--server", recorder.place, *WAITS, given=given)
             recorder.end()
             same(f"what is sent of {text}", {(0, 0): text}, files_of()[0])
             same(f"what is answered to {text}", replies([b"MN\r\n"]), ran.stdout)
@@ -198,11 +202,11 @@ def interrupted():
     with open("my.cap", "wb") as file:
         file.write(given)
     with Server() as server:
-        words = [os.path.join(TOP, "tools/play"), "my.cap", "--server", server.place, "--wait", "60"]
+        words = [os.path.join(TOP, "tools/play"), "my.cap", "--server", server.place, *WAITS]
         with subprocess.Popen(words, stdout=subprocess.PIPE, stderr=subprocess.PIPE) as process:
             until("both connections ask", lambda: server.hushed == 2)
             process.send_signal(signal.SIGINT)
-            text, said = process.communicate(timeout=600)
+            text, said = process.communicate(timeout=LONGEST)
     lines = [line for line in said.decode().splitlines() if " in " not in line and "within" not in line]
     same("what is interrupted", (1, {(0, 0): b"MN\r\n", (1, 0): b""}, ["tools/play: 2 commands were not answered",
          "tools/play: interrupted: what came back so far is written"]), (process.returncode, {
@@ -238,7 +242,7 @@ def faulty_servers():
             until("the other one waits too", lambda: server.hushed == 2)
             with open("late", "wb"):
                 pass
-            text, said = process.communicate(timeout=600)
+            text, said = process.communicate(timeout=LONGEST)
     lines = [line for line in said.decode().splitlines() if "within:" not in line]
     same("missing answers", (1, replies([b"MN\r\nMN\r\n", b"OK\r\nMN\r\n"]), [
         "tools/play: 2 commands were not answered",
@@ -292,7 +296,7 @@ def closed_pipe():
         file.write(capture(1, [segment(0, b"big 1000000\r\n")]))
         file.flush()
         ran = subprocess.run(["bash", "-c", '"$0" "$@" | head -c 1 > /dev/null', os.path.join(TOP, "tools/play"),
-                              "my.cap", "--server", server.place], capture_output=True, timeout=600, check=False)
+                              "my.cap", "--server", server.place, *WAITS], capture_output=True, timeout=LONGEST, check=False)
         same("a closed pipe", 2, ran.stderr.count(b"\n"))
 
 
@@ -300,7 +304,7 @@ def closed_pipe():
 
 
 def zygos(*words, given):
-    return subprocess.run([program_path(), *words], input=given, stdout=subprocess.PIPE, timeout=600, check=False).stdout
+    return subprocess.run([program_path(), *words], input=given, stdout=subprocess.PIPE, timeout=LONGEST, check=False).stdout
 
 
 def alike(name, one, other):
@@ -334,7 +338,7 @@ def uniques_of_memcached():
         recorder.end()
     for words in (("--recorded", "my.replies"), ()):
         with memcached() as place:
-            ran = run("play", "my.cap", "--server", place, *words)
+            ran = run("play", "my.cap", "--server", place, *WAITS, *words)
         same(f"swaps that are played {words}", (0, 40, True), (ran.returncode, ran.stdout.count(b"STORED"),
              b"20 uniques translated, 0 sent as they are" in ran.stderr))
 
@@ -359,7 +363,7 @@ def against_memcached():
     for name, traffic in (("recorded", given), ("generated", made)):
         for order in ((), ("--in-order",)):
             with memcached() as place:
-                ran = run("play", "-", "--server", place, *order, given=traffic)
+                ran = run("play", "-", "--server", place, *WAITS, *order, given=traffic)
             same(f"playing {name} traffic", 0, ran.returncode)
             alike(f"{name} traffic, played {' '.join(order)}", ran.stdout, zygos("run", given=traffic))
     count = len(read_replies(Part("replies", ran.stdout)).outputs)

@@ -13,7 +13,7 @@ import threading
 import time
 import unittest
 
-from checks import TOP, cases, fail, same
+from checks import LONGEST, TOP, cases, fail, same
 from traffic import (Recorder, Server, at_once, big, connected, files_of, has_size, memcached, patched, rest_of, take,
                      talk, until)
 from zygos_tools.cli.screen import Progress
@@ -35,7 +35,7 @@ def recorded(connections, commands, sent, back):
 def says(name, line, *words, status=1):
     """The tool ends with a line, and makes no file."""
     before = sorted(os.listdir("."))
-    ran = subprocess.run([os.path.join(TOP, "tools/record"), *words], capture_output=True, timeout=600, check=False)
+    ran = subprocess.run([os.path.join(TOP, "tools/record"), *words], capture_output=True, timeout=LONGEST, check=False)
     same(name, (status, f"tools/record: {line}\n", before),
          (ran.returncode, ran.stderr.decode(), sorted(os.listdir("."))))
 
@@ -350,7 +350,7 @@ def closed_errors():
         for ending in ("2>&-", "2> >(true)"):
             with subprocess.Popen(["bash", "-c", f"exec {words} {ending}"]) as process:
                 talk(path, b"\x80\n")
-                same(f"the end with {ending}", 0, process.wait(timeout=600))
+                same(f"the end with {ending}", 0, process.wait(timeout=LONGEST))
             same(f"the files with {ending}", ({(0, 0): b"\x80\n"}, {(0, 0): b"ERROR\r\n"}), files_of())
 
 
@@ -373,7 +373,7 @@ def killed():
     says("a start over it", "my.replies.spool: left by a recording that did not end; complete that with --repair",
          "my.cap", "my.replies")
     kept = {name: open(name, "rb").read() for name in os.listdir(".")}
-    ran = subprocess.run([os.path.join(TOP, "tools/top"), "my.cap"], capture_output=True, timeout=600, check=False)
+    ran = subprocess.run([os.path.join(TOP, "tools/top"), "my.cap"], capture_output=True, timeout=LONGEST, check=False)
     same("what a tool says of its capture", f"tools/top: my.cap: capture: truncated at {len(kept['my.cap'])}; if it was"
          " left by a recording that was killed, tools/record --repair completes it\n", ran.stderr.decode())
     both = {(0, 0): ASKED, (1, 0): ASKED}, {(0, 0): ANSWERED, (1, 0): ANSWERED}
@@ -422,7 +422,7 @@ def cut_of(both, at, count):
 def repaired(status):
     """What is said by --repair."""
     ran = subprocess.run([os.path.join(TOP, "tools/record"), "--repair", "my.cap", "my.replies"], capture_output=True,
-                         timeout=600, check=False)
+                         timeout=LONGEST, check=False)
     same("the status of --repair", status, ran.returncode)
     return ran.stderr.decode().replace("tools/record: ", "")
 
@@ -532,7 +532,7 @@ def terminal():
                 until("a line a second", lambda: is_shown(line))
                 one.sendall(b"mn\r\n")
                 take(one, 4)
-            process.wait(timeout=600)
+            process.wait(timeout=LONGEST)
             line = recorded(2, 3, len(ASKED) + 4, len(ANSWERED) + 4).strip()
             until("the last line", lambda: is_shown(f"\x1b[K{line}\r\n"))
         os.close(above)
@@ -558,7 +558,7 @@ def joining():
              recorder.end())
     shown = Terminal()
     progress = Progress(shown, "joining", 10)
-    for seconds in (-1, 1, -1):
+    for seconds in (-1, 1000000, -1):
         progress.next = time.monotonic() + seconds
         progress(3)
     same("how far it is", ["joining: 30 %", "joining: 90 %"], shown.lines)
@@ -570,7 +570,7 @@ def quits():
         recorder = Recorder(server.place)
         talk(recorder.place, b"mn\r\nmn\r\nquit\r\n")
         same("a quit", (0, recorded(1, 2, 14, 8)), recorder.end())
-    ran = subprocess.run([os.path.join(TOP, "tools/top"), "my.cap"], capture_output=True, timeout=600, check=False)
+    ran = subprocess.run([os.path.join(TOP, "tools/top"), "my.cap"], capture_output=True, timeout=LONGEST, check=False)
     same("a quit, by top", b"capture: 2 commands, 1 connections, 0 keys\n", ran.stdout[:43])
 
 

@@ -8,7 +8,7 @@ import subprocess
 import tempfile
 import unittest
 
-from checks import TOP, built_program, cases, fail, run, same, skip, written
+from checks import LONGEST, TOP, built_program, cases, fail, run, same, skip, written
 
 # the packages of the tools whose types are checked
 TYPED = ("cli", "files", "protocol", "judging", "comparing")
@@ -58,7 +58,7 @@ def upkeep():
     says_nothing("no law is in the way of the program", "dead", "--laws")
     says_nothing("no public call is without a caller and a row", "dead", "--calls")
     says_nothing("the crates have what docs/PROOF.md names", "indexes")
-    ran = subprocess.run([os.path.join(TOP, "tests/answers"), "--check"], capture_output=True, check=False, timeout=600)
+    ran = subprocess.run([os.path.join(TOP, "tests/answers"), "--check"], capture_output=True, check=False, timeout=LONGEST)
     same("examples/answers.jsonl is what the tests say", (0, b"", b""), (ran.returncode, ran.stdout, ran.stderr))
 
 
@@ -80,7 +80,7 @@ def instructions():
     if not shutil.which("valgrind"):
         skip("valgrind is not installed")
     ran = subprocess.run([os.path.join(TOP, "bench/run"), "instructions", "--check", program], capture_output=True,
-                         check=False, timeout=600)
+                         check=False, timeout=LONGEST)
     counted = [line.partition(":")[0] for line in ran.stdout.decode().splitlines()]
     same("the instructions of a command", (0, ["generated", "cache"]), (ran.returncode, counted))
 
@@ -102,7 +102,7 @@ def flakes():
     checker = shutil.which("pyflakes3") or shutil.which("pyflakes")
     if not checker:
         skip("pyflakes is not installed (Debian: pyflakes3)")
-    ran = subprocess.run([checker, *sources()], capture_output=True, check=False, timeout=600, cwd=TOP)
+    ran = subprocess.run([checker, *sources()], capture_output=True, check=False, timeout=LONGEST, cwd=TOP)
     same("what pyflakes finds", (0, ""), (ran.returncode, (ran.stdout + ran.stderr).decode()))
 
 
@@ -112,7 +112,7 @@ def types():
         skip("mypy is not installed (Debian: mypy)")
     words = [word for name in TYPED for word in ("-p", f"zygos_tools.{name}")]
     ran = subprocess.run(["mypy", "--strict", "--no-error-summary", "--cache-dir", "/dev/null", *words], check=False,
-                         capture_output=True, timeout=600, cwd=os.path.join(TOP, "tools"))
+                         capture_output=True, timeout=LONGEST, cwd=os.path.join(TOP, "tools"))
     places = tuple(f"zygos_tools/{name}/" for name in TYPED)
     found = [line for line in (ran.stdout + ran.stderr).decode().splitlines() if line.startswith(places)]
     same("what mypy finds", [], found)
@@ -138,14 +138,14 @@ def gates():
         for path in paths:
             os.chmod(path, 0o755)
         for path, (_, counts, why) in zip(paths, SCRIPTS):
-            ran = subprocess.run([gate, path], capture_output=True, check=False, timeout=600)
+            ran = subprocess.run([gate, path], capture_output=True, check=False, timeout=LONGEST)
             lines = ran.stdout.decode().splitlines()
             wanted = [*([f"tests/gate: {path}: {why}"] if why else []), "{} passed, {} failed, {} skipped".format(*counts)]
             same("the last line", (int(counts[1] > 0), wanted), (ran.returncode, lines[-len(wanted) :]))
         ok, hung, none = paths[0], paths[-1], os.path.join(folder, "none")
         same("a script that does not end, and one that is not there", "0 passed, 2 failed, 0 skipped",
              subprocess.run([gate, "--seconds", "1", hung, none], capture_output=True, check=False,
-                            timeout=600).stdout.decode().splitlines()[-1])
+                            timeout=LONGEST).stdout.decode().splitlines()[-1])
         with subprocess.Popen([gate, ok, hung, ok], stdout=subprocess.PIPE, text=True) as process:
             for line in process.stdout:
                 if line == f"== {hung}\n":

@@ -8,7 +8,7 @@ import unittest
 from itertools import zip_longest
 from unittest import mock
 
-from checks import built_program, cases, fail, prints, program_path, run, same, says, written
+from checks import LONGEST, built_program, cases, fail, prints, program_path, run, same, says, written
 import drawn
 import plain
 import traffic
@@ -24,6 +24,9 @@ from zygos_tools.protocol.meaning import Framer, commands_of
 from zygos_tools.protocol.model import Shard, calls, shard_of, text_of
 
 
+
+# a search that a loaded machine does not end
+SEARCH = "--seconds", "3600"
 
 # ---- items from before
 
@@ -203,9 +206,9 @@ def near(name, turns, texts, words=()):
     with tempfile.TemporaryDirectory() as folder:
         paths = written(folder, sent=given, recorded=replies(texts))
         files = paths["sent"], paths["recorded"]
-        ran = run("inline", *words, *files)
+        ran = run("inline", *SEARCH, *words, *files)
         same(f"the status of {name}", (0, b""), (ran.returncode, ran.stderr))
-        ran = run("inline", "--cut", "-", *files, given=served(ran.stdout))
+        ran = run("inline", *SEARCH, "--cut", "-", *files, given=served(ran.stdout))
     same(f"the status of {name}, cut", (0, b""), (ran.returncode, ran.stderr))
     return [output.text for output in read_replies(Part("replies", ran.stdout)).outputs]
 
@@ -264,7 +267,7 @@ def limits():
                         recorded=replies([*sets, item % 1 + item % 0]), other=replies([*sets, item % 2 * 2]))
         for tool, then, *words in (("inline", "the order is one", "sent", "recorded"), ("compare", "causes are those", "--capture", "sent",
                                                                                   "recorded", "other")):
-            said = run(tool, *(paths.get(word, word) for word in words)).stderr.decode()
+            said = run(tool, *SEARCH, *(paths.get(word, word) for word in words)).stderr.decode()
             same(f"what {tool} says", f"tools/{tool}: no order was found: key a: given up after 1 state; {then} near ", said[: said.find("near ") + 5])
 
 
@@ -381,13 +384,13 @@ def client(place, number):
 
 def differences(given, recorded):
     """What is said of a recording and what the program answers near the order of arrival."""
-    output = subprocess.run([program_path(), "run"], input=run("inline", given, recorded).stdout, stdout=subprocess.PIPE,
-                            timeout=600, check=True).stdout
-    cut = run("inline", "--cut", "-", given, recorded, given=output)
+    output = subprocess.run([program_path(), "run"], input=run("inline", *SEARCH, given, recorded).stdout, stdout=subprocess.PIPE,
+                            timeout=LONGEST, check=True).stdout
+    cut = run("inline", *SEARCH, "--cut", "-", given, recorded, given=output)
     same("the replies are cut", (0, b""), (cut.returncode, cut.stderr))
     with open("its.replies", "wb") as file:
         file.write(cut.stdout)
-    ran = run("compare", "--all", "--seconds", "600", "--capture", given, recorded, "its.replies")
+    ran = run("compare", "--all", *SEARCH, "--capture", given, recorded, "its.replies")
     last = ran.stdout.decode().splitlines()[-1:]
     same("the comparison", (True, True, b""), (ran.returncode in (0, 1), bool(last), ran.stderr))
     return ran.stdout.decode()

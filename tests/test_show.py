@@ -5,7 +5,7 @@ import subprocess
 import tempfile
 import unittest
 
-from checks import TOP, built_program, cases, fail, most_memory, path_of, prints, run, same, says
+from checks import LONGEST, TOP, built_program, cases, fail, most_memory, path_of, prints, run, same, says
 import drawn
 import reports
 from zygos_tools.files import formats, part as part_of_file
@@ -84,7 +84,7 @@ def parts():
     same("a part that is cut off", (1, fault.encode(), True), (ran.returncode, ran.stderr, JOURNAL.startswith(ran.stdout)))
     zygos = built_program()
     line = f"{zygos} run --cores 1 --threads 1 --out both < {TOP}/examples/first.cap | {path_of('part')} journal | {zygos} report"
-    ran = subprocess.run(["bash", "-c", f"set -o pipefail; {line}"], capture_output=True, check=False, timeout=600)
+    ran = subprocess.run(["bash", "-c", f"set -o pipefail; {line}"], capture_output=True, check=False, timeout=LONGEST)
     same("run --out both | part journal | report", (0, b"all           1           1           1           0           1", b""),
          (ran.returncode, ran.stdout.split(b"\n")[-2], ran.stderr))
 

@@ -6,7 +6,7 @@ import tempfile
 import unittest
 
 import program
-from checks import TOP, cases, fail, path_of, prints, run, same, says, started, written
+from checks import LONGEST, TOP, cases, fail, path_of, prints, run, same, says, started, written
 from zygos_tools.files.formats import (Call, Entry, Hold, Reply, big, capture, close, entry, hold, journal,
                                        read_capture, replies, segment)
 from zygos_tools.files.part import Part
@@ -89,13 +89,13 @@ def closed_pipes():
                                ("picture", (), journal([], records))):
         ran = subprocess.run(["bash", "-c", '"$0" "$@" | head -c 1 > /dev/null', path_of(tool),
                               *words],
-                             input=given, capture_output=True, timeout=600, check=False)
+                             input=given, capture_output=True, timeout=LONGEST, check=False)
         same(f"a closed pipe of {tool}", b"", ran.stderr)
     for tool in ("show", "capture", "picture"):
         with open("/dev/full", "wb") as full:
             ran = subprocess.run([path_of(tool)], input=journal([], []), stdout=full,
                                  stderr=subprocess.PIPE,
-                                 timeout=600, check=False)
+                                 timeout=LONGEST, check=False)
         same(f"no space for {tool}", (1, f"tools/{tool}: standard output: No space left on device\n".encode()),
              (ran.returncode, ran.stderr))
 

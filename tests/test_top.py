@@ -8,7 +8,7 @@ import unittest
 from collections import Counter
 
 import checks
-from checks import TOP, cases, same
+from checks import LONGEST, TOP, cases, same
 import drawn
 import reports
 from zygos_tools.files.formats import (Call, Close, Entry, Hold, Reply, capture, close, journal, read_capture,
@@ -117,7 +117,7 @@ def faults():
     page = run("--help")[1].split("\n")
     same("help", True, max(map(len, page)) <= 120 and len(page) < 40)
     ran = subprocess.run(["bash", "-c", '"$0" | head -c 1 > /dev/null', os.path.join(TOP, "tools/top")],
-                         input=journal(MADE, HELD), capture_output=True, timeout=600, check=False)
+                         input=journal(MADE, HELD), capture_output=True, timeout=LONGEST, check=False)
     same("a closed pipe", b"", ran.stderr)
 
 

@@ -54,7 +54,7 @@ fi
 printf '== low\\nlogic=proved functions=1\\nrt: low proved\\n'
 """
 PROGRAM, TOOLS = ("zygos", "HANDLES"), ("build",)
-LONG = 600
+LONG = 3600
 
 
 def is_running(process):
@@ -67,7 +67,7 @@ def is_running(process):
 
 
 def wait_for(condition):
-    """Waits until a condition holds; a test fails that waits for ten minutes."""
+    """Waits until a condition holds; a test fails that waits for an hour."""
     end = time.monotonic() + LONG
     while not condition():
         if time.monotonic() > end:

@@ -11,7 +11,7 @@ import sys
 import threading
 import time
 
-from checks import fail, skip
+from checks import LONGEST, fail, skip
 from zygos_tools.files.formats import Segment, read_capture, read_replies
 from zygos_tools.files.part import Part
 from zygos_tools.repository import TOP
@@ -40,7 +40,7 @@ class Server:
         self.place = place if isinstance(place, str) else "[{}]:{}".format(*address[:2])
 
     def do(self, task):
-        return asyncio.run_coroutine_threadsafe(task, self.loop).result(600)
+        return asyncio.run_coroutine_threadsafe(task, self.loop).result(LONGEST)
 
     async def listen(self, place):
         if isinstance(place, str):
@@ -161,7 +161,7 @@ def is_listening(process, port):
 # ---- clients
 
 # how often it is looked whether something is so, each 0.05 seconds
-PATIENCE = 12000
+PATIENCE = 20 * LONGEST
 
 
 def connected(place):
@@ -174,7 +174,7 @@ def connected(place):
             else:
                 host, port = place.rsplit(":", 1)
                 one = socket.create_connection((host.strip("[]"), int(port)))
-            one.settimeout(600)
+            one.settimeout(LONGEST)
             return one
         time.sleep(0.05)
     raise OSError(f"nothing listens at {place}")
@@ -249,12 +249,12 @@ class Recorder:
         """Ends it by a signal, or waits for its end; gives its status and what it said besides its first line."""
         if number:
             self.process.send_signal(number)
-        self.said = self.process.communicate(timeout=600)[1].decode()
+        self.said = self.process.communicate(timeout=LONGEST)[1].decode()
         return self.process.returncode, self.said
 
     def line(self):
         """The next line that it says."""
-        ready, _, _ = select.select([self.process.stderr], [], [], 600)
+        ready, _, _ = select.select([self.process.stderr], [], [], LONGEST)
         return self.process.stderr.readline().decode() if ready else ""
 
     def most_memory(self):
