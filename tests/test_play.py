@@ -213,15 +213,18 @@ def interrupted():
              (one.connection, one.session): one.text for one in read_replies(Part("replies", text)).outputs}, lines))
 
 
-# a clock that goes on when there is a file
+# a clock that goes on by 10 seconds at each look, once there is a file: answers that come after the file are none too late
 LATE = """import os
 from zygos_tools.playing import playing
 
 
 class Clock:
-    @staticmethod
-    def perf_counter():
-        return 1000.0 if os.path.exists("late") else 0.0
+    now = 0.0
+
+    @classmethod
+    def perf_counter(cls):
+        cls.now += 10.0 * os.path.exists("late")
+        return cls.now
 
 
 playing.time = Clock
