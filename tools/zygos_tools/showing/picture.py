@@ -112,7 +112,7 @@ class Run:
 
 
 def legend(drawing, x, y, names):
-    """Colours, each with what it stands for."""
+    """Draws a row of colours, each with its meaning."""
     for color, name in names:
         drawing.box(x, y - 9, 10, 10, color)
         drawing.text(x + 14, y, name, size=11)
