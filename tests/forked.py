@@ -1,5 +1,5 @@
-"""Carries out the tools in processes that are forked of this one, whose modules they have: that takes a tenth of the time
-in which Python starts."""
+"""Runs the tools in forks of this process, which has their modules: that takes a tenth of the time that Python needs to
+start."""
 import functools
 import importlib
 import io
@@ -31,7 +31,7 @@ def path_of(tool: str) -> str:
 
 @functools.cache
 def code_of(tool: str) -> types.CodeType | None:
-    """The code of a tool, whose modules are imported here, so that its processes need not; None if it is not of Python."""
+    """Returns the code of a tool, and imports its modules here for all its processes; None if it is not written in Python."""
     with open(path_of(tool), encoding="utf-8") as file:
         text = file.read()
     if not text.startswith(FIRST_LINE):
@@ -44,13 +44,13 @@ def code_of(tool: str) -> types.CodeType | None:
 
 
 def can_be_forked(tool: str) -> bool:
-    """Whether a tool can be a fork of this process: it is of Python, and no other thread may hold a lock here."""
+    """Checks whether a tool can be a fork of this process: it is written in Python, and no other thread may hold a lock here."""
     return threading.active_count() == 1 and code_of(tool) is not None
 
 
 def run(tool: str, words: tuple[str, ...], given: bytes = b"",
         environment: Mapping[str, str] | None = None) -> "subprocess.CompletedProcess[bytes]":
-    """Carries out a tool with its words and standard input. Gives its status, and what it writes and says."""
+    """Runs a tool with its words and standard input. Returns its status, its output and its messages."""
     with tempfile.TemporaryFile() as source, tempfile.TemporaryFile() as output, tempfile.TemporaryFile() as said:
         source.write(given)
         source.seek(0)
@@ -64,7 +64,7 @@ def run(tool: str, words: tuple[str, ...], given: bytes = b"",
 
 
 def end_of(child: int) -> int:
-    """Waits for the end of a process, which is ended after a long time. Gives its status, as subprocess does."""
+    """Waits for the end of a process, and ends it after a long time. Returns its status, as subprocess does."""
     ending = os.pidfd_open(child)
     try:
         if not select.select([ending], [], [], LONGEST)[0]:
@@ -75,7 +75,7 @@ def end_of(child: int) -> int:
 
 
 def carry_out(tool: str, words: tuple[str, ...], files: tuple[IO[bytes], ...], environment: Mapping[str, str]) -> None:
-    """Is the tool, in a process of its own."""
+    """Runs the tool in this process, which is its own."""
     path = path_of(tool)
     try:
         for number, file in enumerate(files):
@@ -93,7 +93,7 @@ def carry_out(tool: str, words: tuple[str, ...], files: tuple[IO[bytes], ...], e
 
 
 def leave(tool: str) -> None:
-    """Carries out the code of a tool, and ends this process as Python does."""
+    """Runs the code of a tool, and ends this process as Python does."""
     status: object = 0
     try:
         exec(code_of(tool) or "", {"__name__": "__main__", "__file__": path_of(tool)})

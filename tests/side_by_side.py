@@ -1,6 +1,6 @@
-"""Carries out tests of unittest side by side, each in a process of its own: what one does or leaves is none of another's.
+"""Runs tests of unittest side by side, each in a process of its own, so that no test depends on another.
 
-A test that ends its process, or goes on for too long, has failed, and the others are carried out all the same.
+A test that ends its process, or takes too long, has failed, and the others run all the same.
 """
 import io
 import os
@@ -28,8 +28,8 @@ USUAL = {signal.SIGPIPE: signal.SIG_IGN, signal.SIGINT: signal.default_int_handl
 
 @dataclass(slots=True)
 class Outcome:
-    """What came of a test: how many passed, failed and were left out, and the texts about it; then its seconds, in all
-    and of a processor, with those of the processes that it started."""
+    """The result of a test: how many passed, failed and were skipped, and the texts about it; then its seconds of wall
+    time and of a processor, with those of the processes that it started."""
 
     name: str
     counts: tuple[int, int, int] = (0, 1, 0)
@@ -39,11 +39,11 @@ class Outcome:
     used: float = 0
 
     def sign(self) -> str:
-        """How it is shown as one letter."""
+        """The letter that shows it."""
         return "F" if self.counts[1] else "s" if self.counts[2] else "."
 
     def word(self) -> str:
-        """How it is shown as a word."""
+        """The word that shows it."""
         return {"F": "FAILED", "s": "left out, wholly or in part", ".": "ok"}[self.sign()]
 
 
@@ -57,7 +57,7 @@ def tests_of(suite: unittest.TestSuite) -> Iterator[unittest.TestCase]:
 
 
 def outcome_of(test: unittest.TestCase) -> Outcome:
-    """Carries out a test in this process."""
+    """Runs a test in this process."""
     result = unittest.TestResult()
     unittest.TestSuite([test]).run(result)
     faults = [f"FAILED: {one}\n{text}" for one, text in [*result.failures, *result.errors]]
@@ -65,7 +65,7 @@ def outcome_of(test: unittest.TestCase) -> Outcome:
 
 
 class Running:
-    """A test that runs in a process of its own; what comes of it is in a file."""
+    """A test that runs in a process of its own, which writes the result to a file."""
 
     def __init__(self, test: unittest.TestCase) -> None:
         self.name, self.begun, self.is_ended = test.id(), time.monotonic(), False
@@ -77,7 +77,7 @@ class Running:
         self.end_of = os.pidfd_open(self.process)
 
     def carry_out(self, test: unittest.TestCase) -> None:
-        """Is the process of the test. It leads a group, so that what it leaves can be ended."""
+        """Runs the test in its process. The process leads a group, so that all processes that it leaves can be ended."""
         try:
             os.setpgid(0, 0)
             os.dup2(os.open(os.devnull, os.O_RDONLY), 0)
@@ -95,14 +95,14 @@ class Running:
         return time.monotonic() > self.begun + LONGEST
 
     def end(self) -> None:
-        """Ends the test, with all that it has started."""
+        """Ends the test and all processes that it has started."""
         self.is_ended = True
         for kill in (os.killpg, os.kill):
             with suppress(OSError):
                 kill(self.process, signal.SIGKILL)
 
     def outcome(self) -> Outcome:
-        """What came of a test whose process has ended. Processes that it left are ended."""
+        """Returns the result of a test whose process has ended, and ends the processes that it left."""
         _, status, used = os.wait4(self.process, 0)
         os.close(self.end_of)
         with suppress(OSError):
@@ -115,13 +115,13 @@ class Running:
         return found
 
     def why(self, status: int) -> str:
-        """Why nothing came of it."""
+        """The reason why there is no result."""
         return f"it takes over {LONGEST} seconds" if self.is_ended else \
             f"its process ended early, with {os.waitstatus_to_exitcode(status)}"
 
 
 def outcomes(tests: list[unittest.TestCase], jobs: int) -> Iterator[Outcome]:
-    """Carries out tests, so many at a time. Gives what comes of each as it ends."""
+    """Runs tests, `jobs` of them at a time, and yields the result of each when it ends."""
     waiting, running = tests[::-1], selectors.DefaultSelector()
     try:
         while waiting or running.get_map():
@@ -141,7 +141,7 @@ def outcomes(tests: list[unittest.TestCase], jobs: int) -> Iterator[Outcome]:
 
 
 def report(found: list[Outcome], has_times: bool) -> str:
-    """What is said at the end of tests."""
+    """The text that is printed after the last test."""
     page = io.StringIO()
     for one in found:
         for fault in one.faults:
@@ -157,7 +157,7 @@ def report(found: list[Outcome], has_times: bool) -> str:
 
 
 def run(suite: unittest.TestSuite, jobs: int, is_wordy: bool, has_times: bool) -> bool:
-    """Carries out a suite, prints what came of it, and its counts in a last line. Gives whether nothing failed."""
+    """Runs a suite, and prints the results and, in a last line, their counts. Returns whether nothing failed."""
     begun, found = time.monotonic(), []
     for one in outcomes(list(tests_of(suite)), jobs):
         found.append(one)

@@ -1,13 +1,13 @@
-"""Texts as examples/answers.jsonl has them: a character for each byte, of that number. A long text is a list of its parts,
-where [text, N] is a text N times."""
+"""Texts of examples/answers.jsonl: the character of a byte has the byte's number. A long text is a list of its parts, in
+which [text, N] means N times the text."""
 import re
 
-# as many bytes of one kind as are not spelled in a long text, and how long that is
+# at least 100 equal bytes, of which a long text has the number; and the number of bytes above which a text is long
 RUN, LONG = re.compile(r"(.)\1{99,}", re.DOTALL), 1000
 
 
 def spelled(text):
-    """How a text of bytes is spelled."""
+    """The spelling of a text of bytes."""
     text = text.decode("latin-1")
     if len(text) <= LONG:
         return text
@@ -19,11 +19,11 @@ def spelled(text):
 
 
 def bytes_of(value):
-    """The bytes that are spelled like this."""
+    """The bytes of a spelling."""
     parts = [value] if isinstance(value, str) else value
     return "".join(part if isinstance(part, str) else part[0] * part[1] for part in parts).encode("latin-1")
 
 
 def length(value):
-    """How long the spelling is."""
+    """The length of the spelling."""
     return len(value) if isinstance(value, str) else sum(len(part) for part in value)

@@ -213,7 +213,7 @@ def interrupted():
              (one.connection, one.session): one.text for one in read_replies(Part("replies", text)).outputs}, lines))
 
 
-# a clock that goes on by 10 seconds at each look, once there is a file: answers that come after the file are none too late
+# a clock that goes on by 10 seconds whenever it is read, once the file exists: so answers may come after the file
 LATE = """import os
 from zygos_tools.playing import playing
 

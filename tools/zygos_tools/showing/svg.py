@@ -6,12 +6,12 @@ from collections.abc import Iterable
 
 
 def escaped(words: str) -> str:
-    """A text as it stands between tags."""
+    """Escapes a text for its place between tags."""
     return html.escape(words, quote=False)
 
 
 class Drawing:
-    """Shapes, of which a later one covers those before it. `more` are further attributes, after a space."""
+    """A list of shapes: each one covers those before it. `more` has more attributes, after a space."""
 
     def __init__(self) -> None:
         self.lines: list[str] = []
@@ -29,20 +29,20 @@ class Drawing:
         self.lines.append(f'<line x1="{x:.1f}" y1="{y:.1f}" x2="{to_x:.1f}" y2="{to_y:.1f}" stroke="{colour}"{more}/>')
 
     def polyline(self, points: Iterable[tuple[float, float]], colour: str, more: str = "") -> None:
-        """Lines from each point to the next one."""
+        """Draws a line from each point to the next one."""
         places = " ".join(f"{x:.1f},{y:.1f}" for x, y in points)
         self.lines.append(f'<polyline points="{places}" fill="none" stroke="{colour}"{more}/>')
 
     def path(self, commands: str, colour: str, fill: str = "none") -> None:
-        """What the commands of a path draw."""
+        """Draws a path by its commands."""
         self.lines.append(f'<path d="{commands}" stroke="{colour}" fill="{fill}"/>')
 
     def group(self, y: float, drawing: Drawing) -> None:
-        """Another drawing, moved down."""
+        """Adds another drawing, moved down."""
         self.lines += [f'<g transform="translate(0 {y:.0f})">', *drawing.lines, "</g>"]
 
     def document(self, width: float, height: float, title: str = "", about: str = "") -> str:
-        """The drawing as a document, on white; with a title it is an image for readers of screens."""
+        """Returns the drawing as a document, on white; with a title, screen readers take it as an image."""
         begin = f'<svg xmlns="http://www.w3.org/2000/svg" viewBox="0 0 {width:.0f} {height:.0f}" width="{width:.0f}" ' \
                 f'height="{height:.0f}" font-family="sans-serif"'
         head = [f'{begin} role="img">', f"<title>{escaped(title)}</title>", f"<desc>{escaped(about)}</desc>"] if title else \
