@@ -44,6 +44,34 @@ module _ (P : Cored → Type 0) where
   pub have_all : (i : ℕ) (cs : List Cored) → length cs ≤ i → HaveBelow i cs → (k : ℕ) (c : Cored) → slice_get cs k ≡ Some c → P c
   have_all i cs le below k c at = below k c (let lt = get_below cs k c at in omega arith) at
 
+-- ---- cores that are related to what they became
+
+-- the cores from i on are as they were
+abbrev pub SameFrom : ℕ → List Cored → List Cored → Type 0
+SameFrom i cs ds = (k : ℕ) → i ≤ k → slice_get ds k ≡ slice_get cs k
+
+-- so are those after the next one, once it was changed
+pub same_more : (i : ℕ) (cs ds : List Cored) (d : Cored) → SameFrom i cs ds → SameFrom (i + 1) cs (set ds i d)
+same_more i cs ds d same k le = get_set_else ds i k d (λ e. absurd (omega arith)) ∙ same k (omega arith)
+
+module _ (R : Cored → Cored → Type 0) where
+  -- each core below i is related to what it became
+  abbrev pub RelatedBelow : ℕ → List Cored → List Cored → Type 0
+  RelatedBelow i cs ds = (k : ℕ) (c d : Cored) → k < i → slice_get cs k ≡ Some c → slice_get ds k ≡ Some d → R c d
+
+  -- so is the next core, once it was changed
+  pub related_more : (i : ℕ) (cs ds : List Cored) (c d : Cored) → slice_get ds i ≡ Some c → SameFrom i cs ds → R c d → RelatedBelow i cs ds
+      → RelatedBelow (i + 1) cs (set ds i d)
+  related_more i cs ds c d there same here below k x y lt was is = dite (ℕ_discrete k i)
+      (λ e. let after : d ≡ y = get_set_same ds i d y (ap (slice_get (set ds i d)) (sym e) ∙ is) in
+        let both : Some c ≡ Some x = sym there ∙ same i (omega arith) ∙ ap (slice_get cs) (sym e) ∙ was in
+        let before : c ≡ x = cc in subst (λ z. R z y) before (subst (R c) after here))
+      (λ ne. below k x y (omega arith) was (sym (get_set_else ds i k d ne) ∙ is))
+
+  -- all are
+  pub related_all : (i : ℕ) (cs ds : List Cored) → length ds ≤ i → RelatedBelow i cs ds → (k : ℕ) (c d : Cored) → slice_get cs k ≡ Some c → slice_get ds k ≡ Some d → R c d
+  related_all i cs ds le below k c d was is = below k c d (let lt = get_below ds k d is in omega arith) was is
+
 -- ---- cores that count themselves
 
 -- a core that has counted itself must have

@@ -9,6 +9,7 @@ use Rattle.zy_core.specs.Core.{Cored, Identity}
 use Rattle.zy_core.specs.declared.turn.Turn.TheVariants as turns
 use Rattle.zy_core.specs.declared.turn.Came.{Came}
 use Rattle.zy_core.specs.Turn.{CameTo}
+use Rattle.zy_core.specs.Nap.{NapTo}
 use Rattle.zy_core.specs.declared.nap.Nap.{Nap}
 use Rattle.zy_steal.specs.declared.looks.Look.{Look}
 use Rattle.zy_drive.specs.declared.round.Round.{Round}
@@ -66,6 +67,15 @@ TurnedTo before after looks looks' round =
     ((came : Came) × (round ≡ round_of came) × CameTo before after looks looks' came)
     ⊎ ((2 ^ 48 ≤ before.turns) × (after ≡ before) × (round ≡ Idle))
 
+-- a core took one turn more; or it took none, since it had taken the most turns that a core may take
+abbrev pub HasTurned : Cored → Cored → Type 0
+HasTurned before after = (after.turns ≡ before.turns + 1) ⊎ ((2 ^ 48 ≤ before.turns) × (after ≡ before))
+
+-- each core took one turn more, or had taken the most
+abbrev pub EachTurned : List Cored → List Cored → Type 0
+EachTurned before after = (i : ℕ) (core core' : Cored)
+    → slice_get before i ≡ Some core → slice_get after i ≡ Some core' → HasTurned core core'
+
 -- what a nap came to
 abbrev pub round_of_nap : Nap → Round
 round_of_nap (Nap.Awake turns.Worked) = Worked
@@ -73,6 +83,13 @@ round_of_nap (Nap.Awake (turns.Idle own looks)) = Idle
 round_of_nap (Nap.Awake (turns.Settled looks)) = Idle
 round_of_nap (Nap.Ending done stop) = Idle
 round_of_nap Nap.Rested = Rested
+
+-- a core among `cores` took a nap, which came to this round; or it took none, since it had taken the most turns that a
+-- core may take
+abbrev pub NappedTo : ℕ → Cored → Cored → Passed → Passed → Round → Type 0
+NappedTo cores before after bell bell' round =
+    ((nap : Nap) × (round ≡ round_of_nap nap) × NapTo cores before after bell bell' nap)
+    ⊎ ((2 ^ 48 ≤ before.turns) × (after ≡ before) × (bell' ≡ bell) × (round ≡ Idle))
 
 -- a round and another one: busy if one of them is, and otherwise worked if one of them has
 abbrev pub with_round : Round → Round → Round

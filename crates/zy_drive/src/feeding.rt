@@ -1,6 +1,6 @@
 //! Steps of a feeder.
 ghost use Rattle.std.specs.Prelude.{◌≡◌, true, false, IfSome, IfNone};
-ghost use Rattle.zy_rx.specs.Feed.{rings_of};
+ghost use Rattle.zy_rx.specs.Feed.{rings_of, sent_by, HasOffered};
 
 use std::sync::Wait;
 use zy_rx::{Fed, Feeder};
@@ -45,6 +45,11 @@ pub(crate) fn feed_once<F: Feeder>(feeder: &mut F, is_ended: bool, has_work: boo
     ensures ended { IfSome result (λ s. s.is_ended ≡ true → F.ended feeder.new) }
     ensures fresh { IfSome result (λ s. s.is_ended ≡ false → ¬ F.ended feeder.new × ¬ F.broken feeder.new) }
     ensures broken { IfNone result (F.broken feeder.new) }
+    ensures offered { IfSome result (λ s. s.has_offered ≡ true
+        → HasOffered (F.inlets feeder.old) (F.inlets feeder.new)) }
+    ensures unsent { IfSome result (λ s. s.has_offered ≡ false
+        → sent_by (F.inlets feeder.new) ≡ sent_by (F.inlets feeder.old)) }
+    ensures kept { is_ended ≡ true → feeder.new ≡ feeder.old }
     ensures leads { F.leads feeder.old feeder.new }
     ensures rings { rings_of (F.inlets feeder.new) ≡ rings_of (F.inlets feeder.old) }
 {

@@ -1,8 +1,9 @@
 //! Turns of several cores.
-ghost use Rattle.std.specs.Prelude.{◌≡◌, ◌≢◌, true, false, IfOk};
+ghost use Rattle.std.specs.Prelude.{◌≡◌, ◌≢◌, true, false, IfOk, OnOk};
 ghost use Rattle.zy_core.specs.Core.{Fits, identity_of};
 ghost use Rattle.zy_core.specs.Cores.{identities, EachFits, EachSettled};
 ghost use Rattle.zy_drive.specs.Group.{have_all_blocks, HasOne, IsUnsettled, SeesOthers, EachNoted, TurnedTo};
+ghost use Rattle.zy_drive.specs.Group.{HasTurned, EachTurned};
 ghost use Rattle.zy_drive.specs.Same.{SameCore, SameCores};
 
 use crate::round::Round;
@@ -23,6 +24,7 @@ pub(crate) fn turn_one<G: Gate>(
     requires fits { Fits shared.now (identity_of core.old) }
     ensures same { SameCore core.old core.new }
     ensures turned { IfOk result (TurnedTo core.old core.new looks.old looks.new) }
+    ensures turns { OnOk result (HasTurned core.old core.new) }
     ensures awake { IfOk result (λ round. round ≢ Round.Rested) }
 {
     if core.is_refused() {
@@ -44,6 +46,7 @@ pub(crate) fn turn_each<G: Gate>(
 ) -> Result<Round, NoMemory>
     requires fits { EachFits shared.now (identities cores.old.items) }
     ensures same { SameCores cores.old.items cores.new.items }
+    ensures turned { OnOk result (EachTurned cores.old.items cores.new.items) }
     ensures awake { IfOk result (λ round. round ≢ Round.Rested) }
 {
     let mut round = Round::Idle;

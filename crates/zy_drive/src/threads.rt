@@ -1,5 +1,5 @@
 //! Cores on threads, fed by the caller.
-ghost use Rattle.std.specs.Prelude.{◌≡◌, ◌≤◌, true, length, vec_len, vec_capacity, IfOk};
+ghost use Rattle.std.specs.Prelude.{◌≡◌, ◌↔◌, ◌≤◌, true, length, vec_len, vec_capacity, IfOk};
 ghost use Rattle.zy_drive.specs.Deal.{gathered, lists_of, AreEmpty, HaveRoom};
 ghost use Rattle.zy_core.specs.Cores.{identities, AreCores, EachSettled};
 ghost use Rattle.zy_drive.specs.Drive.{returned_cores, IsSettledRun, IsBrokenRun};
@@ -182,8 +182,8 @@ fn together(groups: Vec<Vec<Core>>, count: usize, whole: Vec<Core>) -> Cores
 // done.
 fn answer(cores: Cores, is_done: bool, how: How) -> Driven
     ensures cores { returned_cores result ≡ cores }
-    ensures settled { IsSettledRun result → (how ≡ How.Ended) × (is_done ≡ true) }
-    ensures broken { IsBrokenRun result → how ≡ How.Broken }
+    ensures settled { IsSettledRun result ↔ ((how ≡ How.Ended) × (is_done ≡ true)) }
+    ensures broken { IsBrokenRun result ↔ (how ≡ How.Broken) }
 {
     match how {
         How::Broken => Driven::Broken(cores),

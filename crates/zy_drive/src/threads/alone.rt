@@ -1,8 +1,8 @@
 //! The core of a group of one: its naps, and how it calls up others.
-ghost use Rattle.std.specs.Prelude.{◌≡◌};
+ghost use Rattle.std.specs.Prelude.{◌≡◌, length, IfOk};
 ghost use Rattle.zy_core.specs.Core.{Fits, identity_of};
 ghost use Rattle.zy_core.specs.Cores.{identities, EachFits};
-ghost use Rattle.zy_drive.specs.Group.{IsAlone, round_of_nap};
+ghost use Rattle.zy_drive.specs.Group.{IsAlone, round_of_nap, NappedTo};
 ghost use Rattle.zy_drive.specs.Same.{SameCore, SameCores, SameBell};
 ghost use Rattle.zy_drive.specs.CallUp.{CallsUp};
 
@@ -41,6 +41,8 @@ fn nap_one<R: Wait, G: Gate>(
     requires bells { pass.old.bells ≡ driving.now.bells.now }
     ensures same { SameCore core.old core.new }
     ensures pass { SameBell pass.old pass.new }
+    ensures napped { IfOk result (NappedTo (length driving.now.shared.now.rings)
+        core.old core.new pass.old pass.new) }
 {
     if core.is_refused() {
         return Err(NoMemory);

@@ -1,7 +1,8 @@
 //! What the caller does while threads drive the cores.
-ghost use Rattle.std.specs.Prelude.{◌≡◌, ◌≢◌, ◌↔◌, true, false};
+ghost use Rattle.std.specs.Prelude.{◌≡◌, ◌≢◌, ◌↔◌, ◌&&◌, true, false, Ok, IfOk};
 ghost use Rattle.zy_control.specs.Pass.{seeing_stop};
-ghost use Rattle.zy_drive.specs.Group.{items_after, with_work};
+ghost use Rattle.zy_drive.specs.CallUp.{RingsIf};
+ghost use Rattle.zy_drive.specs.Group.{items_after, with_work, calls_up};
 ghost use Rattle.zy_drive.specs.Seat.{IfMade};
 ghost use Rattle.zy_drive.specs.Seat.{all_of_seats, AllFit};
 ghost use Rattle.zy_rx.specs.Feed.{rings_of};
@@ -80,12 +81,11 @@ pub(crate) fn tend<R: Wait, F: Feeder, G: Gate>(
         is_ended = step.is_ended;
         caller.ring_if(step.has_offered, driving);
         items = items_after(items, step.has_offered);
-        let round = match go_on_if(has_here && items == 0, driving, seats) {
+        let round = match go_on_if(has_here && items == 0, driving, seats, caller) {
             Ok(round) => round,
             Err(NoMemory) => return How::Stopped,
         };
         has_work = has_here && (items > 0 || round.calls_up() || are_some_away(seats));
-        caller.ring_if(round.calls_up(), driving);
         if is_ended && are_done_here(seats) {
             return How::Ended;
         }
@@ -147,18 +147,28 @@ fn found(has_offered: bool, round: Round) -> Round
     }
 }
 
-// Takes a turn of each core that is with the caller, if `is_due`.
+// Takes a turn of each core that is with the caller, if `is_due`. If others may have something to do
+// after these turns, the caller rings the cores that rest.
 fn go_on_if<R, G: Gate>(
     is_due: bool,
     driving: &Driving<'_, R, G>,
     seats: &mut Vec<Seat>,
+    caller: &mut Caller<'_>,
 ) -> Result<Round, NoMemory>
     requires fits { AllFit driving.now.shared.now (all_of_seats seats.old.items) }
+    requires watch { caller.old.watch.table ≡ driving.now.shared.now.control.id }
+    requires bells { caller.old.root.now.bells ≡ driving.now.bells.now }
     ensures same { SameSeats seats.old seats.new }
+    ensures watch { caller.new.watch.table ≡ caller.old.watch.table }
+    ensures bells { caller.new.root.now.bells ≡ caller.old.root.now.bells }
+    ensures idle { is_due ≡ false → (result ≡ Ok Round.Idle) × (seats.new ≡ seats.old) }
+    ensures rung { IfOk result (λ round. RingsIf (calls_up round && caller.old.rings)
+        caller.old.watch caller.new.watch caller.old.root.now caller.new.root.now) }
 {
-    if is_due {
-        go_on_here(driving, seats)
-    } else {
-        Ok(Round::Idle)
+    if !is_due {
+        return Ok(Round::Idle);
     }
+    let round = go_on_here(driving, seats)?;
+    caller.ring_if(round.calls_up(), driving);
+    Ok(round)
 }

@@ -13,7 +13,7 @@ in_scope-lent-requires-clause-fits g c =
 
 pub returns-clause-settled : goal.returns-clause-settled
 returns-clause-settled g c = λ is.
-    let all = c.in_scope-lent.ensures.settled (c.answer.ensures.settled is).1 in
+    let all = c.in_scope-lent.ensures.settled (c.answer.ensures.settled.0 is).1 in
     gather_settled c.len-count.result c.in_scope-lent.result.1.groups.items (returned_cores c.answer.result) all (c.answer.ensures.cores ∙ c.together.ensures.value)
 
 pub returns-clause-same : goal.returns-clause-same
