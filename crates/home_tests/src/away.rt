@@ -4,7 +4,7 @@ ghost use Rattle.zy_conn.specs.Block.{label_of};
 
 use crate::home_parts::{Setup, first_end, set_up};
 use crate::receiving::{Item, receive, settle};
-use crate::sure::{must, sure};
+use crate::sure::sure;
 use std::alloc::Global;
 use std::process::Abort;
 use zy_base::Ungated;
@@ -80,5 +80,5 @@ fn what_comes_is_served_while_a_block_is_away(rt: HostRuntime) {
     let served = is_served(&output, &ends);
     drop(output);
     drop(ends);
-    must(&rt, served);
+    assert!(rt; served);
 }

@@ -2,10 +2,11 @@
 ghost use Rattle.std.specs.Prelude.{◌≡◌, ◌≤◌, false};
 ghost use Rattle.zy_conn.specs.Block.{label_of};
 ghost use Rattle.zy_conn.specs.Work.{mark_of};
+ghost use Rattle.zy_home.specs.Home.{SameFor};
 
 use crate::home_parts::{Setup, first_end, set_up};
 use crate::receiving::{Item, receive, settle};
-use crate::sure::{must, sure};
+use crate::sure::sure;
 use mc_store::StoreTable;
 use std::alloc::Global;
 use std::process::Abort;
@@ -26,10 +27,7 @@ fn receive_often(rt: &impl Abort, alloc: Global, ring: &Ring<Block>, mut home: H
     requires table { home.pass.table ≡ ring.now.id }
     requires few { home.pass.count ≤ 64 }
     requires live { home.refused ≡ false }
-    ensures table { result.pass.table ≡ home.pass.table }
-    ensures label { result.pass.label ≡ home.pass.label }
-    ensures cores { result.cores ≡ home.cores }
-    ensures count { result.pass.count ≤ 32064 }
+    ensures same { SameFor 32000 home result }
     ensures live { result.refused ≡ false }
 {
     for _time in 0..TIMES {
@@ -70,10 +68,7 @@ fn receive_beside<R: Threads + Abort + Sync>(
     requires live { home.refused ≡ false }
     requires store { block.work.table ≡ store.now.id }
     requires cores { block.cores ≡ 2 }
-    ensures table { result.0.pass.table ≡ home.pass.table }
-    ensures label { result.0.pass.label ≡ home.pass.label }
-    ensures cores { result.0.cores ≡ home.cores }
-    ensures count { result.0.pass.count ≤ 32064 }
+    ensures same { SameFor 32000 home result.0 }
     ensures live { result.0.refused ≡ false }
     ensures block { result.1.work.table ≡ block.work.table }
     ensures held { result.1.cores ≡ block.cores }
@@ -85,10 +80,7 @@ fn receive_beside<R: Threads + Abort + Sync>(
             requires table { home.pass.table ≡ ring.now.id }
             requires few { home.pass.count ≤ 64 }
             requires live { home.refused ≡ false }
-            ensures table { result.pass.table ≡ home.pass.table }
-            ensures label { result.pass.label ≡ home.pass.label }
-            ensures cores { result.cores ≡ home.cores }
-            ensures count { result.pass.count ≤ 32064 }
+            ensures same { SameFor 32000 home result }
             ensures live { result.refused ≡ false }
         { receive_often(rt, alloc, ring, home) },
         move || -> Block
@@ -148,5 +140,5 @@ fn frames_reach_a_block_while_it_is_held(rt: HostRuntime) {
     let is_one = ends.is_empty();
     drop(output);
     drop(ends);
-    must(&rt, is_one && finished == 1 + TIMES as u64);
+    assert!(rt; is_one && finished == 1 + TIMES as u64);
 }

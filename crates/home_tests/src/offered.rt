@@ -2,7 +2,7 @@
 ghost use Rattle.std.specs.Prelude.{◌≡◌};
 
 use crate::block_parts::{BlockParts, block_parts, offer_text};
-use crate::sure::{must, sure};
+use crate::sure::sure;
 use mc_calls::{Call, Tag, shard_of};
 use mc_store::{Pass, StoreTable};
 use std::alloc::Global;
@@ -27,7 +27,7 @@ fn get_once(rt: &impl Abort, alloc: Global, store: &StoreTable, pass: &mut Pass)
     requires table { pass.old.table ≡ store.now.id }
     ensures table { pass.new.table ≡ store.now.id }
 {
-    must(rt, pass.count() < 1 << 40);
+    assert!(rt; pass.count() < 1 << 40);
     let tag = Tag {
         conn: pass.conn(),
         index: 0,
@@ -163,5 +163,5 @@ fn frames_are_offered_while_a_block_is_held(rt: HostRuntime) {
     drop(block);
     drop(root);
     drop(store);
-    must(&rt, sent.count >= 1_000 && sent.wrong == 0);
+    assert!(rt; sent.count >= 1_000 && sent.wrong == 0);
 }

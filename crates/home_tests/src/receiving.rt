@@ -1,9 +1,10 @@
 //! What a home receives, and what it does until it is settled.
-ghost use Rattle.std.specs.Prelude.{◌≡◌, ◌+◌, ◌<◌, ◌≤◌, ◌^◌, false};
+ghost use Rattle.std.specs.Prelude.{◌≡◌, ◌<◌, ◌^◌, false};
 ghost use Rattle.zy_conn.specs.Block.{label_of};
+ghost use Rattle.zy_home.specs.Home.{SameFor};
 
 use crate::home_parts::Setup;
-use crate::sure::{must, sure};
+use crate::sure::sure;
 use std::alloc::Global;
 use std::process::Abort;
 use zy_base::{Blob, Ungated};
@@ -50,10 +51,7 @@ pub(crate) fn receive(
     requires table { home.old.pass.table ≡ ring.now.id }
     requires few { home.old.pass.count < 2 ^ 62 }
     requires live { home.old.refused ≡ false }
-    ensures table { home.new.pass.table ≡ home.old.pass.table }
-    ensures label { home.new.pass.label ≡ home.old.pass.label }
-    ensures cores { home.new.cores ≡ home.old.cores }
-    ensures count { home.new.pass.count ≤ home.old.pass.count + 64 }
+    ensures same { SameFor 64 home.old home.new }
     ensures live { home.new.refused ≡ false }
 {
     let (mut inlet, mut outlet) = sure(rt, zy_rx::ring(alloc, SLOTS));
@@ -61,7 +59,7 @@ pub(crate) fn receive(
         let refused = inlet.offer(item_of(rt, alloc, *item));
         let is_offered = refused.is_none();
         drop(refused);
-        must(rt, is_offered);
+        assert!(rt; is_offered);
     }
     sure(rt, home.receive_all(ring, &mut outlet));
     drop(inlet);

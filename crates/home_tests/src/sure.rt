@@ -1,5 +1,5 @@
-//! What a test relies on: memory, and that what it saw is right.
-ghost use Rattle.std.specs.Prelude.{◌≡◌, Ok, true};
+//! What a test relies on: memory.
+ghost use Rattle.std.specs.Prelude.{◌≡◌, Ok};
 
 use std::process::Abort;
 
@@ -11,11 +11,4 @@ pub(crate) fn sure<T, E>(rt: &impl Abort, made: Result<T, E>) -> T
         Ok(value) => value,
         Err(_) => panic!(rt; "no memory"),
     }
-}
-
-/// Ends the test if what it saw is not right.
-pub(crate) fn must(rt: &impl Abort, is_right: bool)
-    ensures value { is_right ≡ true }
-{
-    assert!(rt; is_right);
 }

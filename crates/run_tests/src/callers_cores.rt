@@ -9,7 +9,7 @@ use std::process::Abort;
 use std::sync::Wait;
 use std::thread::Threads;
 use zy_base::{Blob, CallNumbers, MemSource};
-use zy_core::Running;
+use zy_core::{Cores, Running, Shared};
 use zy_drive::{Driven, FirstGroup, drive_groups};
 use zy_feed::{CaptureFeeder, Inlets, Intake};
 use zy_park::Bells;
@@ -193,28 +193,8 @@ fn drive_run<R: Threads + Wait + Abort + Sync>(
         offered: 0,
         waiting: 0,
     };
-    let is_settled = match Bells::new(alloc, CORES) {
-        Ok((bells, mut bell_root)) => {
-            let driven = drive_groups(
-                rt,
-                alloc,
-                cores,
-                case.threads,
-                &shared,
-                gate,
-                &mut feeder,
-                &bells,
-                &mut bell_root,
-                0,
-                FirstGroup::Caller,
-            );
-            drop(bell_root);
-            drop(bells);
-            end(driven)
-        }
-        Err(_) => panic!(rt; "no memory"),
-    };
-    must(rt, is_settled);
+    let driven = drive_watched(rt, alloc, cores, &shared, &mut feeder);
+    must(rt, end(driven));
     let Watched {
         feeder,
         gate: _,
@@ -226,6 +206,40 @@ fn drive_run<R: Threads + Wait + Abort + Sync>(
     drop(shared);
     drop(root);
     waiting
+}
+
+// Drives the cores with this feeder, the first group of them on the caller's thread. No core rests.
+fn drive_watched<R: Threads + Wait + Abort + Sync, F: Feeder>(
+    rt: &R,
+    alloc: Global,
+    cores: Cores,
+    shared: &Shared,
+    feeder: &mut Watched<F>,
+) -> Driven
+    requires threads { (1 ≤ feeder.old.case.threads) × (feeder.old.case.threads ≤ 64) }
+    requires cores { AreCores shared.now (identities cores) }
+    requires count { length shared.now.rings ≡ 2 }
+    requires fresh { ¬ F.ended feeder.old.feeder × ¬ F.broken feeder.old.feeder }
+{
+    let (bells, mut root) = sure(rt, Bells::new(alloc, CORES));
+    let threads = feeder.case.threads;
+    let gate = feeder.gate;
+    let driven = drive_groups(
+        rt,
+        alloc,
+        cores,
+        threads,
+        shared,
+        gate,
+        feeder,
+        &bells,
+        &mut root,
+        0,
+        FirstGroup::Caller,
+    );
+    drop(root);
+    drop(bells);
+    driven
 }
 
 // Checks whether the cores were driven to the end.

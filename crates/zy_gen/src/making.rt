@@ -1,5 +1,5 @@
 //! The capture of generated traffic.
-ghost use Rattle.std.specs.Prelude.{◌≡◌, ◌<◌, ◌≤◌, ◌++◌, flat_map, length, IfOk, OnOk};
+ghost use Rattle.std.specs.Prelude.{◌≡◌, ◌<◌, ◌≤◌, [], ◌∷◌, ◌++◌, flat_map, length, IfOk, OnOk};
 ghost use Rattle.zy_capture.specs.Capture.{spelled};
 ghost use Rattle.zy_gen.specs.Draw.{draw_command};
 ghost use Rattle.zy_gen.specs.Traffic.{command_text, segment_record, one_command, one_round, rounds, gen_bytes, IsTraffic, head};
@@ -22,15 +22,21 @@ pub fn generate(alloc: Global, number: u32, conns: u32, commands: u32) -> Result
         out: Blob::new(alloc),
         line: Blob::new(alloc),
     };
-    append_head(&mut making.out, conns)?;
-    making.append_rounds(conns, commands)?;
-    making.out.append(b"E")?;
-    let Making {
-        words: _,
-        out,
-        line: _,
-    } = making;
-    Ok(out)
+    match making.append_all(conns, commands) {
+        Ok(()) => {
+            let Making {
+                words: _,
+                out,
+                line,
+            } = making;
+            drop(line);
+            Ok(out)
+        }
+        Err(e) => {
+            drop(making);
+            Err(e)
+        }
+    }
 }
 
 // The capture so far, the command that is written, and the numbers that are left.
@@ -42,6 +48,17 @@ struct Making {
 }
 
 impl Making {
+    // Appends the whole capture.
+    fn append_all(&mut self, conns: u32, commands: u32) -> Result<(), NoMemory>
+        requires few { conns ≤ 4096 }
+        ensures ok { OnOk result (self.new.out ≡ self.old.out ++ head conns
+            ++ flat_map spelled (rounds conns commands self.old.words).items ++ 69 ∷ []) }
+    {
+        append_head(&mut self.out, conns)?;
+        self.append_rounds(conns, commands)?;
+        self.out.append(b"E")
+    }
+
     // Appends the segments of `commands` rounds.
     fn append_rounds(&mut self, conns: u32, commands: u32) -> Result<(), NoMemory>
         requires few { conns ≤ 4096 }

@@ -1,9 +1,10 @@
 -- A feeder that was made from an intake that has begun, and from inlets to which nothing was sent.
-use Rattle.std.proofs.Common.{◌≡◌, ℕ, ◌≤◌, List, sym, ap, ◌∙◌, subst}
+use Rattle.std.proofs.Common.{◌≡◌, ◌⊎◌, inl, inr, ℕ, ◌≤◌, List, sym, ap, ◌∙◌, subst}
 use Rattle.std.specs.Prelude.{Option, Some}
 use Rattle.zy_rx.specs.Ring.{Offering}
 use Rattle.zy_rx.specs.Feed.{sent_by}
 use Rattle.zy_read.specs.declared.stop.Stop.{Stop}
+use Rattle.zy_read.specs.declared.stop.Stop.TheVariants.{NoMemory}
 use Rattle.zy_capture.specs.declared.capture_fault.CaptureFault.{CaptureFault}
 use Rattle.zy_feed.specs.declared.stage.Stage.{Stage}
 use Rattle.zy_feed.specs.declared.stage.Stage.TheVariants.{Cutting, Ended}
@@ -30,8 +31,13 @@ module _ {S : Type 0} (rest : S → Option (List ℕ)) (faults : S → ℕ) (fir
   pub fed : stage' ≡ Ended → HasFedAll rest faults first later header (sent_by after)
   fed ended = fed_all rest faults first header (feeding now made ends stage) (feeding later further after stage') begun none cutting ended leads
 
-  pub stopped : (stop : Stop CaptureFault) → stop_in stage' ≡ Some stop → StopsIntakeBy rest faults first later stop
+  stopped : (stop : Stop CaptureFault) → stop_in stage' ≡ Some stop → StopsIntakeBy rest faults first later stop
   stopped stop broken = (has_cause rest faults first header (feeding now made ends stage) (feeding later further after stage') stop begun none cutting broken leads).cause
+
+  -- the cause in its stage, or that memory was refused
+  pub stopped_for : (found : Option (Stop CaptureFault)) (stop : Stop CaptureFault) → found ≡ stop_in stage' → (found ≡ Some stop) ⊎ (stop ≡ NoMemory) → StopsIntakeBy rest faults first later stop
+  stopped_for found stop is (inl at) = stopped stop (sym is ∙ at)
+  stopped_for found stop is (inr none) = subst (StopsIntakeBy rest faults first later) (sym none) tt
 
   pub counted : faults first ≤ faults later
   counted = counts_on rest faults first header (feeding now made ends stage) (feeding later further after stage') begun none cutting leads

@@ -1,5 +1,6 @@
 //! Driving the cores of a run while its capture is fed.
-ghost use Rattle.std.specs.Prelude.{◌≡◌, ◌≤◌, ◌<◌, length, IfOk, IfErr};
+ghost use Rattle.std.specs.Prelude.{◌≡◌, ◌⊎◌, ◌≤◌, ◌<◌, length, Some, IfOk, IfErr};
+ghost use Rattle.zy_read.specs.declared.stop.Stop.TheVariants as Stops;
 ghost use Rattle.zy_feed.specs.Reads.{HasBegun, StopsIntakeBy};
 ghost use Rattle.zy_feed.specs.Feeding.{HasFedAll};
 ghost use Rattle.zy_rx.specs.Feed.{rings_of, sent_by};
@@ -68,40 +69,43 @@ pub(crate) fn drive_capture<R: Threads + Wait + Sync, S: Source, G: Gate + Sync>
     let (source, inlets, stop) = feeder.into_parts();
     take_back(source);
     let inlets = inlets.into_vec();
-    match driven {
-        Driven::Settled(cores) => Ok(Running {
+    match settled_cores(driven, stop) {
+        Ok(cores) => Ok(Running {
             cores,
             shared,
             inlets,
             root,
         }),
-        Driven::Broken(cores) => {
-            let broken = Running {
+        Err((cores, stop)) => {
+            let stopped = Running {
                 cores,
                 shared,
                 inlets,
                 root,
             };
-            broken.abandon();
-            match stop {
-                Some(stop) => Err(stop),
-                None => Err(Stop::NoMemory),
-            }
-        }
-        Driven::NoMemory(cores) => {
-            let refused = Running {
-                cores,
-                shared,
-                inlets,
-                root,
-            };
-            refused.abandon();
-            Err(Stop::NoMemory)
+            stopped.abandon();
+            Err(stop)
         }
     }
 }
 
-// Drives the cores on one thread, by the requested order, or on several.
+// Returns the cores if they are settled, and otherwise hands them back with the cause. The feeder
+// stopped for `stop`, if it did.
+fn settled_cores(driven: Driven, stop: Option<Stop>) -> Result<Cores, (Cores, Stop)>
+    ensures ok { IfOk result (λ cores. IsSettledRun driven × (returned_cores driven ≡ cores)) }
+    ensures err { IfErr result (λ e. (stop ≡ Some e.1) ⊎ (e.1 ≡ Stops.NoMemory)) }
+{
+    match driven {
+        Driven::Settled(cores) => Ok(cores),
+        Driven::Broken(cores) => match stop {
+            Some(stop) => Err((cores, stop)),
+            None => Err((cores, Stop::NoMemory)),
+        },
+        Driven::NoMemory(cores) => Err((cores, Stop::NoMemory)),
+    }
+}
+
+// Drives the cores on one thread, by the requested order, or on several, which may rest at bells.
 pub(crate) fn drive_cores<R: Threads + Wait + Sync, F: Feeder, G: Gate + Sync>(
     rt: &R,
     alloc: Global,
@@ -124,33 +128,8 @@ pub(crate) fn drive_cores<R: Threads + Wait + Sync, F: Feeder, G: Gate + Sync>(
     ensures rings { rings_of (F.inlets feeder.new) ≡ rings_of (F.inlets feeder.old) }
 {
     if run.threads == 1 {
-        drive_ordered(rt, cores, run.order, shared, gate, feeder)
-    } else {
-        drive_threads(rt, alloc, run, cores, shared, gate, feeder)
+        return drive_ordered(rt, cores, run.order, shared, gate, feeder);
     }
-}
-
-// Makes the bells of the cores, and drives the cores on several threads.
-fn drive_threads<R: Threads + Wait + Sync, F: Feeder, G: Gate + Sync>(
-    rt: &R,
-    alloc: Global,
-    run: Run,
-    cores: Cores,
-    shared: &Shared,
-    gate: &G,
-    feeder: &mut F,
-) -> Driven
-    requires runnable { IsRunnable run }
-    requires cores { AreCores shared.now (identities cores) }
-    requires count { length shared.now.rings ≡ run.cores }
-    requires fresh { ¬ F.ended feeder.old × ¬ F.broken feeder.old }
-    ensures settled { IsSettledRun result
-        → F.ended feeder.new × EachSettled (returned_cores result) }
-    ensures broken { IsBrokenRun result → F.broken feeder.new }
-    ensures same { identities (returned_cores result) ≡ identities cores }
-    ensures leads { F.leads feeder.old feeder.new }
-    ensures rings { rings_of (F.inlets feeder.new) ≡ rings_of (F.inlets feeder.old) }
-{
     let (bells, mut root) = match Bells::new(alloc, run.cores) {
         Ok(made) => made,
         Err(NoMemory) => return Driven::NoMemory(cores),

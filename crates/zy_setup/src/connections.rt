@@ -99,35 +99,15 @@ pub(crate) fn all_owns(
     ensures given { OnOk result ((conn : ℕ) → (is_in conn root.new.given ≡ true) ↔ (conn < count)) }
 {
     let mut owns = Vec::new(alloc);
-    match fill(alloc, count, cores, store, root, &mut owns) {
+    if let Err(e) = add_cores(alloc, cores, &mut owns) {
+        drop(owns);
+        return Err(e);
+    }
+    match add_connections(alloc, count, cores, store, root, &mut owns) {
         Ok(()) => Ok(owns),
         Err(e) => {
             drop(owns);
             Err(e)
         }
     }
-}
-
-// Adds the cores with their connections.
-fn fill(
-    alloc: Global,
-    count: u32,
-    cores: u32,
-    store: &StoreTable,
-    root: &mut Root,
-    owns: &mut Vec<OwnConnections>,
-) -> Result<(), NoMemory>
-    requires few { count ≤ 4096 }
-    requires some { 1 ≤ cores }
-    requires cores { cores ≤ 64 }
-    requires table { root.old.table ≡ store.now.id }
-    requires none { root.old.given ≡ [] }
-    requires empty { owns.old.items ≡ [] }
-    ensures owns { OnOk result (AreOwns store.now.id cores count owns.new.items) }
-    ensures table { OnOk result (root.new.table ≡ root.old.table) }
-    ensures joined { OnOk result (root.new.joined ≡ root.old.joined) }
-    ensures given { OnOk result ((conn : ℕ) → (is_in conn root.new.given ≡ true) ↔ (conn < count)) }
-{
-    add_cores(alloc, cores, owns)?;
-    add_connections(alloc, count, cores, store, root, owns)
 }

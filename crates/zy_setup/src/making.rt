@@ -125,11 +125,10 @@ impl Making {
         requires ready { AreReady shared.now.rings shared.now.store homes.items passes.items }
         ensures ok { OnOk result (HasMadeAll shared.now homes.items passes.items self.new) }
     {
-        let count = homes.len() as u32;
         let mut passes = passes;
         for home in homes {
             let own = passes.remove(0);
-            self.add(alloc, shared, count, home, own)?;
+            self.add(alloc, shared, home, own)?;
         }
         Ok(())
     }
@@ -139,20 +138,20 @@ impl Making {
         &mut self,
         alloc: Global,
         shared: &Shared,
-        count: u32,
         home: Home,
         passes: Passes<Block>,
     ) -> Result<(), NoMemory>
-        requires count { count ≡ length shared.now.rings }
-        requires few { count ≤ 64 }
-        requires next { length self.old.inlets.items < count }
-        requires root { self.old.root ≡ rooted shared.now.control.id (length self.old.inlets.items) count }
+        requires few { length shared.now.rings ≤ 64 }
+        requires next { length self.old.inlets.items < length shared.now.rings }
+        requires root { self.old.root ≡ rooted shared.now.control.id (length self.old.inlets.items)
+            (length shared.now.rings) }
         requires home { IsNewHome shared.now.rings (run_label shared.now) (length shared.now.rings)
             (length self.old.inlets.items) home }
         requires passes { AreNewPasses shared.now.rings (run_label shared.now) (length self.old.inlets.items) passes }
         ensures ok { OnOk result (AddsCore shared.now home passes self.old self.new) }
     {
         let number = self.inlets.len() as u32;
+        let count = shared.count() as u32;
         let (inlet, outlet) = match ring(alloc, SLOTS) {
             Ok(ends) => ends,
             Err(e) => {

@@ -23,37 +23,44 @@ pub(crate) enum Part {
     Home,
 }
 
-/// Times `rounds` rounds, each of 200 times `size` commands; `size` counts as 64 if it is greater.
+/// What is timed: this number of rounds, of `size` commands for each connection.
+#[derive(Clone, Copy)]
+pub(crate) struct Rounds {
+    pub(crate) count: u64,
+    pub(crate) size: u64,
+}
+
+/// Times `count` rounds, each of 200 times `size` commands; `size` counts as 64 if it is greater.
 pub(crate) fn measured<R: CpuClock>(
     rt: &R,
     alloc: Global,
     part: Part,
-    rounds: u64,
+    count: u64,
     size: u64,
 ) -> Result<Done, NoMemory> {
-    let rounds = rounds.min(1 << 20);
-    let size = size.min(64);
-    let spent = work(rt, alloc, part, rounds, size)?;
+    let rounds = Rounds {
+        count: count.min(1 << 20),
+        size: size.min(64),
+    };
+    let spent = work(rt, alloc, part, rounds)?;
     Ok(Done {
-        count: rounds * (size * 200),
+        count: rounds.count * (rounds.size * 200),
         nanos: spent,
     })
 }
 
-// Returns the nanoseconds that `rounds` rounds take, each of 200 times `size` commands.
-fn work<R: CpuClock>(
-    rt: &R,
-    alloc: Global,
-    part: Part,
-    rounds: u64,
-    size: u64,
-) -> Result<u64, NoMemory>
-    requires rounds { rounds ≤ 2 ^ 20 }
-    requires size { size ≤ 64 }
+// Returns the nanoseconds that these rounds take, each of 200 times `size` commands.
+fn work<R: CpuClock>(rt: &R, alloc: Global, part: Part, rounds: Rounds) -> Result<u64, NoMemory>
+    requires rounds { rounds.count ≤ 2 ^ 20 }
+    requires size { rounds.size ≤ 64 }
 {
+    let single = Rounds {
+        count: rounds.count * 200,
+        size: rounds.size,
+    };
     match part {
-        Part::Shard => shard::alone(rt, alloc, rounds * 200, size),
-        Part::Block => holding::held(rt, alloc, rounds * 200, size),
-        Part::Home => starting::homed(rt, alloc, rounds, size),
+        Part::Shard => shard::alone(rt, alloc, single),
+        Part::Block => holding::held(rt, alloc, single),
+        Part::Home => starting::homed(rt, alloc, rounds),
     }
 }

@@ -6,16 +6,13 @@ ghost use Rattle.zygos_run.specs.Ends.{LeavesSink};
 ghost use Rattle.zygos_run.specs.Finish.{FinishesOnce};
 ghost use Rattle.zygos_linear.specs.Answers.{answer_of_check};
 ghost use Rattle.zygos_linear.specs.Ends.{HasCause};
-ghost use Rattle.zygos_linear.specs.Input.{FindsIn};
 
 use crate::answer::Answer;
-use crate::finding::Finding;
-use crate::judging::judge_parts;
+use crate::judging::find;
 use crate::writing::write_finding;
 use std::alloc::Global;
 use zy_base::{Failed, Sink, Source};
-use zy_input::{Stop, read_noted_parts};
-use zy_times::Times;
+use zy_input::Stop;
 
 /// Reads a capture, a journal and a replies file, and writes the line of what is found of them.
 pub(crate) fn judge_input<S: Source, K: Sink>(
@@ -42,16 +39,4 @@ pub(crate) fn judge_input<S: Source, K: Sink>(
         Err(Stop::ReadFault) => Answer::ReadFault,
         Err(Stop::NoMemory) => Answer::OutOfMemory,
     }
-}
-
-// Reads the three parts, and judges them.
-fn find<S: Source>(alloc: Global, shards: u32, source: &mut S) -> Result<Finding, Stop>
-    requires shards { AreShards shards }
-    ensures reads { S.faults source.old ≤ S.faults source.new }
-    ensures ends { FindsIn shards (side S.rest S.faults source.old source.new) result }
-{
-    let parts = read_noted_parts::<Times, S>(alloc, source)?;
-    let found = judge_parts(alloc, &parts, shards);
-    drop(parts);
-    Ok(found?)
 }

@@ -2,6 +2,7 @@
 ghost use Rattle.std.specs.Prelude.{◌≡◌, []};
 
 use crate::clock::nanos;
+use crate::conn::Rounds;
 use crate::conn::load::text_of;
 use mc_store::{Root, StoreTable};
 use std::alloc::Global;
@@ -11,28 +12,22 @@ use zy_calls::Output;
 use zy_conn::{Block, EventInlet};
 use zy_frame::{Framer, Frames};
 
-/// Returns the nanoseconds of `rounds` holds, on a store of 16 shards.
-pub(crate) fn held<R: CpuClock>(
-    rt: &R,
-    alloc: Global,
-    rounds: u64,
-    size: u64,
-) -> Result<u64, NoMemory> {
+/// Returns the nanoseconds of a hold for each of these rounds, on a store of 16 shards.
+pub(crate) fn held<R: CpuClock>(rt: &R, alloc: Global, rounds: Rounds) -> Result<u64, NoMemory> {
     let (store, mut root) = StoreTable::new(alloc, 16)?;
-    let spent = held_on(rt, alloc, &store, &mut root, rounds, size);
+    let spent = held_on(rt, alloc, &store, &mut root, rounds);
     drop(root);
     drop(store);
     spent
 }
 
-// Returns the nanoseconds of `rounds` holds, on this store.
+// Returns the nanoseconds of these holds, on this store.
 fn held_on<R: CpuClock>(
     rt: &R,
     alloc: Global,
     store: &StoreTable,
     root: &mut Root,
-    rounds: u64,
-    size: u64,
+    rounds: Rounds,
 ) -> Result<u64, NoMemory>
     requires table { root.old.table ≡ store.now.id }
     requires fresh { root.old.given ≡ [] }
@@ -40,7 +35,7 @@ fn held_on<R: CpuClock>(
     let pass = store.split(root, 0)?;
     match Block::new(alloc, 0, pass) {
         Ok((mut block, mut inlet)) => {
-            let spent = hold_all(rt, alloc, store, &mut block, &mut inlet, rounds, size);
+            let spent = hold_all(rt, alloc, store, &mut block, &mut inlet, rounds);
             drop(block);
             drop(inlet);
             spent
@@ -52,22 +47,21 @@ fn held_on<R: CpuClock>(
     }
 }
 
-// Offers frames, and holds the block, `rounds` times.
+// Offers frames, and holds the block, in each round.
 fn hold_all<R: CpuClock>(
     rt: &R,
     alloc: Global,
     store: &StoreTable,
     block: &mut Block,
     inlet: &mut EventInlet,
-    rounds: u64,
-    size: u64,
+    rounds: Rounds,
 ) -> Result<u64, NoMemory>
     requires table { block.old.work.table ≡ store.now.id }
     requires cores { block.old.cores ≡ 64 }
 {
     let mut spent = 0u64;
-    for round in 0..rounds {
-        offer(alloc, inlet, round.wrapping_mul(size), size)?;
+    for round in 0..rounds.count {
+        offer(alloc, inlet, round.wrapping_mul(rounds.size), rounds.size)?;
         spent = spent.wrapping_add(hold_once(rt, alloc, store, block)?);
     }
     Ok(spent)

@@ -1,8 +1,10 @@
 //! A home of 200 connections, each of which gets a segment in turn.
-ghost use Rattle.std.specs.Prelude.{◌≡◌, ◌≤◌, ◌+◌, ◌*◌, ◌^◌, false, OnOk};
+ghost use Rattle.std.specs.Prelude.{◌≡◌, ◌≤◌, ◌^◌, false, OnOk};
 ghost use Rattle.zy_conn.specs.Block.{label_of};
+ghost use Rattle.zy_home.specs.Home.{SameFor};
 
 use crate::clock::nanos;
+use crate::conn::Rounds;
 use crate::conn::load::text_of;
 use mc_store::StoreTable;
 use std::alloc::Global;
@@ -26,7 +28,7 @@ pub(crate) struct Ends {
     pub(crate) outlet: Outlet,
 }
 
-/// Times `rounds` rounds: each connection gets a segment, and then the home serves them all.
+/// Times these rounds: each connection gets a segment, and then the home serves them all.
 pub(crate) fn serve_rounds<R: CpuClock>(
     rt: &R,
     alloc: Global,
@@ -34,18 +36,17 @@ pub(crate) fn serve_rounds<R: CpuClock>(
     store: &StoreTable,
     home: &mut Home,
     ends: &mut Ends,
-    rounds: u64,
-    size: u64,
+    rounds: Rounds,
 ) -> Result<u64, NoMemory>
-    requires rounds { rounds ≤ 2 ^ 20 }
+    requires rounds { rounds.count ≤ 2 ^ 20 }
     requires table { home.old.pass.table ≡ ring.now.id }
     requires label { home.old.pass.label ≡ label_of store.now.id home.old.cores }
     requires live { home.old.refused ≡ false }
     requires count { home.old.pass.count ≡ 0 }
 {
     let mut spent = 0u64;
-    for round in 0..rounds {
-        offer_all(alloc, &mut ends.inlet, round, size)?;
+    for round in 0..rounds.count {
+        offer_all(alloc, &mut ends.inlet, round, rounds.size)?;
         let nanos = serve_items(rt, ring, store, home, &mut ends.outlet)?;
         spent = spent.wrapping_add(nanos);
     }
@@ -76,10 +77,8 @@ fn serve_items<R: CpuClock>(
     requires label { home.old.pass.label ≡ label_of store.now.id home.old.cores }
     requires live { home.old.refused ≡ false }
     requires few { home.old.pass.count ≤ 2 ^ 30 }
-    ensures kept { (home.new.pass.table ≡ home.old.pass.table) × (home.new.pass.label ≡ home.old.pass.label) }
-    ensures cores { home.new.cores ≡ home.old.cores }
+    ensures same { SameFor 456 home.old home.new }
     ensures live { OnOk result (home.new.refused ≡ false) }
-    ensures count { home.new.pass.count ≤ home.old.pass.count + 456 }
 {
     let begin = nanos(rt);
     receive_all(ring, home, outlet)?;
@@ -92,10 +91,8 @@ fn receive_all(ring: &Ring<Block>, home: &mut Home, outlet: &mut Outlet) -> Resu
     requires table { home.old.pass.table ≡ ring.now.id }
     requires live { home.old.refused ≡ false }
     requires few { home.old.pass.count ≤ 2 ^ 60 }
-    ensures kept { (home.new.pass.table ≡ home.old.pass.table) × (home.new.pass.label ≡ home.old.pass.label) }
-    ensures cores { home.new.cores ≡ home.old.cores }
+    ensures same { SameFor 256 home.old home.new }
     ensures live { OnOk result (home.new.refused ≡ false) }
-    ensures count { home.new.pass.count ≤ home.old.pass.count + 256 }
 {
     for _time in 0..TIMES {
         if let Err(e) = home.receive_all(ring, outlet) {
@@ -111,10 +108,8 @@ fn own_all(ring: &Ring<Block>, store: &StoreTable, home: &mut Home) -> Result<()
     requires label { home.old.pass.label ≡ label_of store.now.id home.old.cores }
     requires live { home.old.refused ≡ false }
     requires few { home.old.pass.count ≤ 2 ^ 60 }
-    ensures kept { (home.new.pass.table ≡ home.old.pass.table) × (home.new.pass.label ≡ home.old.pass.label) }
-    ensures cores { home.new.cores ≡ home.old.cores }
+    ensures same { SameFor 200 home.old home.new }
     ensures live { OnOk result (home.new.refused ≡ false) }
-    ensures count { home.new.pass.count ≤ home.old.pass.count + 200 }
 {
     for _turn in 0..CONNECTIONS {
         match home.own(ring, store, &Ungated) {

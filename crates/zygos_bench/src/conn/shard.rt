@@ -1,6 +1,7 @@
 //! A shard only, which gets the calls of the commands.
 use crate::calls::apply;
 use crate::clock::nanos;
+use crate::conn::Rounds;
 use crate::conn::load::call_of;
 use mc_calls::Call;
 use mc_shard::Shard;
@@ -8,29 +9,24 @@ use std::alloc::Global;
 use std::time::CpuClock;
 use zy_base::{NoMemory, Queue};
 
-/// Returns the nanoseconds of `rounds` rounds of calls.
-pub(crate) fn alone<R: CpuClock>(
-    rt: &R,
-    alloc: Global,
-    rounds: u64,
-    size: u64,
-) -> Result<u64, NoMemory> {
+/// Returns the nanoseconds of these rounds of calls.
+pub(crate) fn alone<R: CpuClock>(rt: &R, alloc: Global, rounds: Rounds) -> Result<u64, NoMemory> {
     let mut shard = Shard::new(alloc, 0, 1);
-    let spent = make_rounds(rt, alloc, &mut shard, rounds, size);
+    let spent = make_rounds(rt, alloc, &mut shard, rounds);
     drop(shard);
     spent
 }
 
-// Returns the nanoseconds of `rounds` rounds, on this shard.
+// Returns the nanoseconds of these rounds, on this shard.
 fn make_rounds<R: CpuClock>(
     rt: &R,
     alloc: Global,
     shard: &mut Shard,
-    rounds: u64,
-    size: u64,
+    rounds: Rounds,
 ) -> Result<u64, NoMemory> {
+    let size = rounds.size;
     let mut spent = 0u64;
-    for round in 0..rounds {
+    for round in 0..rounds.count {
         let mut calls = Queue::new(alloc);
         let made = make_round(rt, alloc, shard, &mut calls, round.wrapping_mul(size), size);
         drop(calls);

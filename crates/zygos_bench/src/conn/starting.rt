@@ -2,6 +2,7 @@
 ghost use Rattle.std.specs.Prelude.{◌≡◌, ◌≤◌, ◌^◌, length};
 ghost use Rattle.zy_setup.specs.New.{AreNewCores};
 
+use crate::conn::Rounds;
 use crate::conn::homing::{CONNECTIONS, Ends, serve_rounds};
 use std::alloc::Global;
 use std::time::CpuClock;
@@ -9,18 +10,13 @@ use zy_base::NoMemory;
 use zy_core::Running;
 use zy_setup::make_run;
 
-/// Returns the nanoseconds of `rounds` rounds, in each of which each connection gets a segment, on
-/// a store of 16 shards.
-pub(crate) fn homed<R: CpuClock>(
-    rt: &R,
-    alloc: Global,
-    rounds: u64,
-    size: u64,
-) -> Result<u64, NoMemory>
-    requires rounds { rounds ≤ 2 ^ 20 }
+/// Returns the nanoseconds of these rounds, in each of which each connection gets a segment, on a
+/// store of 16 shards.
+pub(crate) fn homed<R: CpuClock>(rt: &R, alloc: Global, rounds: Rounds) -> Result<u64, NoMemory>
+    requires rounds { rounds.count ≤ 2 ^ 20 }
 {
     let running = make_run(alloc, CONNECTIONS, 1, 16)?;
-    serve_run(rt, alloc, running, rounds, size)
+    serve_run(rt, alloc, running, rounds)
 }
 
 // Returns these nanoseconds, of a run with one core.
@@ -28,10 +24,9 @@ fn serve_run<R: CpuClock>(
     rt: &R,
     alloc: Global,
     running: Running,
-    rounds: u64,
-    size: u64,
+    rounds: Rounds,
 ) -> Result<u64, NoMemory>
-    requires rounds { rounds ≤ 2 ^ 20 }
+    requires rounds { rounds.count ≤ 2 ^ 20 }
     requires cores { length running.cores ≡ 1 }
     requires count { length running.shared.rings ≡ 1 }
     requires ends { length running.inlets.items ≡ 1 }
@@ -57,7 +52,7 @@ fn serve_run<R: CpuClock>(
     };
     drop(inlets);
     let ring = rings.ring(0);
-    let spent = serve_rounds(rt, alloc, ring, &store, &mut home, &mut ends, rounds, size);
+    let spent = serve_rounds(rt, alloc, ring, &store, &mut home, &mut ends, rounds);
     drop(ends);
     drop(home);
     drop(rings);

@@ -1,4 +1,4 @@
-use Rattle.zygos_linear.proofs.input.find.Goals as goal
+use Rattle.zygos_linear.proofs.judging.find.Goals as goal
 
 pub returns-clause-ends : goal.returns-clause-ends
 returns-clause-ends g c =
