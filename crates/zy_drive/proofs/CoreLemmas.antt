@@ -64,8 +64,8 @@ module _ (R : Cored → Cored → Type 0) where
       → RelatedBelow (i + 1) cs (set ds i d)
   related_more i cs ds c d there same here below k x y lt was is = dite (ℕ_discrete k i)
       (λ e. let after : d ≡ y = get_set_same ds i d y (ap (slice_get (set ds i d)) (sym e) ∙ is) in
-        let both : Some c ≡ Some x = sym there ∙ same i (omega arith) ∙ ap (slice_get cs) (sym e) ∙ was in
-        let before : c ≡ x = cc in subst (λ z. R z y) before (subst (R c) after here))
+      let both : Some c ≡ Some x = sym there ∙ same i (omega arith) ∙ ap (slice_get cs) (sym e) ∙ was in
+      let before : c ≡ x = cc in subst (λ z. R z y) before (subst (R c) after here))
       (λ ne. below k x y (omega arith) was (sym (get_set_else ds i k d ne) ∙ is))
 
   -- all are

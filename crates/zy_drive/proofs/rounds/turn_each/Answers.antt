@@ -21,7 +21,7 @@ loop-i-preserved g c =
       same = same_there c.args.cores.now.items c.loop-i.cores.items c.loop-i.i c.index_mut-core.result.now c.turn_one.new.core (omega arith) c.index_mut-core.ensures.value c.turn_one.ensures.same c.loop-i.invariant.same;
       len = search rules;
       turned = related_more HasTurned c.loop-i.i c.args.cores.now.items c.loop-i.cores.items c.index_mut-core.result.now c.turn_one.new.core (get_at c.loop-i.cores.items c.loop-i.i c.index_mut-core.result.now c.index_mut-core.result.now (omega arith) c.index_mut-core.ensures.value)
-        c.loop-i.invariant.rest c.in_ok-turn.ensures.turns c.loop-i.invariant.turned;
+          c.loop-i.invariant.rest c.in_ok-turn.ensures.turns c.loop-i.invariant.turned;
       rest = same_more c.loop-i.i c.args.cores.now.items c.loop-i.cores.items c.turn_one.new.core c.loop-i.invariant.rest;
       awake = c.with-round.ensures.awake;
     }
