@@ -16,15 +16,21 @@ pub(crate) enum Shape {
     Given,
 }
 
+/// The service times.
+#[derive(Clone, Copy)]
+pub(crate) struct Service {
+    pub(crate) shape: Shape,
+    /// The mean, in nanoseconds.
+    pub(crate) mean: u64,
+}
+
 /// A requested load.
 #[derive(Clone, Copy)]
 pub(crate) struct Load {
     pub(crate) cores: u32,
     /// Half of the requests are of connections of the first core, or each core has its even part.
     pub(crate) skewed: bool,
-    pub(crate) shape: Shape,
-    /// The mean service time, in nanoseconds.
-    pub(crate) service: u64,
+    pub(crate) service: Service,
     /// The mean time from one request to the next, in picoseconds.
     pub(crate) gap: u64,
     /// The number of requests.
@@ -49,6 +55,25 @@ const EACH: u32 = 64;
 // Flow groups are dealt to the cores in turn.
 const GROUPS: u32 = 128;
 
+impl Service {
+    /// Returns the service time for a random number; the mean if times were to be given and none
+    /// was.
+    pub(crate) fn time_of(&self, draw: u64) -> u64 {
+        match self.shape {
+            Shape::Fixed | Shape::Given => self.mean,
+            Shape::Exponential => exponential(draw, self.mean),
+            Shape::Bimodal => {
+                let short = self.mean.wrapping_mul(10) / 19;
+                if draw % 10 == 0 {
+                    short.wrapping_mul(10)
+                } else {
+                    short
+                }
+            }
+        }
+    }
+}
+
 impl Load {
     /// Returns the time from one request to the next, in picoseconds.
     pub(crate) fn gap_of(&self, draw: u64) -> u64 {
@@ -58,23 +83,6 @@ impl Load {
     /// Returns the random number for the service time of the request with this place.
     pub(crate) fn draw_of(&self, place: usize) -> u64 {
         mixed((place as u64) ^ mixed(self.number))
-    }
-
-    /// Returns the service time for a random number; the mean if times were to be given and none
-    /// was.
-    pub(crate) fn service_of(&self, draw: u64) -> u64 {
-        match self.shape {
-            Shape::Fixed | Shape::Given => self.service,
-            Shape::Exponential => exponential(draw, self.service),
-            Shape::Bimodal => {
-                let short = self.service.wrapping_mul(10) / 19;
-                if draw % 10 == 0 {
-                    short.wrapping_mul(10)
-                } else {
-                    short
-                }
-            }
-        }
     }
 
     /// Returns a request.

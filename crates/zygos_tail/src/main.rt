@@ -16,6 +16,7 @@ mod services;
 mod times;
 mod virtual_time;
 mod words;
+mod zeros;
 
 use runs::{print_run, print_virtual_run};
 use std::process::ExitCode;

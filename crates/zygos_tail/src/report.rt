@@ -1,7 +1,8 @@
 //! The results of a run.
 use crate::load::Load;
 use crate::notes::Notes;
-use crate::times::{Times, zeros};
+use crate::times::Times;
+use crate::zeros::zeros;
 use std::alloc::Global;
 use zy_base::NoMemory;
 use zy_conn::Block;

@@ -41,7 +41,7 @@ pub(crate) fn print_virtual_run<R: Clock + Print, I: Read>(
 
 // Reads the service times, if they are to be given; otherwise returns none.
 fn services_of<I: Read>(alloc: Global, load: Load, input: &mut I) -> Result<Vec<u64>, NoMemory> {
-    match load.shape {
+    match load.service.shape {
         Shape::Given => read_services(alloc, input),
         _ => Ok(Vec::new(alloc)),
     }

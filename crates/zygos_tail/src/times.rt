@@ -1,6 +1,7 @@
 //! The times at which requests are due.
 use crate::draws::Draws;
 use crate::load::{Load, Request};
+use crate::zeros::zeros;
 use std::alloc::Global;
 use zy_base::NoMemory;
 
@@ -111,26 +112,6 @@ impl Times {
     pub(crate) fn begun(&self) -> u64 {
         self.begin
     }
-}
-
-/// Makes a list of this number of zeros.
-pub(crate) fn zeros(alloc: Global, count: u64) -> Result<Vec<u64>, NoMemory> {
-    let mut numbers = Vec::new(alloc);
-    match add_zeros(&mut numbers, count) {
-        Ok(()) => Ok(numbers),
-        Err(e) => {
-            drop(numbers);
-            Err(e)
-        }
-    }
-}
-
-// Appends zeros.
-fn add_zeros(numbers: &mut Vec<u64>, count: u64) -> Result<(), NoMemory> {
-    for _ in 0..count {
-        numbers.push(0)?;
-    }
-    Ok(())
 }
 
 // Reads the number at a place, and 0 if there is none.

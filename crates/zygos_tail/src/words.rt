@@ -1,5 +1,5 @@
 //! The words of the command line.
-use crate::load::{Load, Shape};
+use crate::load::{Load, Service, Shape};
 use crate::virtual_time::{Parts, Prices, Waits};
 use std::env::Env;
 use zy_base::read_number;
@@ -29,13 +29,15 @@ pub(crate) fn read_load<R: Env>(rt: &R) -> Load {
     Load {
         cores: number(rt, 2).max(1).min(64) as u32,
         skewed: number(rt, 3) == 1,
-        shape: match number(rt, 4) {
-            0 => Shape::Fixed,
-            1 => Shape::Exponential,
-            2 => Shape::Bimodal,
-            _ => Shape::Given,
+        service: Service {
+            shape: match number(rt, 4) {
+                0 => Shape::Fixed,
+                1 => Shape::Exponential,
+                2 => Shape::Bimodal,
+                _ => Shape::Given,
+            },
+            mean: number(rt, 5).min(1 << 30),
         },
-        service: number(rt, 5).min(1 << 30),
         gap: number(rt, 6).min(1 << 40),
         count: number(rt, 7).min(1 << 24),
         number: number(rt, 8),

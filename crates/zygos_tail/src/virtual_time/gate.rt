@@ -1,18 +1,24 @@
 //! The gate of virtual time: it takes no time, and notes which commands passed it.
-use crate::notes::{atomic_zeros, put, read};
+use crate::zeros::zeros;
 use std::alloc::Global;
-use std::sync::atomic::{AtomicU64, Ordering};
+use std::sync::atomic::{AtomicU32, AtomicU64, Ordering};
 use zy_base::{Gate, NoMemory};
 
 // The most commands of a hold.
 const MOST: u64 = 64;
 
-/// The commands that passed in a turn, by their connection and their index there.
+/// The commands that passed in a turn.
 #[derive(Drop)]
 pub(crate) struct TurnGate {
     count: AtomicU64,
-    conns: Vec<AtomicU64>,
-    indices: Vec<AtomicU64>,
+    slots: Vec<Slot>,
+}
+
+// The connection of a command that passed, and its index there.
+#[derive(Default, Drop)]
+struct Slot {
+    conn: AtomicU32,
+    index: AtomicU64,
 }
 
 /// A command that passed.
@@ -25,18 +31,11 @@ pub(crate) struct Passed {
 impl TurnGate {
     /// Makes a gate that was not passed yet.
     pub(crate) fn new(alloc: Global) -> Result<TurnGate, NoMemory> {
-        let conns = atomic_zeros(alloc, MOST)?;
-        match atomic_zeros(alloc, MOST) {
-            Ok(indices) => Ok(TurnGate {
-                count: AtomicU64::new(0),
-                conns,
-                indices,
-            }),
-            Err(e) => {
-                drop(conns);
-                Err(e)
-            }
-        }
+        let slots = zeros(alloc, MOST)?;
+        Ok(TurnGate {
+            count: AtomicU64::new(0),
+            slots,
+        })
     }
 
     /// Begins a turn.
@@ -51,9 +50,12 @@ impl TurnGate {
 
     /// Returns the command that passed after this number of others.
     pub(crate) fn passed(&self, at: u64) -> Passed {
-        Passed {
-            conn: u32::try_from(read(&self.conns, at as usize)).unwrap_or(0),
-            index: read(&self.indices, at as usize),
+        match self.slots.get(at as usize) {
+            Some(slot) => Passed {
+                conn: slot.conn.load(Ordering::SeqCst),
+                index: slot.index.load(Ordering::SeqCst),
+            },
+            None => Passed { conn: 0, index: 0 },
         }
     }
 }
@@ -61,8 +63,10 @@ impl TurnGate {
 impl Gate for TurnGate {
     fn pass(&self, _core: u32, conn: u32, index: u64) {
         let at = self.count.load(Ordering::SeqCst);
-        put(&self.conns, at as usize, u64::from(conn));
-        put(&self.indices, at as usize, index);
+        if let Some(slot) = self.slots.get(at as usize) {
+            slot.conn.store(conn, Ordering::SeqCst);
+            slot.index.store(index, Ordering::SeqCst);
+        }
         self.count.store(at.saturating_add(1), Ordering::SeqCst);
     }
 }

@@ -3,6 +3,7 @@ ghost use Rattle.std.specs.Prelude.{◌<◌, length};
 
 use crate::offering::offer;
 use crate::times::Times;
+use crate::zeros::zeros;
 use std::alloc::Global;
 use zy_base::{Blob, NoMemory};
 use zy_rx::{Inlet, Rx};
@@ -21,18 +22,25 @@ pub(crate) struct Source {
 }
 
 impl Source {
-    /// Begins with requests of which none was offered. `waiting` is a zero for each core.
+    /// Begins with requests of which none was offered to these cores.
     pub(crate) fn new(
         alloc: Global,
         inlets: Vec<Inlet>,
         times: Times,
-        waiting: Vec<u64>,
-    ) -> Source {
-        Source {
-            alloc,
-            inlets,
-            times,
-            waiting,
+        cores: u32,
+    ) -> Result<Source, NoMemory> {
+        match zeros(alloc, u64::from(cores)) {
+            Ok(waiting) => Ok(Source {
+                alloc,
+                inlets,
+                times,
+                waiting,
+            }),
+            Err(e) => {
+                drop(inlets);
+                drop(times);
+                Err(e)
+            }
         }
     }
 

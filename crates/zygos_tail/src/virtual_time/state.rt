@@ -1,28 +1,26 @@
 //! The state of a run in virtual time, and what each turn of it costs.
 use crate::load::Load;
 use crate::notes::Notes;
-use crate::times::{Times, zeros};
+use crate::times::Times;
 use crate::virtual_time::Prices;
 use crate::virtual_time::clocks::Clocks;
 use crate::virtual_time::gate::{Passed, TurnGate};
 use crate::virtual_time::parts::Parts;
 use crate::virtual_time::source::Source;
+use crate::zeros::zeros;
 use std::alloc::Global;
 use zy_base::NoMemory;
 use zy_rx::Inlet;
 use zy_steal::Looks;
 
-/// A run: its gate, its requests, the clocks, and what its turns did.
+/// A run: its requests, what its cores have, and what its turns did.
 #[derive(Drop)]
 pub(crate) struct Run<'a> {
     load: Load,
     notes: &'a Notes,
     prices: Prices,
-    gate: TurnGate,
     source: Source,
-    clocks: Clocks,
-    // By core: the blocks that thieves gave back and that it has not collected.
-    given: Vec<u64>,
+    cores: CoreStates,
     // The core that made the last call; all calls are of one shard.
     last: usize,
     done: Parts,
@@ -70,30 +68,20 @@ impl<'a> Run<'a> {
             looks: u64::from(load.cores.saturating_sub(1)),
             ..Parts::none()
         };
-        match Counters::new(alloc, load.cores, prices, look.cost(&prices.parts)) {
-            Ok(counters) => {
-                let Counters {
-                    gate,
-                    clocks,
-                    waiting,
-                    given,
-                } = counters;
-                Ok(Run {
-                    load,
-                    notes,
-                    prices,
-                    gate,
-                    source: Source::new(alloc, inlets, times, waiting),
-                    clocks,
-                    given,
-                    last: 0,
-                    done: Parts::none(),
-                    samples: Vec::new(alloc),
-                })
-            }
+        let source = Source::new(alloc, inlets, times, load.cores)?;
+        match CoreStates::new(alloc, load.cores, prices, look.cost(&prices.parts)) {
+            Ok(cores) => Ok(Run {
+                load,
+                notes,
+                prices,
+                source,
+                cores,
+                last: 0,
+                done: Parts::none(),
+                samples: Vec::new(alloc),
+            }),
             Err(e) => {
-                drop(inlets);
-                drop(times);
+                drop(source);
                 Err(e)
             }
         }
@@ -101,28 +89,28 @@ impl<'a> Run<'a> {
 
     /// Returns the gate of the turns.
     pub(crate) fn gate(&self) -> &TurnGate {
-        &self.gate
+        &self.cores.gate
     }
 
     /// Offers the requests that have come at the time of the core with the least clock, and says what is next. An idle
     /// core looks on until the next request comes, or a core that is not idle has its next turn.
     pub(crate) fn next(&mut self) -> Result<Next, NoMemory> {
-        let core = self.clocks.least();
-        let now = self.clocks.now(core);
+        let core = self.cores.clocks.least();
+        let now = self.cores.clocks.now(core);
         if self.source.offer_until(now)? > 0 {
-            self.clocks.change();
+            self.cores.clocks.change();
         }
-        if !self.clocks.is_idle(core) {
+        if !self.cores.clocks.is_idle(core) {
             return Ok(Next::Turn(core));
         }
-        let until = self.source.next_due().min(self.clocks.least_busy());
+        let until = self.source.next_due().min(self.cores.clocks.least_busy());
         if until == u64::MAX {
             return Ok(Next::Over);
         }
         if until <= now {
             return Ok(Next::Turn(core));
         }
-        self.clocks.wait(core, until);
+        self.cores.clocks.wait(core, until);
         Ok(Next::Waited)
     }
 
@@ -136,15 +124,16 @@ impl<'a> Run<'a> {
     ) -> Result<(), NoMemory> {
         let mut parts = self.parts_of(core, looks);
         let begin = self
+            .cores
             .clocks
             .now(core)
             .saturating_add(parts.cost(&self.prices.parts));
         let end = self.note_commands(core, begin, &mut parts);
         if worked {
-            self.clocks.work(core, end);
+            self.cores.clocks.work(core, end);
             self.done.add(&parts);
         } else {
-            self.clocks.look_on(core);
+            self.cores.clocks.look_on(core);
         }
         if (self.samples.len() as u64) < self.prices.samples {
             self.samples.push(Sample { parts, nanos })?;
@@ -160,15 +149,15 @@ impl<'a> Run<'a> {
             collected: self.collect(core),
             ..Parts::none()
         };
-        let home = self.load.home_of(self.gate.passed(0).conn) as usize;
-        if self.gate.count() > 0 && home == core {
+        let home = self.load.home_of(self.cores.gate.passed(0).conn) as usize;
+        if self.cores.gate.count() > 0 && home == core {
             parts.holds = 1;
             return parts;
         }
         parts.looks = self.count_looks(looks);
-        if self.gate.count() > 0 {
+        if self.cores.gate.count() > 0 {
             parts.thefts = 1;
-            if let Some(given) = self.given.get_mut(home) {
+            if let Some(given) = self.cores.given.get_mut(home) {
                 *given = given.saturating_add(1);
             }
         }
@@ -177,7 +166,7 @@ impl<'a> Run<'a> {
 
     // Notes that the core collected the blocks that thieves gave back. Returns their number.
     fn collect(&mut self, core: usize) -> u64 {
-        match self.given.get_mut(core) {
+        match self.cores.given.get_mut(core) {
             Some(given) => {
                 let count = *given;
                 *given = 0;
@@ -201,8 +190,8 @@ impl<'a> Run<'a> {
     // Notes when each command of a turn ends, of which the first begins at this time. Returns when the last one ends.
     fn note_commands(&mut self, core: usize, begin: u64, parts: &mut Parts) -> u64 {
         let mut now = begin;
-        for at in 0..self.gate.count() {
-            let passed = self.gate.passed(at);
+        for at in 0..self.cores.gate.count() {
+            let passed = self.cores.gate.passed(at);
             now = self.note_command(core, now, passed, parts);
         }
         now
@@ -232,17 +221,13 @@ impl<'a> Run<'a> {
             load: _,
             notes: _,
             prices: _,
-            gate,
             source,
-            clocks,
-            given,
+            cores,
             last: _,
             done,
             samples,
         } = self;
-        drop(gate);
-        drop(clocks);
-        drop(given);
+        drop(cores);
         Served {
             times: source.into_times(),
             done,
@@ -251,17 +236,17 @@ impl<'a> Run<'a> {
     }
 }
 
-// The parts of a run at its beginning.
+// What the cores have: the gate of their turns, their clocks, and by core the blocks that thieves gave back and that it
+// has not collected.
 #[derive(Drop)]
-struct Counters {
+struct CoreStates {
     gate: TurnGate,
     clocks: Clocks,
-    waiting: Vec<u64>,
     given: Vec<u64>,
 }
 
-impl Counters {
-    fn new(alloc: Global, cores: u32, prices: Prices, look: u64) -> Result<Counters, NoMemory> {
+impl CoreStates {
+    fn new(alloc: Global, cores: u32, prices: Prices, look: u64) -> Result<CoreStates, NoMemory> {
         let gate = TurnGate::new(alloc)?;
         let clocks = match Clocks::new(alloc, cores, prices.waits, look) {
             Ok(clocks) => clocks,
@@ -270,25 +255,15 @@ impl Counters {
                 return Err(e);
             }
         };
-        let waiting = match zeros(alloc, u64::from(cores)) {
-            Ok(waiting) => waiting,
-            Err(e) => {
-                drop(gate);
-                drop(clocks);
-                return Err(e);
-            }
-        };
         match zeros(alloc, u64::from(cores)) {
-            Ok(given) => Ok(Counters {
+            Ok(given) => Ok(CoreStates {
                 gate,
                 clocks,
-                waiting,
                 given,
             }),
             Err(e) => {
                 drop(gate);
                 drop(clocks);
-                drop(waiting);
                 Err(e)
             }
         }
