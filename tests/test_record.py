@@ -467,20 +467,30 @@ def full():
                                 + recorded(1, 3, len(ASKED) + len(hold), len(ANSWERED) + 4)), recorder.end())
         same("its files", ({(0, 0): ASKED + hold}, {(0, 0): ANSWERED + b"OK\r\n"}), files_of())
 
-        def small():
-            resource.setrlimit(resource.RLIMIT_FSIZE, (10000, 10000))
+        for room in (0, 1):
+            no_space(server, room, more)
 
-        recorder = Recorder(server.place, preexec_fn=small)
-        with connected(recorder.place) as one:
-            for _ in range(500):
-                one.sendall(ASKED)
-                same("what is passed on without space", ANSWERED, take(one, len(ANSWERED)))
-        same("no space", (1, f"my.replies: File too large{more}"),
-             (recorder.end()[0], recorder.said.splitlines()[0].replace("tools/record: ", "")))
-        sent, back = files_of()
-        count = len(sent[0, 0]) // len(ASKED)
-        same("its files", (True, ASKED * count, True), (count > 100, sent[0, 0],
-                                                        (ANSWERED * count).startswith(back[0, 0])))
+
+def no_space(server, room, more):
+    """Files that have space for a hundred answers, and `room` more bytes; the byte that ends the answers needs one."""
+    sets, stored, gets, found = b"set a 0 0 1\r\nx\r\n", b"STORED\r\n", b"get a\r\n", b"VALUE a 0 1\r\nx\r\nEND\r\n"
+    most = 12 + 9 + len(stored) + 100 * (9 + len(found)) + room
+
+    def small():
+        resource.setrlimit(resource.RLIMIT_FSIZE, (most, most))
+
+    recorder = Recorder(server.place, preexec_fn=small)
+    with connected(recorder.place) as one:
+        for sent, back in ((sets, stored), *[(gets, found)] * 200):
+            one.sendall(sent)
+            same("what is passed on without space", back, take(one, len(back)))
+    status, said = recorder.end()
+    lines = said.replace("tools/record: ", "").splitlines()
+    same("no space", (1, f"my.replies: File too large{more}"), (status, lines[0]))
+    if not room:
+        same("no space for the end", "my.replies: File too large: not all is written; --repair completes the files", lines[-1])
+        repaired(0)
+    same("its files", ({(0, 0): sets + gets * 101}, {(0, 0): stored + found * 100}), files_of())
 
 
 def before_it_begins():
