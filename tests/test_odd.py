@@ -30,6 +30,8 @@ LATER = capture(1, [segment(0, b"mn\r\n"), close(0), segment(0, b"get a\r\n")], 
 REPLIES = replies([TOLD, b"END\r\n"])
 JOURNAL = journal([Entry(1, 0, 0, 0, 0, Call("set", b"a", 0, value=b"x"), Reply("stored"))], [Hold(0, 0, 1)])
 PLACE = "127.0.0.1:1"
+# after how many seconds a tool that goes on gets its signal again
+SECONDS_BETWEEN = 20
 
 
 # ---- tools in forked processes
@@ -158,6 +160,16 @@ def orders():
                       must_fail=name != "right", wanted="" if name == "right" else re.escape(path["order"]))
 
 
+def ended_by_ctrl_c(tool):
+    """What a tool has printed that is ended by Ctrl-C. Python sees a signal that comes just before a read only after the
+    read, so another one is sent if the tool goes on."""
+    for _ in range(LONGEST // SECONDS_BETWEEN):
+        tool.send_signal(signal.SIGINT)
+        with contextlib.suppress(subprocess.TimeoutExpired):
+            return tool.communicate(timeout=SECONDS_BETWEEN)
+    return fail(f"Ctrl-C does not end {tool.args}")
+
+
 def interrupted():
     """A tool that is ended by Ctrl-C says nothing, and leaves nothing."""
     with tempfile.TemporaryDirectory() as folder:
@@ -168,8 +180,7 @@ def interrupted():
                       ["packets", "--in-order", kept, pipe]):
             with subprocess.Popen([path_of(words[0]), *words[1:]], stdout=subprocess.PIPE, stderr=subprocess.PIPE) as tool:
                 with open(pipe, "wb"):  # the tool has opened it
-                    tool.send_signal(signal.SIGINT)
-                    said = tool.communicate(timeout=LONGEST)
+                    said = ended_by_ctrl_c(tool)
             same(f"{words[0]} at Ctrl-C", (-signal.SIGINT, (b"", b"")), (tool.returncode, said))
             same(f"what {words[0]} leaves", ["pipe"], os.listdir(folder))
 
