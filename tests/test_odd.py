@@ -30,7 +30,7 @@ LATER = capture(1, [segment(0, b"mn\r\n"), close(0), segment(0, b"get a\r\n")], 
 REPLIES = replies([TOLD, b"END\r\n"])
 JOURNAL = journal([Entry(1, 0, 0, 0, 0, Call("set", b"a", 0, value=b"x"), Reply("stored"))], [Hold(0, 0, 1)])
 PLACE = "127.0.0.1:1"
-# after how many seconds a tool that goes on gets its signal again
+# the seconds after which a tool that still runs gets its signal again
 SECONDS_BETWEEN = 20
 
 
@@ -161,8 +161,8 @@ def orders():
 
 
 def ended_by_ctrl_c(tool):
-    """What a tool has printed that is ended by Ctrl-C. Python sees a signal that comes just before a read only after the
-    read, so another one is sent if the tool goes on."""
+    """Ends a tool by Ctrl-C, and returns what it has printed. If a signal comes just before a read, Python handles it only
+    after the read, so the signal is sent again if the tool still runs."""
     for _ in range(LONGEST // SECONDS_BETWEEN):
         tool.send_signal(signal.SIGINT)
         with contextlib.suppress(subprocess.TimeoutExpired):

@@ -472,7 +472,8 @@ def full():
 
 
 def no_space(server, room, more):
-    """Files that have space for a hundred answers, and `room` more bytes; the byte that ends the answers needs one."""
+    """No space after a hundred answers and `room` more bytes, one of which the end of the answers needs: without it, the
+    recorder says that --repair completes the files."""
     sets, stored, gets, found = b"set a 0 0 1\r\nx\r\n", b"STORED\r\n", b"get a\r\n", b"VALUE a 0 1\r\nx\r\nEND\r\n"
     most = 12 + 9 + len(stored) + 100 * (9 + len(found)) + room
 
