@@ -8,3 +8,4 @@ pub mod Magic
 pub mod Runs
 pub mod Standing
 pub mod Piece
+pub mod Seen

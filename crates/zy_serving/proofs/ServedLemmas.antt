@@ -17,7 +17,7 @@ use Rattle.std.specs.List.{AllByRecursion}
 use Rattle.zy_command_line.specs.declared.request.Run.{Run}
 use Rattle.zy_finish.specs.Finish.{IsResultOfRun, IsHoldBy}
 use Rattle.zy_serving.specs.Headline.{IsServed, outputs_of_records}
-use Rattle.zy_serving.specs.Seen.{side}
+use Rattle.zy_read.specs.Seen.{side}
 use Rattle.zy_serving.specs.Runs.{RunsTo}
 
 pub served_of : (asked : Run) (version count : ℕ) (records : List Record) (bytes : List ℕ) (done : Finished)

@@ -7,7 +7,7 @@ use Rattle.zy_read.specs.declared.stop.Stop.{Stop}
 use Rattle.zy_read.specs.declared.stop.Stop.TheVariants as Stops
 use Rattle.zy_finish.specs.declared.finishing.Finished.{Finished}
 use Rattle.zy_command_line.specs.declared.request.Run.{Run}
-use Rattle.zy_serving.specs.Seen.{Side, HasRisen, OfGiven}
+use Rattle.zy_read.specs.Seen.{Side, HasRisen, OfGiven}
 use Rattle.zy_serving.specs.Headline.{IsServed}
 
 -- a call stopped for its cause: the bytes have this fault, if they are reported, or a read failed

@@ -1,7 +1,7 @@
 //! Serving a capture.
 ghost use Rattle.std.specs.Prelude.{◌≤◌};
 ghost use Rattle.zy_command_line.specs.Range.{IsRunnable};
-ghost use Rattle.zy_serving.specs.Seen.{side};
+ghost use Rattle.zy_read.specs.Seen.{side};
 ghost use Rattle.zy_serving.specs.Runs.{RunsTo};
 
 use crate::drive::drive_capture;

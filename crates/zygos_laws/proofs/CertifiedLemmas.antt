@@ -34,7 +34,7 @@ use Rattle.zy_command_line.specs.declared.request.Out.{Out}
 use Rattle.zy_command_line.specs.declared.request.Out.TheVariants.{Both}
 use Rattle.zy_command_line.specs.declared.request.Request.{Request}
 use Rattle.zy_command_line.specs.declared.request.Request.TheVariants as Requests
-use Rattle.zy_serving.specs.Seen.{Seen, WasWritten, OfReported, OfTold}
+use Rattle.zy_read.specs.Seen.{Seen, WasWritten, OfReported, OfTold}
 use Rattle.zy_serving.specs.Headline.{IsServed, IsWritten, written}
 use Rattle.zygos_run.specs.Checked.{IsChecked}
 use Rattle.zygos_run.specs.declared.answer.Answer.TheVariants.{Served}

@@ -11,7 +11,7 @@ use Rattle.zy_check.specs.OfRun.{AreOfRun}
 use Rattle.zy_command_line.specs.declared.request.Run.{Run}
 use Rattle.zy_command_line.specs.declared.request.Out.{Out}
 use Rattle.zy_command_line.specs.declared.request.Out.TheVariants.{Both}
-use Rattle.zy_serving.specs.Seen.{Side, WasWritten}
+use Rattle.zy_read.specs.Seen.{Side, WasWritten}
 use Rattle.zy_serving.specs.Headline.{written}
 use Rattle.zygos_run.specs.Checked.{IsChecked}
 

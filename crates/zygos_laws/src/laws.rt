@@ -16,7 +16,7 @@ ghost use Rattle.zy_command_line.specs.declared.request.Out.{Out};
 ghost use Rattle.zy_command_line.specs.declared.request.Out.TheVariants.{Both};
 ghost use Rattle.zy_command_line.specs.declared.request.Request.{Request};
 ghost use Rattle.zy_command_line.specs.declared.request.Request.TheVariants as Requests;
-ghost use Rattle.zy_serving.specs.Seen.{Seen, Side, WasWritten, OfTold, OfGiven};
+ghost use Rattle.zy_read.specs.Seen.{Seen, Side, WasWritten, OfTold, OfGiven};
 ghost use Rattle.zy_serving.specs.Headline.{IsServed, IsWritten, written};
 ghost use Rattle.zygos_run.specs.Checked.{IsChecked};
 ghost use Rattle.zygos_run.specs.declared.answer.Answer.TheVariants as Answers;

@@ -4,7 +4,7 @@ use Rattle.std.specs.Prelude.{Option, None, Some}
 use Rattle.zy_input.specs.declared.stop.Refusal.{Refusal}
 use Rattle.zy_input.specs.Parts.{HasPartFault}
 use Rattle.zy_read.proofs.SourceLemmas.{told_all}
-use Rattle.zy_serving.specs.Seen.{Seen, NoneRose}
+use Rattle.zy_read.specs.Seen.{Seen, NoneRose}
 use Rattle.zygos_run.specs.Served.{IsToldBad}
 use Rattle.zygos_run.proofs.EndLemmas.{PartsHaveNone, PartsHaveOne}
 use Rattle.zygos_linear.specs.declared.answer.Answer.{Answer}

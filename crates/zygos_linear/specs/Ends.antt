@@ -3,7 +3,7 @@ use Rattle.std.specs.Prelude.{◌≡◌, ◌⊎◌, ℕ, List, Option, None, ⊤
 use Rattle.zy_command_line.specs.declared.request.Request.{Request}
 use Rattle.zy_command_line.specs.declared.request.Request.TheVariants.{Check}
 use Rattle.zy_check.specs.Given.{Given}
-use Rattle.zy_serving.specs.Seen.{Seen, HasRisen, WasWritten, TakesPart, OfGiven}
+use Rattle.zy_read.specs.Seen.{Seen, HasRisen, WasWritten, TakesPart, OfGiven}
 use Rattle.zy_times.specs.Times.{Recording}
 use Rattle.zygos_run.specs.Ends.{IsFaultOf, ReadsInput}
 use Rattle.zygos_linear.specs.declared.answer.Answer.{Answer}

@@ -4,7 +4,7 @@ use Rattle.zy_capture.specs.declared.record.Record.{Record}
 use Rattle.zy_capture.specs.Streams.{no_bytes, with_records}
 use Rattle.zy_input.specs.declared.stop.Refusal.{Refusal}
 use Rattle.zy_read.specs.declared.stop.Stop.{Stop}
-use Rattle.zy_serving.specs.Seen.{Side, OfGiven}
+use Rattle.zy_read.specs.Seen.{Side, OfGiven}
 use Rattle.zy_times.specs.declared.times.Times.{Times}
 use Rattle.zy_times.specs.Line.{TimesHold}
 use Rattle.zygos_run.specs.Checks.{StopsAs}

@@ -1,7 +1,7 @@
 //! Judging an input.
 ghost use Rattle.std.specs.Prelude.{◌≡◌, ◌≤◌, Some};
 ghost use Rattle.zy_command_line.specs.Range.{AreShards};
-ghost use Rattle.zy_serving.specs.Seen.{side, both_sides};
+ghost use Rattle.zy_read.specs.Seen.{side, both_sides};
 ghost use Rattle.zygos_run.specs.Ends.{LeavesSink};
 ghost use Rattle.zygos_run.specs.Finish.{FinishesOnce};
 ghost use Rattle.zygos_linear.specs.Answers.{answer_of_check};

@@ -3,7 +3,7 @@ ghost use Rattle.std.specs.Prelude.{◌≤◌, ℕ, List, IfOk};
 ghost use Rattle.zy_capture.specs.declared.record.Record.{Record};
 ghost use Rattle.zy_command_line.specs.Range.{AreShards};
 ghost use Rattle.zy_check.specs.Given.{all_given};
-ghost use Rattle.zy_serving.specs.Seen.{side};
+ghost use Rattle.zy_read.specs.Seen.{side};
 ghost use Rattle.zygos_linear.specs.Finding.{HasFinding, recording_of};
 ghost use Rattle.zygos_linear.specs.Input.{AreOfRecords, FindsIn};
 

@@ -16,7 +16,7 @@ use Rattle.zy_command_line.specs.declared.request.Request.TheVariants.{Run, Chec
 use Rattle.zy_pcap.specs.Packet.{Packet}
 use Rattle.zy_pcap.specs.Packets as Recorded
 use Rattle.zy_journal_reader.specs.Verdict as Journals
-use Rattle.zy_serving.specs.Seen.{Side, Seen, NoneRose, WasWritten, OfGiven, OfReported, OfTold}
+use Rattle.zy_read.specs.Seen.{Side, Seen, NoneRose, WasWritten, OfGiven, OfReported, OfTold}
 use Rattle.zygos_run.specs.declared.answer.Answer.{Answer}
 use Rattle.zygos_run.specs.declared.answer.Answer.TheVariants.{Served, Checked, Made, Tested, Usage, Refused, ReadFault, WriteFault, OutOfMemory}
 use Rattle.zygos_run.specs.Input.{Input, HasInputFault, IsFaultless, IsRefusedFor}

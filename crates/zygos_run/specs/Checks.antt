@@ -4,7 +4,7 @@ use Rattle.zy_read.specs.declared.stop.Stop.{Stop}
 use Rattle.zy_read.specs.declared.stop.Stop.TheVariants as Stops
 use Rattle.zy_input.specs.declared.stop.Refusal.{Refusal}
 use Rattle.zy_check.specs.declared.verdict.Verdict.{Verdict as Certified}
-use Rattle.zy_serving.specs.Seen.{Side, HasRisen, OfGiven}
+use Rattle.zy_read.specs.Seen.{Side, HasRisen, OfGiven}
 use Rattle.zygos_run.specs.Checked.{IsChecked}
 use Rattle.zygos_run.specs.Reported.{IsReported}
 use Rattle.zygos_run.specs.Input.{Input, IsRefusedFor}

@@ -2,7 +2,7 @@
 use Rattle.std.specs.Prelude.{◌≡◌, ℕ, List, [], Option, None, Some, ⊤, IsSome, IsNone, IsSomeAnd}
 use Rattle.zy_input.specs.declared.stop.Refusal.{Refusal}
 use Rattle.zy_command_line.specs.declared.request.Request.{Request}
-use Rattle.zy_serving.specs.Seen.{Seen, HasRisen, WasWritten, TakesPart, OfGiven}
+use Rattle.zy_read.specs.Seen.{Seen, HasRisen, WasWritten, TakesPart, OfGiven}
 use Rattle.zygos_run.specs.declared.answer.Answer.{Answer}
 use Rattle.zygos_run.specs.declared.answer.Answer.TheVariants.{Served, Checked, Made, Tested, Usage, Refused, ReadFault, WriteFault, OutOfMemory}
 use Rattle.zygos_run.specs.Input.{Input, IsRefusedFor}

@@ -2,7 +2,7 @@
 use Rattle.std.specs.Prelude.{◌≡◌, ◌⊎◌, ℕ, List, Option, IfSome, IsSome, IsSomeAnd}
 use Rattle.zy_input.specs.declared.stop.Refusal.{Refusal}
 use Rattle.zy_command_line.specs.declared.request.Request.{Request}
-use Rattle.zy_serving.specs.Seen.{Seen, OfTold, WasWritten}
+use Rattle.zy_read.specs.Seen.{Seen, OfTold, WasWritten}
 use Rattle.zygos_run.specs.declared.answer.Answer.{Answer}
 use Rattle.zygos_run.specs.declared.answer.Answer.TheVariants.{Usage, Refused, OutOfMemory}
 use Rattle.zygos_run.specs.Input.{HasInputFault, IsFaultless}

@@ -1,7 +1,7 @@
 //! The requested command.
 ghost use Rattle.std.specs.Prelude.{◌≡◌, ◌≤◌};
 ghost use Rattle.zy_command_line.specs.Request.{request_of};
-ghost use Rattle.zy_serving.specs.Seen.{side, both_sides};
+ghost use Rattle.zy_read.specs.Seen.{side, both_sides};
 ghost use Rattle.zygos_run.specs.Finish.{FinishesOnce};
 ghost use Rattle.zygos_run.specs.Ends.{Ends, LeavesSink, ReadsNothing};
 

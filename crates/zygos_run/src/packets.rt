@@ -4,7 +4,7 @@ ghost use Rattle.zy_base.specs.Outside.{WritesLast};
 ghost use Rattle.zy_command_line.specs.Range.{IsPort};
 ghost use Rattle.zy_command_line.specs.declared.request.Request.TheVariants as Requests;
 ghost use Rattle.zy_pcap.specs.Made.{capture_of};
-ghost use Rattle.zy_serving.specs.Seen.{side, both_sides, OfGiven};
+ghost use Rattle.zy_read.specs.Seen.{side, both_sides, OfGiven};
 ghost use Rattle.zy_input.specs.Parts.{HasReadPackets};
 ghost use Rattle.zygos_run.specs.Finish.{FinishesOnce};
 ghost use Rattle.zygos_run.specs.Ends.{Ends, LeavesSink};

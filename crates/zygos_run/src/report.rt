@@ -1,7 +1,7 @@
 //! Reporting on a journal.
 ghost use Rattle.std.specs.Prelude.{◌≡◌, ◌≤◌, Some};
 ghost use Rattle.zy_command_line.specs.declared.request.Request.TheVariants as Requests;
-ghost use Rattle.zy_serving.specs.Seen.{side, both_sides};
+ghost use Rattle.zy_read.specs.Seen.{side, both_sides};
 ghost use Rattle.zygos_run.specs.Finish.{FinishesOnce};
 ghost use Rattle.zygos_run.specs.Ends.{Ends, LeavesSink};
 ghost use Rattle.zygos_run.specs.Checks.{ReportsTo};

@@ -3,7 +3,7 @@ ghost use Rattle.std.specs.Prelude.{◌≡◌, ◌≤◌, None};
 ghost use Rattle.zy_base.specs.Outside.{Rose};
 ghost use Rattle.zy_command_line.specs.Request.{request_of};
 ghost use Rattle.zygos_run.specs.Lines.{answer_line};
-ghost use Rattle.zy_serving.specs.Seen.{side, both_sides, NoneRose};
+ghost use Rattle.zy_read.specs.Seen.{side, both_sides, NoneRose};
 ghost use Rattle.zygos_run.specs.Ends.{IsSuccess, DoneHolds, HasPart};
 ghost use Rattle.zygos_run.specs.Ends.{IsFaultOf, ReadsInput, ReadsNothing, LeavesSink};
 ghost use Rattle.zygos_run.specs.Served.{HeadlineHolds, IsToldGood, IsToldBad};

@@ -1,6 +1,6 @@
 use Rattle.std.proofs.Common.{refl}
 use Rattle.zy_command_line.specs.Request.{shards_asked}
-use Rattle.zy_serving.specs.Seen.{Seen, side, both_sides}
+use Rattle.zy_read.specs.Seen.{Seen, side, both_sides}
 use Rattle.zygos_linear.proofs.EndLemmas.{refused_for}
 use Rattle.zygos_linear.proofs.serving.serve_linear.Goals as goal
 

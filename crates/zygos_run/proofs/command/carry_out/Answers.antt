@@ -1,5 +1,5 @@
 use Rattle.std.proofs.Common.{sym, ◌∙◌, ap, Some}
-use Rattle.zy_serving.specs.Seen.{side}
+use Rattle.zy_read.specs.Seen.{side}
 use Rattle.zygos_run.proofs.command.carry_out.Goals as goal
 
 pub run_capture-requires-clause-runnable : goal.run_capture-requires-clause-runnable

@@ -1,6 +1,6 @@
 use Rattle.std.proofs.Common.{refl, subst}
 use Rattle.zy_command_line.specs.Request.{request_of}
-use Rattle.zy_serving.specs.Seen.{Seen, side, both_sides}
+use Rattle.zy_read.specs.Seen.{Seen, side, both_sides}
 use Rattle.zygos_run.specs.Ends.{Ends}
 use Rattle.zygos_run.proofs.EndLemmas.{told_of, success_of, unlawful_of, done_of, refused_of}
 use Rattle.zygos_run.proofs.serving.serve.Goals as goal
