@@ -5,3 +5,4 @@ pub mod Line
 pub mod Fitting
 pub mod Ending
 pub mod Recorded
+pub mod Sessions
