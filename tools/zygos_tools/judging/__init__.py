@@ -9,6 +9,7 @@
 | `values`, `states` | the values that items have, and what each call does to the item of its key |
 | `origin` | the item that a key had before the recording |
 | `needs` | what the calls that are left need of a key |
+| `anew` | where a server must have counted its uniques anew |
 | `search` | an order of the calls on one key, or on a few together |
 | `keys` | the orders of all keys |
 | `orders`, `nearby` | parts of these orders, with states; the calls on a key near to a time |

@@ -81,7 +81,7 @@ class Certificate:
         self.counts["items that were there before"] += len(there)
         explained = sum(map(self.losses_by_time, map(keys.found.__getitem__, set(lost))))
         self.counts["losses of items that an exptime may explain"] += explained
-        self.counts["losses of items"] += len(lost) - explained
+        self.counts["losses of items"] += len(lost) - explained - self.replay.counts["uniques begun anew without a loss"]
         self.frames = self.translated()
 
     def leave_out(self, order: array[int], base: int) -> None:

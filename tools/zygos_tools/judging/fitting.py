@@ -309,7 +309,7 @@ class Piece:
             self.runs[-1].append(at)
             self.stretch_of[at] = len(self.stretches) - 1
             self.stretches[-1] |= 1 << at
-        need = SOME if was_lost else need_of(event, self.is_there)
+        need = SOME if was_lost and event.kind != SET and self.is_there else need_of(event, self.is_there and not was_lost)
         self.seen.append((self.maker, at, need, event, self.stretches[-1]))
         if event.unique is not None and self.maker is not None:
             self.shown[event.unique] = self.maker
@@ -331,12 +331,13 @@ class Piece:
             self.removers |= 1 << at
 
     def put_runs(self) -> None:
-        """The order of the runs, and that of the uniques, which rise."""
+        """The order of the runs, and that of the uniques, if they rise."""
         for one, other in zip(self.runs, self.runs[1:]):
             for at in one:
                 for to in other:
                     self.fitting.add(at, to)
-        rising = [self.shown[unique] for unique in sorted(self.shown)]
+        uniques = list(self.shown)
+        rising = [self.shown[unique] for unique in uniques] if uniques == sorted(uniques) else []
         for earlier, later in zip(rising, rising[1:]):
             self.fitting.add(earlier, later)
 

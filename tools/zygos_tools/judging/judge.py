@@ -45,6 +45,10 @@ class Clock:
             self.show(f"{now - self.begun:.0f} s: {self.what}")
 
 
+class Unfitted(Unknown):
+    """The orders of some keys were not fitted to each other."""
+
+
 class Judge:
     """The search for an order of a recording; `order` has the nodes of its graph once `run` has ended.
 
@@ -121,6 +125,17 @@ class Judge:
                     raise
 
     def merge(self) -> None:
+        """Makes one order of those of all keys, in that of the uniques if there is such a one."""
+        try:
+            self.merge_all()
+        except Unfitted:
+            if not self.is_numbered:
+                raise
+            self.is_numbered = False
+            self.merge_all()
+        self.check_times()
+
+    def merge_all(self) -> None:
         """Makes one order of those of all keys, and mends these where they do not fit."""
         self.clock.set("one order of all")
         graph, mending = Graph(self.table), Mending(self.table, self.keys, self.clock.look)
@@ -128,8 +143,8 @@ class Judge:
         while not sorting.run(self.clock.look):
             circles = sorting.circles(self.clock.look)
             if mending.turns == MOST_TURNS:
-                raise Unknown(f"{keys_in(circles, self.table)}: their orders were not fitted to each other in"
-                              f" {MOST_TURNS} turns")
+                raise Unfitted(f"{keys_in(circles, self.table)}: their orders were not fitted to each other in"
+                               f" {MOST_TURNS} turns")
             self.clock.set(f"one order of all, {len(sorting.order) / sorting.due:.0%}:"
                            f" {keys_in(circles, self.table)} are fitted to each other")
             mending.turn(circles, sorting.high, stores.in_order() if stores else ())
@@ -140,7 +155,6 @@ class Judge:
         order = numbered(graph, stores) if stores else None
         self.keys.orders.listener = None
         self.graph, self.order = graph, graph.ordered(order or sorting.order)
-        self.check_times()
 
     def linked(self, graph: Graph) -> tuple[Sorting, Stores | None]:
         """The graph with the orders of all keys. Their changes change it, if stores need not keep the order of their

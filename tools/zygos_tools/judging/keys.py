@@ -7,6 +7,7 @@ from dataclasses import dataclass
 from itertools import accumulate
 
 from zygos_tools.files.formats import shown
+from zygos_tools.judging.anew import begun_anew
 from zygos_tools.judging.events import CAS, FLUSH, GET, Event, Limited, Unknown, counted
 from zygos_tools.judging.flushes import Flushes
 from zygos_tools.judging.needs import ITEM, Needs
@@ -42,6 +43,10 @@ class Calls:
         """Another item of the one key at first."""
         self.first, self.begin = {self.names[0]: item}, (item, 0, 0)
 
+    def have_uniques(self) -> bool:
+        """Whether a unique was seen."""
+        return any(event.unique is not None or event.kind == CAS and event.want == "stored" for event in self.events)
+
 
 class Keys:
     """The calls of each key, and their orders that were found.
@@ -59,6 +64,7 @@ class Keys:
         self.unsure, self.has_reasons = unsure or {}, has_reasons
         self.first: dict[bytes, tuple[int, bytes] | None] = {}
         self.orders = Orders(table, loses, self.first)
+        self.falling = self.orders.falling
         self.found = self.orders.found
         self.flushes = Flushes(table)
         self.begins, self.calls = by_key(table)
@@ -89,7 +95,8 @@ class Keys:
         """The calls on some keys, which may have the items at first that are known so far."""
         several = {one for key in names for one in self.numbers(key)} if len(names) > 1 else ()
         numbers = sorted(several) if several else self.numbers(names[0])
-        events, states = self.table.events(numbers), States(self.loses if loses is None else loses, is_wide)
+        loses, rises = self.loses if loses is None else loses, self.falling.isdisjoint(names)
+        events, states = self.table.events(numbers), States(loses, is_wide, rises)
         states.learn(events)
         first: dict[bytes | None, int] = {key: self.orders.item_at_first(key, states) for key in names}
         if len(names) == 1:
@@ -122,25 +129,39 @@ class Keys:
             told = f"key {shown(names[0])}" if len(names) == 1 else "keys " + ", ".join(map(shown, names[:5]))
             raise Limited(f"{told}: given up after {counted(self.limit, 'state')}; give --states more", keys=names,
                           connections=[event.connection for event in calls.events]) from None
+        if not calls.states.rises:
+            self.falling.update(names)
         for key in names:
-            self.put(key, [calls.events[made.place] for made in order], order)
+            self.put(key, [(calls.events[made.place], made.is_change, made.was_lost) for made in order])
 
-    def put(self, key: bytes, events: Sequence[Event], order: Sequence[Made]) -> None:
-        """Keeps the order of a key, which is one of several or the only one."""
-        ids, marks, shard = array("I"), bytearray(), self.shard(key)
-        for event, made in zip(events, order):
-            if event.key == key or event.kind == FLUSH and event.shard == shard:
-                ids.append(event.id)
-                marks.append(CHANGED * made.is_change | WAS_LOST * made.was_lost)
-        self.orders.put(key, Order(ids, marks))
+    def put(self, key: bytes, order: Sequence[tuple[Event, bool, bool]]) -> None:
+        """Keeps the order of a key, which is one of several or the only one: its calls, each with whether it changed the
+        key and whether it follows a loss."""
+        shard = self.shard(key)
+        own = [one for one in order if one[0].key == key or one[0].kind == FLUSH and one[0].shard == shard]
+        marks = bytearray(CHANGED * is_change | WAS_LOST * was_lost for _, is_change, was_lost in own)
+        if self.loses and key in self.falling:
+            for at in begun_anew(own):
+                marks[at] |= WAS_LOST
+        self.orders.put(key, Order(array("I", [event.id for event, _, _ in own]), marks))
 
     def placed(self, key: bytes) -> list[Placed]:
         """The order of a key with the states after its calls."""
         return self.orders.stretch(key, 0, len(self.found[key].calls)).placed
 
     def order_of(self, calls: Calls, found: list[Made] | None = None) -> list[Made]:
-        """An order of these calls; one without losses, if such a one is soon found. `found` is one with losses, where it
-        is known."""
+        """An order of these calls; one in which uniques rise, if there is one. `found` is one with losses, where it is
+        known."""
+        try:
+            return self.risen(calls, found)
+        except Stuck:
+            if not calls.states.rises or not calls.have_uniques():
+                raise
+        calls.states.rises = False
+        return self.run(calls, self.limit)
+
+    def risen(self, calls: Calls, found: list[Made] | None) -> list[Made]:
+        """An order of these calls; one without losses, if such a one is soon found."""
         order = None if found else quick(calls)
         if order is not None:
             return order

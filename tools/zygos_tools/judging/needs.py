@@ -33,10 +33,11 @@ class Needs:
         self.events, self.values, self.can_lose, self.first = events, states.values, states.loses, first
         self.numbers: dict[Thing, int] = {}
         self.things: list[Thing] = []
+        has_uniques = states.rises or not states.loses  # otherwise two items may have one unique
         self.seers: list[list[int]] = []
         self.makers: list[list[int]] = []
         for place, event in enumerate(events):
-            for thing in wanted(event, self.can_lose):
+            for thing in wanted(event, self.can_lose, has_uniques):
                 self.want(place, thing)
         Makers(self).find()
         self.need, self.make = [len(some) for some in self.seers], [len(some) for some in self.makers]
@@ -144,15 +145,15 @@ class Needs:
         return places[at]
 
 
-def wanted(event: Event, can_lose: bool) -> Iterator[Thing]:
-    """What a call needs."""
+def wanted(event: Event, can_lose: bool, has_uniques: bool = True) -> Iterator[Thing]:
+    """What a call needs; without `has_uniques` no unique."""
     kind, want, key = event.kind, event.want, event.key
     if want is None or kind == FLUSH:
         return
     if kind == GET and want == "hit":
         if event.item is not None:
             yield ITEM, key, event.item
-        if event.unique is not None:
+        if event.unique is not None and has_uniques:
             yield UNIQUE, key, event.unique
     elif want == "number":
         if kind == INCR:
@@ -160,7 +161,8 @@ def wanted(event: Event, can_lose: bool) -> Iterator[Thing]:
         elif event.number:
             yield NUMBER, key, event.number + event.given
     elif kind == CAS and want == "stored":
-        yield UNIQUE, key, event.given
+        if has_uniques:
+            yield UNIQUE, key, event.given
     elif not can_lose and (want in ("miss", "not found") or kind == ADD and want == "stored" or
                            want == "not stored" and kind in (REPLACE, APPEND, PREPEND)):
         yield ITEM, key, ABSENT

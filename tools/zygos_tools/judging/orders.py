@@ -60,8 +60,8 @@ Listener = Callable[[bytes, int, int, Order], None]
 class Orders:
     """The orders of keys: `found` has them by key, and `places` where each call is; a flush is in several.
 
-    `first` has the items that keys had at first, `loses` says whether items may be lost. `listener` is called before an
-    order changes.
+    `first` has the items that keys had at first, `loses` says whether items may be lost, and `falling` has the keys
+    whose uniques need not rise. `listener` is called before an order changes.
     """
 
     def __init__(self, table: Table, loses: bool, first: dict[bytes, tuple[int, bytes] | None]):
@@ -69,6 +69,7 @@ class Orders:
         self.found: dict[bytes, Order] = {}
         self.places = array("I", bytes(4 * len(table.kind)))
         self.tops: dict[bytes, array[int]] = {}
+        self.falling: set[bytes] = set()
         self.listener: Listener | None = None
 
     def put(self, key: bytes, order: Order) -> None:
@@ -117,7 +118,7 @@ class Orders:
             high += 1
             if self.says(calls[high - 1], marks[high - 1]):
                 break
-        events, states = self.table.events(calls[max(0, low - 1) : high]), States(self.loses)
+        events, states = self.table.events(calls[max(0, low - 1) : high]), States(self.loses, False, key not in self.falling)
         states.learn(events)
         begin = self.state_after(key, low - 1, events[0]) if low else (self.item_at_first(key, states), 0, 0)
         return Stretch(low, begin, states, with_states(states, begin, events[low > 0 :], marks[low:high]))
@@ -134,7 +135,7 @@ class Orders:
             if marks[place]:
                 break
             place -= 1
-        return item, known, self.greatest(key)[at]
+        return item, known, 0 if key in self.falling else self.greatest(key)[at]
 
     def greatest(self, key: bytes) -> array[int]:
         """The greatest unique that was seen up to each place of a key's order."""
@@ -152,6 +153,8 @@ class Orders:
         for at in range(first, last):
             call = calls[at]
             kind = kinds[call]
+            if marks[at] & WAS_LOST:
+                top = 0
             if kind == GET:
                 if wants[call] & HAS_UNIQUE and seen[call] > top:
                     top = seen[call]

@@ -149,7 +149,7 @@ class Reason:
         """The words that may be missing."""
         advice = "; if the server held items before the recording, add --warm" if self.is_known else ""
         if not self.states.loses and self.may_be_lost(self.events):
-            advice += "; if the server evicts items, add --may-forget"
+            advice += "; if the server evicts items or was started again, add --may-forget"
         return advice
 
     def may_be_lost(self, events: Sequence[Event]) -> bool:

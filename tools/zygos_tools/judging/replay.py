@@ -4,7 +4,7 @@ Only what zygos says otherwise than the server is translated, and each case is c
 
 | Counted as | What |
 |---|---|
-| uniques | the numbers that the server showed of items, in answers and commands that give them; on each key one to one |
+| uniques | the numbers that the server showed of items, in answers and commands that give them; on each key one to one, between two losses of its item |
 | version | the text of `version` |
 | error lines | the text of the answer to a line that is faulty here and there |
 | padded values | a number that became shorter, which keeps its length in memcached, with spaces |
@@ -43,6 +43,8 @@ MOST_GATHERED = 1 << 20
 MISS, FLUSHED = Reply("miss"), Reply("flushed")
 # an item: its flags, its value and its unique
 Item = tuple[int, bytes, int]
+# a key, how often its item was lost before, and a unique
+Unique = tuple[bytes, int, int]
 
 
 class Store:
@@ -111,9 +113,10 @@ class Replay:
         self.table, self.file, self.store, self.counts = table, file, Store(table.shards), Counter[str]()
         self.answers: dict[int, bytes] = {}
         self.given: dict[int, int] = {}
-        self.names: dict[tuple[bytes, int], int] = {}
-        self.taken: dict[tuple[bytes, int], int] = {}
-        self.unnamed: set[tuple[bytes, int]] = set()
+        self.names: dict[Unique, int] = {}
+        self.taken: dict[Unique, int] = {}
+        self.unnamed: set[Unique] = set()
+        self.losses = Counter[bytes]()
         self.pads: dict[bytes, bool] = {}
         self.replies: dict[int, list[Reply]] = {}
         self.places = places_of(table)
@@ -127,8 +130,9 @@ class Replay:
         shard = self.table.shard_of[self.table.key_of[key]]
         kind, flags, value = (SET, *item) if item else (DELETE, 0, b"")
         reply, _ = self.store.change(kind, shard, key, flags, value, 0)
-        if reply != ("stored" if item else "deleted"):
-            raise Unknown(f"key {brief(key)}: {reply} in the order that was found")
+        if item is None:
+            self.losses[key] += 1
+            self.counts["uniques begun anew without a loss"] += reply != "deleted"
         self.pads.pop(key, None)
         self.write(shard, connection, place, 0, coded(kind, key, flags, value, 0) + REPLY_CODE[reply])
 
@@ -229,22 +233,26 @@ class Replay:
         return f"zygos answers {ours} in the order that was found"
 
     def name(self, key: bytes, unique: int, ours: int) -> None:
-        """A unique of the server is that of this item of ours."""
-        if (key, unique) in self.unnamed:
+        """A unique of the server is that of this item of ours. After a loss of the key's item it may be another one's."""
+        named = key, self.losses[key], unique
+        if named in self.unnamed:
             raise Unknown(f"key {brief(key)}: the unique {unique} is given by a command before it is shown")
-        if self.names.setdefault((key, unique), ours) != ours or self.taken.setdefault((key, ours), unique) != unique:
+        if self.names.setdefault(named, ours) != ours or self.taken.setdefault((key, 0, ours), unique) != unique:
             raise Unknown(f"key {brief(key)}: the unique {unique} is shown of two items, or an item with two uniques")
         self.counts["uniques"] += unique != ours
 
     def renamed(self, call: int, key: bytes, item: Item | None, want: str | None) -> int:
         """The unique that a command gives to zygos; one that the server never showed becomes one that no item has."""
         unique = self.table.given[call]
-        if item is not None and want == "stored" and (key, unique) not in self.names:
+        named = key, self.losses[key], unique
+        if item is not None and want == "stored" and named not in self.names:
             self.name(key, unique, item[2])
-        ours = self.names.get((key, unique))
-        if ours is None:
+        ours = self.names.get(named)
+        if ours is None and self.losses[key]:  # it may be one from before the loss
+            ours = 0
+        elif ours is None:
             ours = 0 if item is not None and item[2] == unique else unique
-            self.unnamed.add((key, unique))
+            self.unnamed.add(named)
         if ours != unique:
             self.counts["uniques"] += 1
             self.given[self.table.command[call]] = ours

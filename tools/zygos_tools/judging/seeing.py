@@ -211,8 +211,10 @@ class Seeing:
             table.flags[call], want = flags, want | HAS_FLAGS
         if at is not None:
             table.value_at[call], table.value_size[call], want = at, size, want | HAS_VALUE
-        if unique is not None:
+        if unique:
             table.seen[call], want = unique, want | HAS_UNIQUE
+        elif unique is not None:  # a server without uniques shows this one of all items
+            self.recording.notes["uniques that are 0"] += 1
         table.want[call] = want
 
     def look_for_twice(self, calls: range) -> None:

@@ -15,8 +15,9 @@ from zygos_tools.judging.orders import Order
 LEAST_CALLS = 50000
 MOST_PROCESSES = 16
 
-# what a process finds: the orders, the items at first, and what is said of keys without an order
-Found = tuple[dict[bytes, Order], "dict[bytes, tuple[int, bytes] | None]", list[Verdict]]
+# what a process finds: the orders, the items at first, the keys whose uniques need not rise, and what is said of keys
+# without an order
+Found = tuple[dict[bytes, Order], "dict[bytes, tuple[int, bytes] | None]", "set[bytes]", list[Verdict]]
 
 
 class Clock(Protocol):
@@ -92,7 +93,7 @@ def searched(keys: Keys, share: list[bytes]) -> Found:
             keys.search([key])
         except Verdict as verdict:
             faults.append(verdict)
-    return keys.found, keys.first, faults
+    return keys.found, keys.first, keys.falling, faults
 
 
 def gather(keys: Keys, clock: Clock, children: dict[int, IO[bytes]], faults: list[Verdict]) -> None:
@@ -117,7 +118,8 @@ def take(keys: Keys, text: bytes, faults: list[Verdict]) -> None:
     """Takes what one process found."""
     if not text:
         raise Unknown("a process that searched keys has ended; --processes 1 searches in one")
-    found, first, new = pickle.loads(text)
+    found, first, falling, new = pickle.loads(text)
+    keys.falling.update(falling)
     for key, order in found.items():
         keys.orders.put(key, order)
     keys.first.update(first)

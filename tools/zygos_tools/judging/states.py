@@ -2,8 +2,11 @@
 
 The state of a key is (item, unique, top): the number of its flags and value, ABSENT for none, ANYTHING where nothing is
 known of it; the server's unique of the item, 0 while none was seen; and the greatest unique that was seen of the key's
-items so far. A server's uniques of one key are taken to rise. A step gives the states that a call may lead to, none
-where its reply does not fit.
+items so far. A step gives the states that a call may lead to, none where its reply does not fit.
+
+A server's uniques of one key are taken to rise as long as that gives an order. They need not: a server that was started
+again counts anew, and another one may not count. So if there is no order, they are taken to be in any order, and `top`
+stays 0.
 """
 from __future__ import annotations
 
@@ -49,17 +52,12 @@ def reached_at(new: New, slot: int | None) -> State:
     return state if slot is None else state[slot]  # type: ignore[return-value]
 
 
-def top(state: State) -> int:
-    """The greatest unique that was seen."""
-    return state[2] if state[2] > state[1] else state[1]
-
-
 class States:
-    """The steps of calls on a key. With `loses` the server may lose an item before any call; `is_wide` is that of
-    Values."""
+    """The steps of calls on a key. With `loses` the server may lose an item before any call, and then counts its uniques
+    anew; `rises` says whether they rise otherwise. `is_wide` is that of Values."""
 
-    def __init__(self, loses: bool = False, is_wide: bool = False):
-        self.values, self.loses, self.flags = Values(is_wide), loses, [0]
+    def __init__(self, loses: bool = False, is_wide: bool = False, rises: bool = True):
+        self.values, self.loses, self.rises, self.flags = Values(is_wide), loses, rises, [0]
         self.of_number: dict[int | None, list[int]] = {}
 
     def learn(self, events: Iterable[Event]) -> None:
@@ -80,9 +78,20 @@ class States:
         if now[0] < 0:
             return self.step_anything(now, event)
         found: tuple[New, ...] = STEPS[event.kind](self, now, event)
-        if self.loses and now[0] > 0 and (event.kind == ADD if event.want is None else not found):
-            found += tuple([Lost(new) for new in STEPS[event.kind](self, (ABSENT, 0, top(now)), event)])
+        if self.loses and self.may_be_lost(now, event, bool(found)):
+            found += tuple([Lost(new) for new in STEPS[event.kind](self, NO_ITEM, event)])
         return found
+
+    def may_be_lost(self, now: State, event: Event, fits: bool) -> bool:
+        """Whether a loss before a call is looked at: of the item, if the call does not fit otherwise; and if uniques need
+        not rise, of whatever the call replaces, for they are counted anew then."""
+        if not self.rises and event.kind in (SET, ADD) and (event.kind == SET or not now[0]):
+            return True
+        return now[0] > 0 and (event.kind == ADD if event.want is None else not fits)
+
+    def top(self, state: State) -> int:
+        """The greatest unique that was seen, if they rise."""
+        return max(state[1], state[2]) if self.rises else 0
 
     def get(self, state: State, event: Event) -> tuple[State, ...]:
         item = state[0]
@@ -104,14 +113,14 @@ class States:
         item, known, greatest = state
         if known:
             return (state,) if known == unique else ()
-        return ((item, unique, greatest),) if unique > greatest else ()
+        return ((item, unique, greatest),) if unique > greatest or not self.rises else ()
 
     def set(self, state: State, event: Event) -> tuple[State, ...]:
-        return ((stored(event), 0, top(state)),)
+        return ((stored(event), 0, self.top(state)),)
 
     def add(self, state: State, event: Event) -> tuple[State, ...]:
         if (event.kind == ADD) == (not state[0]):
-            return ((stored(event), 0, top(state)),) if event.want != "not stored" else ()
+            return ((stored(event), 0, self.top(state)),) if event.want != "not stored" else ()
         return (state,) if event.want != "stored" else ()
 
     def join(self, state: State, event: Event) -> tuple[State, ...]:
@@ -122,7 +131,7 @@ class States:
             return (state,) if event.want in ("too large", "not stored", None) else ()
         if event.want in ("too large", "not stored"):  # memcached counts its header too
             return (state,) if len(self.values.pairs[item][1]) > MOST_VALUE - MOST_HEAD else ()
-        return ((item, 0, top(state)),)
+        return ((item, 0, self.top(state)),)
 
     def exchange(self, state: State, event: Event) -> tuple[State, ...]:
         item, known, greatest = state
@@ -130,9 +139,9 @@ class States:
             return (state,) if event.want in ("not found", None) else ()
         found: list[State] = []
         unique = event.given
-        can_be = known == unique if known else unique > greatest
+        can_be = known == unique if known else unique > greatest or not self.rises
         if can_be and event.want in ("stored", None):
-            found.append((stored(event), 0, max(greatest, unique)))
+            found.append((stored(event), 0, max(greatest, unique) if self.rises else 0))
         if (known != unique or not known) and event.want in ("exists", None):
             found.append(state)
         return tuple(found)
@@ -145,15 +154,15 @@ class States:
             return (state,) if event.want in ("no number", None) else ()
         if event.want not in ("number", None) or event.want and found[0] != event.number:
             return ()
-        return tuple([(item, 0, top(state)) for item in found[1]])
+        return tuple([(item, 0, self.top(state)) for item in found[1]])
 
     def delete(self, state: State, event: Event) -> tuple[State, ...]:
         if not state[0]:
             return (state,) if event.want != "deleted" else ()
-        return ((ABSENT, 0, top(state)),) if event.want != "not found" else ()
+        return ((ABSENT, 0, self.top(state)),) if event.want != "not found" else ()
 
     def flush(self, state: State, _: Event) -> tuple[State, ...]:
-        return (state,) if not state[0] else ((ABSENT, 0, top(state)),)
+        return (state,) if not state[0] else ((ABSENT, 0, self.top(state)),)
 
     def step_anything(self, state: State, event: Event) -> tuple[State, ...]:
         """A step where nothing is known of the item: what was seen says what it may have been."""
