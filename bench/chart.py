@@ -1,5 +1,7 @@
 """Charts of curves as SVG: axes with units and round ticks, a mark for each curve, the spread of runs, and the command
 that made it."""
+from __future__ import annotations
+
 import math
 from dataclasses import dataclass, field
 

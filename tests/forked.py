@@ -1,5 +1,7 @@
 """Runs the tools in forks of this process, which has their modules: that takes a tenth of the time that Python needs to
 start."""
+from __future__ import annotations
+
 import functools
 import importlib
 import io

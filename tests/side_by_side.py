@@ -2,6 +2,8 @@
 
 A test that ends its process, or takes too long, has failed, and the others run all the same.
 """
+from __future__ import annotations
+
 import io
 import os
 import pickle
@@ -26,7 +28,7 @@ USUAL = {signal.SIGPIPE: signal.SIG_IGN, signal.SIGINT: signal.default_int_handl
          signal.SIGHUP: signal.SIG_DFL}
 
 
-@dataclass(slots=True)
+@dataclass
 class Outcome:
     """The result of a test: how many passed, failed and were skipped, and the texts about it; then its seconds of wall
     time and of a processor, with those of the processes that it started."""

@@ -26,7 +26,7 @@ def evaluated(expressions):
     printed = "".join(f"print({expression})\n" for expression in expressions.values())
     code = f"import common\nfrom common import Cost, Ratio\n{printed}"
     ran = subprocess.run([sys.executable, "-B", "-c", code], cwd=BENCH, capture_output=True, text=True, check=True)
-    return dict(zip(expressions, ran.stdout.splitlines(), strict=True))
+    return dict(zip(expressions, ran.stdout.splitlines()))
 
 
 # ---- traffic

@@ -1,5 +1,6 @@
 """Tests what the repository keeps of itself: crates.txt, lists in pages, names, lemmas, laws, examples, and the tools' own
 source by pyflakes and mypy."""
+import ast
 import glob
 import os
 import re
@@ -9,6 +10,8 @@ import tempfile
 import unittest
 
 from checks import LONGEST, TOP, built_program, cases, fail, run, same, skip, written
+from zygos_tools.repository import matching
+from zygos_tools.starting import LEAST
 
 # the packages of the tools whose types are checked
 TYPED = ("cli", "files", "protocol", "judging", "comparing")
@@ -45,7 +48,7 @@ def listed_crates():
     """Each crate that a line of crates.txt lists is named by a file of the line's crate."""
     for name, needs in crates().items():
         text = "".join(read(path) for kind in ("rt", "antt") for part in ("src", "specs", "proofs")
-                       for path in glob.glob(f"crates/{name}/{part}/**/*.{kind}", root_dir=TOP, recursive=True))
+                       for path in matching(f"crates/{name}/{part}/**/*.{kind}"))
         for listed in needs:
             if not re.search(rf"\b{listed}(::|\.)", text):
                 fail("crates.txt", f"no file of {name} names {listed}")
@@ -106,12 +109,31 @@ def flakes():
     same("what pyflakes finds", (0, ""), (ran.returncode, (ran.stdout + ran.stderr).decode()))
 
 
+def old_pythons():
+    """Each Python source has the grammar of the oldest Python, which reads no annotation when it runs."""
+    for path in sources():
+        with open(path, encoding="utf-8") as file:
+            text = file.read()
+        try:
+            tree = ast.parse(text, feature_version=LEAST)
+        except SyntaxError as error:
+            fail(path, str(error))
+            continue
+        same(f"{path}: with annotations, it has `from __future__ import annotations`", True,
+             "\nfrom __future__ import annotations\n" in text or not any(map(is_annotated, ast.walk(tree))))
+
+
+def is_annotated(node):
+    is_argument = isinstance(node, ast.arg) and node.annotation
+    return isinstance(node, ast.AnnAssign) or is_argument or bool(getattr(node, "returns", None))
+
+
 def types():
     """mypy finds nothing in the packages with types, in its strict mode."""
     if not shutil.which("mypy"):
         skip("mypy is not installed (Debian: mypy)")
     words = [word for name in TYPED for word in ("-p", f"zygos_tools.{name}")]
-    ran = subprocess.run(["mypy", "--strict", "--no-error-summary", "--cache-dir", "/dev/null", *words], check=False,
+    ran = subprocess.run(["mypy", "--strict", "--python-version", "%d.%d" % LEAST, "--no-error-summary", "--cache-dir", "/dev/null", *words], check=False,
                          capture_output=True, timeout=LONGEST, cwd=os.path.join(TOP, "tools"))
     places = tuple(f"zygos_tools/{name}/" for name in TYPED)
     found = [line for line in (ran.stdout + ran.stderr).decode().splitlines() if line.startswith(places)]
@@ -155,7 +177,7 @@ def gates():
                  process.stdout.read().splitlines()[-1])
 
 
-Tests = cases(pages, listed_crates, upkeep, english, instructions, flakes, types, gates)
+Tests = cases(pages, listed_crates, upkeep, english, instructions, flakes, old_pythons, types, gates)
 
 if __name__ == "__main__":
     unittest.main()

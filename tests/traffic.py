@@ -32,7 +32,6 @@ class Server:
 
     def __init__(self, place=("127.0.0.1", 0), unique=0):
         self.items, self.uniques, self.unique, self.hushed, self.held = {}, {}, unique, 0, 0
-        self.released = asyncio.Event()
         self.writers, self.loop = set(), asyncio.new_event_loop()
         threading.Thread(target=self.loop.run_forever, daemon=True).start()
         self.listening = self.do(self.listen(place))
@@ -43,6 +42,7 @@ class Server:
         return asyncio.run_coroutine_threadsafe(task, self.loop).result(LONGEST)
 
     async def listen(self, place):
+        self.released = asyncio.Event()  # of this loop
         if isinstance(place, str):
             return await asyncio.start_unix_server(self.serve, place, backlog=4096)
         return await asyncio.start_server(self.serve, *place, backlog=4096)
@@ -80,48 +80,58 @@ class Server:
 
     async def answer(self, words, lines, writer):
         """What answers a command, or the rest of it."""
-        match words:
-            case [b"set", key, _, _, size, *rest]:
-                self.store(key, await lines.readexactly(int(size) + 2))
-                return b"" if rest else b"STORED\r\n"
-            case [b"cas", key, _, _, size, unique] | [b"ms", key, size, unique]:
-                value, is_meta = await lines.readexactly(int(size) + 2), words[0] == b"ms"
-                if int(unique.removeprefix(b"C")) != self.uniques.get(key):
-                    return b"EX\r\n" if is_meta else b"EXISTS\r\n"
-                self.store(key, value)
-                return b"HD\r\n" if is_meta else b"STORED\r\n"
-            case [b"gets", *keys]:
-                return b"".join(b"VALUE %s 0 %d %d\r\n%s\r\n" % (key, len(self.items[key]), self.uniques[key],
-                                                                 self.items[key])
-                                for key in keys if key in self.items) + b"END\r\n"
-            case [b"mg", key, b"c"]:
-                return b"HD c%d\r\n" % self.uniques[key] if key in self.items else b"EN\r\n"
-            case [b"get", *keys]:
-                return b"".join(b"VALUE %s 0 %d\r\n%s\r\n" % (key, len(self.items[key]), self.items[key])
-                                for key in keys if key in self.items) + b"END\r\n"
-            case [b"mg", key, *_]:
-                found = self.items.get(key)
-                return b"" if found is None else b"VA %d\r\n%s\r\n" % (len(found), found)
-            case [b"mn"]:
-                return b"MN\r\n"
-            case [b"big", size]:
-                return big(int(size))
-            case [b"hold"]:
-                self.held += 1
-                await self.released.wait()
-                return b"OK\r\n"
-            case [b"echo", size]:
-                writer.write(b"VALUE echo 0 %s\r\n" % size)
-                left = int(size) + 2
-                while left and (text := await lines.read(min(left, 1 << 16))):
-                    writer.write(text)
-                    await writer.drain()
-                    left -= len(text)
-                return b"END\r\n"
-            case [b"hush"]:
-                self.hushed += 1
-                return b""
-        return b"ERROR\r\n"
+        name, *rest = words
+        if name in (b"set", b"cas", b"ms"):
+            return await self.answer_storing(words, lines)
+        if name in (b"get", b"gets"):
+            return b"".join(self.shown(key, name == b"gets") for key in rest if key in self.items) + b"END\r\n"
+        if name == b"mg":
+            return self.answer_mg(*rest)
+        if name == b"big":
+            return big(int(rest[0]))
+        if name == b"hold":
+            self.held += 1
+            await self.released.wait()
+            return b"OK\r\n"
+        if name == b"echo":
+            return await echo(rest[0], lines, writer)
+        if name == b"hush":
+            self.hushed += 1
+            return b""
+        return b"MN\r\n" if name == b"mn" else b"ERROR\r\n"
+
+    async def answer_storing(self, words, lines):
+        """Answers `set`, also with noreply, `cas` and `ms` with a unique."""
+        name, key, *rest = words
+        is_meta = name == b"ms"
+        value = await lines.readexactly(int(rest[0 if is_meta else 2]) + 2)
+        if name != b"set" and int(rest[-1].removeprefix(b"C")) != self.uniques.get(key):
+            return b"EX\r\n" if is_meta else b"EXISTS\r\n"
+        self.store(key, value)
+        return b"HD\r\n" if is_meta else b"" if rest[3:] == [b"noreply"] else b"STORED\r\n"
+
+    def answer_mg(self, key, *flags):
+        """Answers `mg` with the flag c, or with q and v."""
+        found = self.items.get(key)
+        if b"c" in flags:
+            return b"EN\r\n" if found is None else b"HD c%d\r\n" % self.uniques[key]
+        return b"" if found is None else b"VA %d\r\n%s\r\n" % (len(found), found)
+
+    def shown(self, key, has_unique):
+        """The item of a key, as `get` or `gets` shows it."""
+        value, unique = self.items[key], b" %d" % self.uniques[key] if has_unique else b""
+        return b"VALUE %s 0 %d%s\r\n%s\r\n" % (key, len(value), unique, value)
+
+
+async def echo(size, lines, writer):
+    """Sends the bytes after an `echo` back as they come. Gives the end of the answer."""
+    writer.write(b"VALUE echo 0 %s\r\n" % size)
+    left = int(size) + 2
+    while left and (text := await lines.read(min(left, 1 << 16))):
+        writer.write(text)
+        await writer.drain()
+        left -= len(text)
+    return b"END\r\n"
 
 
 def big(size):

@@ -2,3 +2,6 @@
 import os
 
 __path__ = [os.path.join(os.path.dirname(os.path.dirname(os.path.realpath(__file__))), "tools", "zygos_tools")]
+from zygos_tools.starting import start
+
+start()

@@ -4,6 +4,8 @@ A tool ends quietly when it is interrupted or the reader of its output goes away
 and writing, it prints one line that says where, and ends with status 1; words that it does not know have status 2. What
 nobody foresaw is one line too, with status 70: it names the file with the trace.
 """
+from __future__ import annotations
+
 import io
 import os
 import re
@@ -129,7 +131,7 @@ def unforeseen(error: BaseException) -> str:
     try:
         file, name = tempfile.mkstemp(prefix="zygos-", suffix=".trace")
         with open(file, "w", encoding="utf-8", errors="backslashreplace") as kept:
-            kept.writelines(traceback.format_exception(error))
+            kept.writelines(traceback.format_exception(type(error), error, error.__traceback__))
     except OSError as fault:
         return f"{what}; its trace could not be written: {fault.strerror}"
     return f"{what}; please report it with the trace in {name}"

@@ -1,4 +1,6 @@
 """Lines on standard error: those that stay and, on a terminal, one that is written over again and again."""
+from __future__ import annotations
+
 import os
 import sys
 import time

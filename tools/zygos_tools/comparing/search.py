@@ -4,6 +4,8 @@ hears how far it is, and the file of the order that it found.
 `tools/judge`, `tools/inline` and `tools/compare` have one search. What the first one found is written to a file of
 text, and the others read it: so all three speak of one order.
 """
+from __future__ import annotations
+
 import hashlib
 import re
 from collections import Counter
@@ -22,7 +24,7 @@ def no_ticks(_: str) -> None:
     """Nobody hears how far it is."""
 
 
-@dataclass(frozen=True, slots=True)
+@dataclass(frozen=True)
 class Search:
     """How an order is searched for. `tick` is called about once a second, `say` if none was found in the time, and `note`
     with a limit that the search met otherwise, as it does each time."""

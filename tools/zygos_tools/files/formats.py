@@ -5,12 +5,14 @@ raise the first fault; they keep nothing of what they gave. `read_capture` and i
 `segment` and the like give the bytes of values, and `capture_start` and its like those before the first record, to
 which records and END are appended.
 """
+from __future__ import annotations
+
 import os
 import re
 import struct
 from collections.abc import Callable, Iterable, Iterator
 from operator import itemgetter
-from typing import Any, NamedTuple, TypeVar
+from typing import Any, NamedTuple, TypeVar, Union
 
 from zygos_tools.files.part import Part
 
@@ -36,7 +38,7 @@ class Close(NamedTuple):
     connection: int
 
 
-Record = Segment | Close
+Record = Union[Segment, Close]
 
 
 class Capture(NamedTuple):

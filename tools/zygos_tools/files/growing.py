@@ -3,6 +3,8 @@
 While a capture grows, its head has version 2 and 4,096 connections; at its end these become the right ones. One that
 was left while it grew is whole up to its last record, and can be completed.
 """
+from __future__ import annotations
+
 import os
 from collections.abc import Callable
 

@@ -1,4 +1,6 @@
 """The inputs of the tools: files by their names, and standard input, whose name is -."""
+from __future__ import annotations
+
 import functools
 import sys
 from collections.abc import Callable, Iterator

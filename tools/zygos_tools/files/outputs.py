@@ -3,6 +3,8 @@
 A file in which there is something is refused unless it may be written over, and so are an output that is also an input
 and two outputs that are one file. Pipes, devices and standard output are written directly.
 """
+from __future__ import annotations
+
 import contextlib
 import errno
 import os

@@ -1,4 +1,6 @@
 """A part of an input, one file of zygos, whose bytes are read in order; a fault is named by its place."""
+from __future__ import annotations
+
 from collections.abc import Callable, Iterator
 
 MOST_CAPTURE, MOST_FILE = (1 << 32) - 1, (1 << 63) - 1

@@ -5,6 +5,8 @@ was sent. A replies file has each output whole, so the spool is gone over twice:
 at its place. What is in memory does not grow with it. Where the replies go to a pipe, pieces cannot be put at places:
 then 8 bytes for each segment say where it is, and outputs come one after the other.
 """
+from __future__ import annotations
+
 import os
 from array import array
 from collections.abc import Callable, Iterator

@@ -130,7 +130,7 @@ class Fitting:
 
     def sorted(self, some: Iterable[int]) -> list[int]:
         """These calls in an order that fits."""
-        return sorted(some, key=lambda at: (self.before[at].bit_count(), self.hints[at]))
+        return sorted(some, key=lambda at: (bin(self.before[at]).count("1"), self.hints[at]))
 
     # ---- what follows
 

@@ -24,7 +24,7 @@ MOST_STATES, MOST_GUESSES = 20000, 30
 MOST_ELSEWHERE = 20
 
 
-@dataclass(slots=True)
+@dataclass
 class Calls:
     """The calls on a key, or on a few keys together, by their begins, and the states of these keys.
 

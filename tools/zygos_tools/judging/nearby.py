@@ -13,6 +13,18 @@ from zygos_tools.judging.events import Event
 from zygos_tools.judging.table import DROPPED, Table
 
 
+def first_from(commands: Sequence[int], times: Sequence[int], time: int) -> int:
+    """The place of the first of these commands whose time is this one or later. Their times rise."""
+    low, high = 0, len(commands)
+    while low < high:
+        middle = (low + high) // 2
+        if times[commands[middle]] < time:
+            low = middle + 1
+        else:
+            high = middle
+    return low
+
+
 class Nearby:
     """The calls of a table by their times; `calls_on` gives those on a key by their begins, as a range of an array."""
 
@@ -36,7 +48,7 @@ class Nearby:
         """The commands that had begun before a time, and had not ended before it."""
         begins, ends, states = self.table.begin, self.table.end, self.table.state
         for asked in self.of_connection:
-            for at in range(bisect_left(asked, time, key=ends.__getitem__), len(asked)):
+            for at in range(first_from(asked, ends, time), len(asked)):
                 command = asked[at]
                 if begins[command] >= time:
                     break

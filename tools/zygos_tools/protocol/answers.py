@@ -4,9 +4,10 @@ the answers of an output belong to where each command has its answer.
 Nothing is taken for granted: an answer may be cut off, have too few words, or numbers that are none. What an answer
 does not show as it should is None.
 """
+from __future__ import annotations
+
 import re
 from collections.abc import Iterator
-from dataclasses import dataclass
 from typing import NamedTuple
 
 from zygos_tools.protocol.meaning import Command, frames_of, line_of, words_of
@@ -97,8 +98,7 @@ MOST_WORDS = 400
 # ---- what answers show
 
 
-@dataclass(frozen=True, slots=True)
-class Item:
+class Item(NamedTuple):
     """An item that an answer shows: a line VALUE with its block. `size` is the length that the line says."""
 
     key: bytes
@@ -153,8 +153,7 @@ def last_line(text: bytes) -> bytes:
     return text[at:].rstrip(b"\r\n")
 
 
-@dataclass(frozen=True, slots=True)
-class Meta:
+class Meta(NamedTuple):
     """A meta answer: its code, its marks by their letters, and its value, if it has one."""
 
     code: bytes

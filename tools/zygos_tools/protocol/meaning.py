@@ -2,6 +2,8 @@
 
 It is a part of the plain model (model.py), written from the tables of the page.
 """
+from __future__ import annotations
+
 import functools
 import re
 from collections.abc import Callable, Iterator, Sequence

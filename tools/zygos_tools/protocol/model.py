@@ -2,6 +2,8 @@
 
 It is written from the tables of docs/PROFILE.md, and takes its time. The commands are in meaning.py.
 """
+from __future__ import annotations
+
 import functools
 import re
 from collections.abc import Callable, Iterable

@@ -3,6 +3,8 @@
 A command is what a memcached takes for one, also of those that docs/PROFILE.md leaves out. Of the commands of binary
 clients, and of lines that a server may take for this or that, nothing exact is said.
 """
+from __future__ import annotations
+
 from collections import deque
 from collections.abc import Iterator
 from typing import Generic, NamedTuple, Protocol, TypeVar

@@ -4,6 +4,8 @@ The forms of those that zygos serves, as docs/PROFILE.md has them, are in meanin
 there. What is here is true of a memcached: which words are keys, the length of a block or a unique, which answers a
 command has, and which of these the flag `q` hides.
 """
+from __future__ import annotations
+
 from dataclasses import dataclass
 
 from zygos_tools.protocol.meaning import FORMS, Command, words_of
@@ -13,7 +15,7 @@ META_CODES = (b"HD", b"VA", b"EN", b"NS", b"EX", b"NF")
 STORED = "STORED NOT_STORED EXISTS NOT_FOUND"
 
 
-@dataclass(frozen=True, slots=True)
+@dataclass(frozen=True)
 class Kind:
     """A command. Places are numbers of words of its line, from 0 on; 0 where there is no such word.
 

@@ -5,6 +5,8 @@ command. If it is known what the recorded server answered, the unique that it sh
 server shows of it in the answer to the same command: that of this session, or else of another one. If not, a unique
 becomes the last one that the server has shown of its key. One for which there is none is sent as it is.
 """
+from __future__ import annotations
+
 import re
 from collections.abc import Iterable, Iterator
 from typing import Protocol
