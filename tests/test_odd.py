@@ -20,7 +20,7 @@ import unittest
 import forked
 import packets
 from checks import LONGEST, cases, fail, path_of, same, written
-from zygos_tools.comparing.search import FIRST_LINE, digest, order_text
+from zygos_tools.protocol.order_files import FIRST_LINE, digest, order_text
 from zygos_tools.files.formats import Call, Entry, Hold, Reply, capture, close, journal, replies, segment
 
 ASKED = b"set a 0 0 1\r\nx\r\nget a\r\ngets b\r\nincr n 1\r\nmg a v f c\r\nms a 1\r\ny\r\n"

@@ -5,15 +5,13 @@ the tokens that fit it, and how badly they agree is kept as sums along each shif
 """
 from __future__ import annotations
 
-import functools
 from collections.abc import Iterable
 from itertools import accumulate, compress, islice
 from operator import contains, ne, not_
 from typing import Generic, NamedTuple, TypeVar
 
-from zygos_tools.protocol.answers import FAULT, Group, first_word, without_uniques
-from zygos_tools.protocol.meaning import words_of
-from zygos_tools.protocol.table import BY_WORD, KINDS
+from zygos_tools.protocol.answers import Group, without_uniques
+from zygos_tools.protocol.fits import NONE, fitting, token_of
 
 # how many answers are looked at ahead, and how many are passed over at most
 LOOK, MOST = 64, 8
@@ -23,57 +21,7 @@ WEIGHTS, EIGHT = (100, 70, 50, 35, 25, 18, 12, 9), 8
 # how many are taken from a source at one time, how many are kept behind, and for how many shifts sums are kept
 PIECE, BEHIND, SHIFTS = 64, 1024, 256
 
-# how many lines and answers are kept with what is known of them
-MOST_KEPT = 1 << 13
-
 Given = TypeVar("Given")
-
-# ---- which answers fit which commands
-
-# the tokens of an error and of a number; that of an item has its key
-ERROR, NUMBER, ITEM = b"ERROR", b"0", b"VALUE "
-
-
-def token_of(answer: bytes) -> bytes:
-    """What an answer shows of the command that it may belong to."""
-    if FAULT.match(answer):
-        return ERROR
-    if answer.startswith(ITEM):
-        return ITEM + answer[:400].split(b" ", 2)[1]
-    word = first_word(answer)
-    return NUMBER if word.isdigit() else word
-
-
-class Any(frozenset[bytes]):
-    """The tokens of a command that may have each answer, but for the items of other keys."""
-
-    def __contains__(self, token: object) -> bool:
-        return super().__contains__(token) or not (isinstance(token, bytes) and token.startswith(ITEM))
-
-
-NONE = frozenset([ERROR])
-ANY = {kind.name for kind in KINDS.values() if not kind.answers}
-WORDS = {kind.name: NONE.union(kind.answers.encode().split()) for kind in KINDS.values()}
-
-
-@functools.lru_cache(MOST_KEPT)
-def fitting(line: bytes) -> frozenset[bytes]:
-    """The tokens of the answers that can be those of the command of a line."""
-    words = words_of(line)
-    kind = BY_WORD.get(words[0]) if words else None
-    if kind is None:
-        return NONE
-    found = WORDS[kind.name]
-    if b"VALUE" in found or kind.name in ANY:
-        found = found.union([ITEM + word for word in words])
-    return Any(found) if kind.name in ANY else found
-
-
-@functools.lru_cache(2 * MOST_KEPT)
-def fits(line: bytes, answer: bytes) -> bool:
-    """Whether an answer can be that of the command of a line."""
-    return token_of(answer) in fitting(line)
-
 
 # ---- what comes next
 

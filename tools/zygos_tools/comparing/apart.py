@@ -9,7 +9,7 @@ from typing import Union
 
 from zygos_tools.files.formats import shown
 from zygos_tools.protocol.meaning import Command, Frame, frames_of, line_of, words_of
-from zygos_tools.protocol.table import BY_WORD, COUNTING, JOINING, MAKING, NO_KIND, STORING, does, kind_of
+from zygos_tools.protocol.table import COUNTING, JOINING, MAKING, STORING, action_of, is_touching, keys_of
 
 
 # the bytes of a session, or its frames
@@ -95,29 +95,6 @@ class Callers:
                     values.add(hash((key, command.value)))
                 elif action in JOINING or command.verb == "fault" and not is_touching(line_of(frame)):
                     self.joined.add(key)
-
-
-def action_of(command: Command, frame: bytes) -> str:
-    """What a command does to the item of its key; of a faulty line, what it may do on another server."""
-    if command.verb != "fault":
-        return does(command)
-    kind = kind_of(line_of(frame))
-    return kind.does if kind else ""
-
-
-def is_touching(line: bytes) -> bool:
-    """Whether a line gives an item another exptime, and does no more to it."""
-    kind = kind_of(line)
-    return kind is not None and kind.touches
-
-
-def keys_of(command: Command, line: bytes) -> Sequence[bytes]:
-    """The keys of a command; those of a line that is faulty here too, for a memcached may serve it."""
-    if command.verb != "fault":
-        return command.keys
-    words = words_of(line)
-    kind = BY_WORD.get(words[0], NO_KIND) if words else NO_KIND
-    return words[kind.key :] if kind.key > 1 else words[1:2]
 
 
 def timed_by(command: Command, frame: bytes) -> Iterable[bytes]:

@@ -9,11 +9,11 @@ from __future__ import annotations
 from collections.abc import Callable, Iterator, Mapping, Sequence
 from typing import NamedTuple
 
-from zygos_tools.comparing.apart import Callers, Stream, frames_in, is_touching, keys_of, stored_by, timed_by
+from zygos_tools.comparing.apart import Callers, Stream, frames_in, stored_by, timed_by
 from zygos_tools.comparing.steps import Exchange
 from zygos_tools.protocol.answers import FAULT, items, meta, usual_item, without_uniques
 from zygos_tools.protocol.meaning import Command, Frame
-from zygos_tools.protocol.table import SHOWING, TELLING, does, is_there
+from zygos_tools.protocol.table import SHOWING, TELLING, does, is_there, is_touching, keys_of
 
 # the causes, from the one that says least of the servers to the one that says most; a difference in several keys has
 # those of the key with the last one that there is

@@ -42,11 +42,11 @@ from zygos_tools.comparing.apart import Callers
 from zygos_tools.comparing.arrivals import Kept, Key
 from zygos_tools.comparing.causes import Expected
 from zygos_tools.comparing.in_order import InOrder
-from zygos_tools.comparing.search import Search
 from zygos_tools.comparing.steps import Exchange
 from zygos_tools.files import inputs
 from zygos_tools.files.formats import Output, shown
 from zygos_tools.protocol.answers import answers
+from zygos_tools.protocol.order_files import Search
 from zygos_tools.protocol.table import TELLING
 
 # the bytes of a text that are shown before its first difference where that is far on, and in all

@@ -15,9 +15,9 @@ from zygos_tools.comparing.arrivals import Arrival, Given, Kept, Texts, ends_of,
 from zygos_tools.comparing.causes import Expected
 from zygos_tools.comparing.orders import ordered
 from zygos_tools.comparing.replaying import DONE, Replay
-from zygos_tools.comparing.search import Search
 from zygos_tools.comparing.steps import BOTH, Exchange, alike
 from zygos_tools.protocol.meaning import line_of
+from zygos_tools.protocol.order_files import Search
 from zygos_tools.protocol.table import READING, SHOWING, does
 
 

@@ -43,13 +43,13 @@ from zygos_tools.cli.screen import Screen
 from zygos_tools.comparing.arrivals import Arrivals, Given, Key, recorded, streams_of, with_answers
 from zygos_tools.comparing.orders import ordered
 from zygos_tools.comparing.replaying import Replay
-from zygos_tools.comparing.search import Search, digest, order_text
 from zygos_tools.files import inputs
 from zygos_tools.files.formats import END, MOST_SEGMENT, Output, capture_start, pieces, replies_file
 from zygos_tools.files.outputs import Beside, refuse_full, told_apart
 from zygos_tools.files.part import Fault
 from zygos_tools.protocol.answers import answers
 from zygos_tools.protocol.meaning import Command
+from zygos_tools.protocol.order_files import Search, digest, order_text
 
 Keep = Callable[[Iterable[bytes]], None]
 OPTIONS: dict[str, ends.Option | None] = {

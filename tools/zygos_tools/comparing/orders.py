@@ -18,10 +18,8 @@ from itertools import chain, count
 from time import monotonic
 from typing import NamedTuple
 
-from zygos_tools.comparing.apart import is_touching, keys_of
 from zygos_tools.comparing.arrivals import Arrival, Arrivals, Given, Texts, ends_of
 from zygos_tools.comparing.replaying import Replay
-from zygos_tools.comparing.search import Search, connections_of, digest, read_order
 from zygos_tools.comparing.seen import UNKNOWN, WRONG, Item, Known, Mark, Seen
 from zygos_tools.comparing.steps import alike
 from zygos_tools.files.formats import Output
@@ -30,6 +28,8 @@ from zygos_tools.files.part import Fault
 from zygos_tools.judging.events import Limited, Verdict
 from zygos_tools.judging.judge import Clock, Judge
 from zygos_tools.protocol.meaning import line_of
+from zygos_tools.protocol.order_files import Search, connections_of, digest, read_order
+from zygos_tools.protocol.table import is_touching, keys_of
 
 # how many states of a key judge looks at
 LIMIT = 10000

@@ -10,9 +10,10 @@ import functools
 from collections.abc import Iterator, Sequence
 from typing import NamedTuple
 
-from zygos_tools.comparing.ahead import (EIGHT, LOOK, MOST_KEPT, MOVES, MOVES_OF_ANSWERS, PAIRED, WEIGHTS, Agreement,
-                                         AnswersAhead, GroupsAhead, Move, fits, fitting, token_of)
-from zygos_tools.protocol.answers import FAULT, Group, answers, groups, name_of, without_uniques
+from zygos_tools.comparing.ahead import (EIGHT, LOOK, MOVES, MOVES_OF_ANSWERS, PAIRED, WEIGHTS, Agreement,
+                                         AnswersAhead, GroupsAhead, Move)
+from zygos_tools.protocol.answers import Group, answers, groups, name_of, without_uniques
+from zygos_tools.protocol.fits import MOST_KEPT, SHORT, fits, fitting, is_answered, is_fault, token_of
 from zygos_tools.protocol.meaning import Command
 from zygos_tools.protocol.table import TELLING
 
@@ -43,9 +44,6 @@ BOTH, ALONE, ENDED, LEFT = "both", "alone", "ended", "left"
 # for how many answers the step is not asked again while they fit their commands: for twice as many each time that both
 # are in step
 LEAST_SURE, MOST_SURE = 16, 1024
-# how many are looked at for one command that may be silent
-SHORT = 16
-
 # what is known of answers that differ is kept, as some come again and again
 unmarked = functools.lru_cache(MOST_KEPT)(without_uniques)
 
@@ -53,27 +51,6 @@ unmarked = functools.lru_cache(MOST_KEPT)(without_uniques)
 def alike(one: bytes, other: bytes) -> bool:
     """Whether two answers are the same but for the numbers of their uniques."""
     return one == other or one[:2] == other[:2] and unmarked(one) == unmarked(other)
-
-
-
-def is_fault(answer: bytes | None) -> bool:
-    return answer is not None and FAULT.match(answer) is not None
-
-
-def is_answered(lines: Sequence[bytes], texts: Sequence[bytes]) -> bool:
-    """Whether the first of these lines, a faulty one with noreply, has the first of these answers: that is an error, and
-    those after it fit the lines after it as well as if the line had none."""
-    return bool(texts) and is_fault(texts[0]) and unfit(lines[1:], texts[1:]) <= unfit(lines[1:], texts)
-
-
-def unfit(lines: Sequence[bytes], texts: Sequence[bytes]) -> int:
-    """How many answers do not fit these lines, of which those with noreply are faulty and may have none."""
-    at = count = 0
-    for line in lines:
-        if at < len(texts) and (is_fault(texts[at]) or not line.rstrip().endswith(b" noreply")):
-            count += not fits(line, texts[at])
-            at += 1
-    return count
 
 
 class Steps:

@@ -26,14 +26,14 @@ from collections.abc import Iterable, Iterator, Mapping, Sequence
 
 from zygos_tools.cli import ends
 from zygos_tools.cli.screen import Screen
-from zygos_tools.comparing.apart import keys_of, stored_by
+from zygos_tools.comparing.apart import stored_by
 from zygos_tools.comparing.arrivals import Arrival, Arrivals, Texts, ends_of, recorded, streams_of, with_answers
 from zygos_tools.files.formats import END, Close, Output, capture_start, close, pieces, segment
 from zygos_tools.judging.events import Verdict, brief
 from zygos_tools.judging.judge import Clock, Judge
 from zygos_tools.protocol.answers import MOST_NUMBER, items, meta, number
 from zygos_tools.protocol.meaning import Command, line_of
-from zygos_tools.protocol.table import does, is_there
+from zygos_tools.protocol.table import does, is_there, keys_of
 
 # the seconds of 30 days, the most that memcached takes for a time from now on
 EXPTIME = 2592000

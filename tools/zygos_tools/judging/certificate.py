@@ -20,7 +20,6 @@ from array import array
 from collections import Counter
 from collections.abc import Iterable, Iterator
 
-from zygos_tools.comparing.apart import is_touching
 from zygos_tools.files.formats import (END, JOURNAL_START, MOST_CONNECTIONS, MOST_HOLD, Segment, capture_head,
                                        capture_records, capture_start, close, hold, output_start, pieces, replies_start,
                                        segment)
@@ -32,6 +31,7 @@ from zygos_tools.judging.reading import Recording, sessions_of
 from zygos_tools.judging.replay import Replay
 from zygos_tools.judging.table import ANSWERED, DROPPED, LOST, REPLACED, VERBS
 from zygos_tools.protocol.meaning import line_of, words_of
+from zygos_tools.protocol.table import is_touching
 from zygos_tools.protocol.uniques import cut_line, with_unique
 
 # the calls that give an item another exptime; a value that is joined to it keeps the old one

@@ -48,7 +48,6 @@ from typing import IO, Any
 
 from zygos_tools.cli import ends
 from zygos_tools.cli.screen import Screen
-from zygos_tools.comparing.search import connections_of, digest, order_text
 from zygos_tools.files.formats import Output, shown
 from zygos_tools.files.inputs import capture_alone, outputs_in
 from zygos_tools.files.outputs import Beside, refuse_full, told_apart
@@ -58,6 +57,7 @@ from zygos_tools.judging.certificate import Certificate
 from zygos_tools.judging.events import No, Unknown, Verdict, counted
 from zygos_tools.judging.judge import Clock, Judge
 from zygos_tools.judging.times import ENDS, NONE, SEGMENTS
+from zygos_tools.protocol.order_files import connections_of, digest, order_text
 from zygos_tools.repository import TOP
 
 # beside the folder that the tool was called in, which may be a link to the repository's

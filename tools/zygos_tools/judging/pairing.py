@@ -7,12 +7,12 @@ from __future__ import annotations
 from array import array
 from collections.abc import Iterable
 
-from zygos_tools.comparing.steps import SHORT, is_answered
 from zygos_tools.files.formats import Output
 from zygos_tools.judging.events import No, Unknown, first_line
 from zygos_tools.judging.reading import Recording, sessions_of
 from zygos_tools.judging.table import ANSWERED, DROPPED, LOST, QUIET, V_FAULT, V_MD, V_MG, V_MS
 from zygos_tools.protocol.answers import answer_end, is_whole
+from zygos_tools.protocol.fits import SHORT, is_answered
 from zygos_tools.protocol.meaning import Command, line_of
 
 # which answers of a meta command with the flag `q` are not hidden, by its call

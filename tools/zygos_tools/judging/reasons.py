@@ -10,7 +10,6 @@ import copy
 from bisect import bisect_left
 from collections.abc import Iterable, Iterator, Sequence
 
-from zygos_tools.comparing.apart import is_touching
 from zygos_tools.files.formats import shown
 from zygos_tools.judging.events import (ADD, APPEND, CAS, DECR, FLUSH, FOREVER, GET, INCR, PREPEND, REPLACE, SET,
                                         Event, No, Unknown, Verdict)
@@ -20,6 +19,7 @@ from zygos_tools.judging.search import GaveUp, Search, Stuck
 from zygos_tools.judging.states import ABSENT, ANYTHING, NOTHING_KNOWN
 from zygos_tools.judging.values import BEGUN, PADDED
 from zygos_tools.protocol.meaning import line_of
+from zygos_tools.protocol.table import is_touching
 
 # how many searches are made, how many states each looks at, and how many calls are printed
 MOST_SEARCHES, MOST_STATES, MOST_PRINTED = 300, 3000, 12

@@ -6,9 +6,10 @@ command has, and which of these the flag `q` hides.
 """
 from __future__ import annotations
 
+from collections.abc import Sequence
 from dataclasses import dataclass
 
-from zygos_tools.protocol.meaning import FORMS, Command, words_of
+from zygos_tools.protocol.meaning import FORMS, Command, line_of, words_of
 
 ERRORS = (b"ERROR", b"CLIENT_ERROR", b"SERVER_ERROR")
 META_CODES = (b"HD", b"VA", b"EN", b"NS", b"EX", b"NF")
@@ -115,6 +116,29 @@ def does(command: Command) -> str:
         return command.call
     kind = KINDS.get(command.verb)
     return kind.does if kind is not None else ""
+
+
+def action_of(command: Command, frame: bytes) -> str:
+    """What a command does to the item of its key; of a faulty line, what it may do on another server."""
+    if command.verb != "fault":
+        return does(command)
+    kind = kind_of(line_of(frame))
+    return kind.does if kind else ""
+
+
+def is_touching(line: bytes) -> bool:
+    """Whether a line gives an item another exptime, and does no more to it."""
+    kind = kind_of(line)
+    return kind is not None and kind.touches
+
+
+def keys_of(command: Command, line: bytes) -> Sequence[bytes]:
+    """The keys of a command; those of a line that is faulty here too, for a memcached may serve it."""
+    if command.verb != "fault":
+        return command.keys
+    words = words_of(line)
+    kind = BY_WORD.get(words[0], NO_KIND) if words else NO_KIND
+    return words[kind.key :] if kind.key > 1 else words[1:2]
 
 
 def is_served(kind: Kind) -> bool:

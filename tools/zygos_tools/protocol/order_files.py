@@ -1,5 +1,4 @@
-"""The search for an order of commands in which a server may have answered as it was recorded: how long it goes on, who
-hears how far it is, and the file of the order that it found.
+"""The file of an order of commands in which a server may have answered as it was recorded, and how it is searched for.
 
 `tools/judge`, `tools/inline` and `tools/compare` have one search. What the first one found is written to a file of
 text, and the others read it: so all three speak of one order.
