@@ -2,6 +2,7 @@
 ./zygos help and try; and tests whose parts hang."""
 import os
 import subprocess
+import sys
 import tempfile
 import unittest
 
@@ -98,6 +99,16 @@ def closed_pipes():
                                  timeout=LONGEST, check=False)
         same(f"no space for {tool}", (1, f"tools/{tool}: standard output: No space left on device\n".encode()),
              (ran.returncode, ran.stderr))
+
+
+def early_signals():
+    """Ctrl-C ends a tool without a trace while it imports its modules, and a signal that comes as it ends does not change that."""
+    for moment, code in (("imports", "import zygos_tools; import os; os.kill(os.getpid(), 2)"),
+                         ("ends", "from zygos_tools.cli import ends; import atexit, os; atexit.register(os.kill, os.getpid(), 2); "
+                                  "ends.run(print, '')")):
+        ran = subprocess.run([sys.executable, "-c", code], cwd=os.path.join(TOP, "tools"), capture_output=True, check=False,
+                             timeout=LONGEST)
+        same(f"Ctrl-C while a tool {moment}", (-2, b""), (ran.returncode, ran.stderr))
 
 
 def empty_inputs():
@@ -256,8 +267,8 @@ def parts():
     same("a part that ends", "answer", program.carry_out("three", lambda: "answer", told.append))
 
 
-Tests = cases(helps, wrong_words, files, closed_pipes, empty_inputs, faults, many_connections,
-              captures, made_traffic, command, parts)
+Tests = cases(helps, wrong_words, files, closed_pipes, early_signals, empty_inputs, faults,
+              many_connections, captures, made_traffic, command, parts)
 
 if __name__ == "__main__":
     unittest.main()

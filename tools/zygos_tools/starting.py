@@ -1,5 +1,5 @@
 """What a program does before it imports anything else. Any Python 3 can read this module."""
-import signal
+import _signal  # the modules that signal imports take long, and Ctrl-C may come meanwhile
 import sys
 
 # the least Python that the programs need
@@ -11,5 +11,5 @@ def start():  # type: () -> None
     trace, while it imports its modules too."""
     if sys.version_info < LEAST:
         sys.exit("%s: Python %d.%d or later is needed, and this is %d.%d" % ((sys.argv[0],) + LEAST + sys.version_info[:2]))
-    if signal.getsignal(signal.SIGINT) is signal.default_int_handler:
-        signal.signal(signal.SIGINT, signal.SIG_DFL)
+    if _signal.getsignal(_signal.SIGINT) is _signal.default_int_handler:
+        _signal.signal(_signal.SIGINT, _signal.SIG_DFL)

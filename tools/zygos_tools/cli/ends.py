@@ -151,6 +151,12 @@ def ending_signals() -> list[signal.Signals]:
     return [number for number in ENDING if number != signal.SIGHUP or signal.getsignal(number) != signal.SIG_IGN]
 
 
+def handle_endings(handler: signal.Handlers | Callable[[int, object], NoReturn]) -> None:
+    """From now on the ending signals have this handler."""
+    for number in ending_signals():
+        signal.signal(number, handler)
+
+
 def leave(why: str, status: int) -> NoReturn:
     """Ends the process with a line, after what was printed."""
     try:
@@ -176,30 +182,37 @@ def carried_out(main: Callable[[list[str]], object], page: str) -> int:
     return status
 
 
-def run(main: Callable[[list[str]], object], page: str, name: str | None = None) -> NoReturn:
-    """Runs a tool with its words, and ends the process; `page` is what it prints for --help, and `name` how its lines begin
-    if it is none of tools/."""
-    screen.NAME = name or screen.NAME
-    signal.signal(signal.SIGPIPE, signal.SIG_DFL)
-    for number in ending_signals():
-        signal.signal(number, signalled)
+def guarded(main: Callable[[list[str]], object], page: str) -> int:
+    """Carries out a tool with its words. Gives its status, or ends the process with a line."""
     if sys.stdout is None:
         leave("standard output is closed", 1)
     if isinstance(sys.stdout, io.TextIOWrapper):
         sys.stdout.reconfigure(errors="backslashreplace")
     try:
-        sys.exit(carried_out(main, page))
+        return carried_out(main, page)
     except Stop as why:
         leave(str(why), why.status)
     except Fault as fault:
         leave(f"{fault}{fault.hint}", 1)
-    except Signalled as ending:
-        signal.signal(ending.number, signal.SIG_DFL)
-        os.kill(os.getpid(), ending.number)
-        os._exit(128 + ending.number)
     except MemoryError:
         leave("out of memory; record a shorter time", 1)
     except OSError as error:
         leave(of_system(error), 1)
     except Exception as error:
         leave(unforeseen(error), UNFORESEEN)
+
+
+def run(main: Callable[[list[str]], object], page: str, name: str | None = None) -> NoReturn:
+    """Runs a tool with its words, and ends the process; `page` is what it prints for --help, and `name` how its lines begin
+    if it is none of tools/."""
+    screen.NAME = name or screen.NAME
+    signal.signal(signal.SIGPIPE, signal.SIG_DFL)
+    try:
+        handle_endings(signalled)
+        status = guarded(main, page)
+        handle_endings(signal.SIG_DFL)
+    except Signalled as ending:
+        handle_endings(signal.SIG_DFL)
+        os.kill(os.getpid(), ending.number)
+        os._exit(128 + ending.number)
+    sys.exit(status)
