@@ -21,7 +21,7 @@ use Rattle.mc_calls.specs.declared.tallied.Tallied.{Tallied}
 use Rattle.mc_calls.specs.Call.{key_of}
 use Rattle.zy_base.specs.Number.{number_of}
 use Rattle.mc_calls.specs.Shard.{Items, State, tallied, Effect, keeps, stores, removes, empties, Outcome, value_limit, joined, counted_up, counted_down, done, done_of, outcome_of, outcome_on, item_at, state_with, state_after, reply_to}
-use Rattle.shard_laws.specs.KeyReplies.{is_cas, AreWithoutCas, is_same, is_key, is_about, calls_about, without_unique, replies_about}
+use Rattle.shard_laws.specs.KeyReplies.{is_cas, AreWithoutCas, is_same, is_own_key, is_about, calls_about, without_unique, replies_about}
 
 -- ---- one key without uniques
 
@@ -160,7 +160,7 @@ other true x y is = cc
 other false x y is = refl
 
 -- the item of another key stays
-elsewhere : (shards number : ℕ) (state : State) (key : List ℕ) (on : Option (List ℕ)) (effect : Effect) → IsFor on effect → is_key key on ≡ false
+elsewhere : (shards number : ℕ) (state : State) (key : List ℕ) (on : Option (List ℕ)) (effect : Effect) → IsFor on effect → is_own_key key on ≡ false
     → get (state_with shards number state effect).items key ≡ get state.items key
 elsewhere shards number state key on keeps for is = refl
 elsewhere shards number state key None (stores k flags value) for is = absurd for
@@ -173,7 +173,7 @@ elsewhere shards number state key (Some on) (removes k) for is =
 elsewhere shards number state key (Some on) empties for is = absurd for
 
 -- the item of the key itself
-here : (shards number : ℕ) (state : State) (key : List ℕ) (on : Option (List ℕ)) (effect : Effect) → IsFor on effect → is_key key on ≡ true
+here : (shards number : ℕ) (state : State) (key : List ℕ) (on : Option (List ℕ)) (effect : Effect) → IsFor on effect → is_own_key key on ≡ true
     → plain (get (state_with shards number state effect).items key) ≡ plain_after (plain (get state.items key)) effect
 here shards number state key on keeps for is = refl
 here shards number state key None (stores k flags value) for is = absurd for
@@ -196,12 +196,12 @@ same_item : (items : Items) (key other : List ℕ) → is_same key other ≡ tru
 same_item items key other is = ap (get items) (sym (slice_cmp-IsAntisymmetric nat_cmp-IsAntisymmetric key other (equal _ is)))
 
 -- a call about the key has that key, or none
-about_key : (key : List ℕ) (call : Call) → is_about key call ≡ true → is_key key (key_of call) ≡ true
+about_key : (key : List ℕ) (call : Call) → is_about key call ≡ true → is_own_key key (key_of call) ≡ true
 about_key key Tally is = cc
 about_key key call is = is
 
 -- the outcome of a call about the key is its outcome on the item of the key
-finds_at : (state : State) (key : List ℕ) (call : Call) (on : Option (List ℕ)) → key_of call ≡ on → is_key key on ≡ true → (on ≡ None → (found : Option Item) → outcome_of (tallied state) call None ≡ outcome_of (tallied state) call found)
+finds_at : (state : State) (key : List ℕ) (call : Call) (on : Option (List ℕ)) → key_of call ≡ on → is_own_key key on ≡ true → (on ≡ None → (found : Option Item) → outcome_of (tallied state) call None ≡ outcome_of (tallied state) call found)
     → outcome_on state call ≡ outcome_of (tallied state) call (get state.items key)
 finds_at state key call None named is none = ap (λ k. outcome_of (tallied state) call (item_at state.items k)) named ∙ none refl (get state.items key)
 finds_at state key call (Some on) named is none =

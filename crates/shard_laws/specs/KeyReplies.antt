@@ -1,13 +1,11 @@
 -- The replies to the calls on one key, CAS values aside.
-use Rattle.std.specs.Prelude.{◌≡◌, ℕ, Bool, true, false, if◌then◌else◌, List, [], ◌∷◌, Option, None, Some, filter}
-use Rattle.std.specs.Ordering.{nat_cmp, eq_by_cmp}
-use Rattle.std.specs.Cmp.Lexicographic.{slice_cmp}
+use Rattle.std.specs.Prelude.{◌≡◌, ℕ, Bool, true, false, if◌then◌else◌, List, [], ◌∷◌, filter}
 use Rattle.mc_calls.specs.declared.call.Call.{Call}
-use Rattle.mc_calls.specs.declared.call.Call.TheVariants.{Cas, Tally}
+use Rattle.mc_calls.specs.declared.call.Call.TheVariants.{Cas}
 use Rattle.mc_calls.specs.declared.call_reply.CallReply.{CallReply}
 use Rattle.mc_calls.specs.declared.call_reply.CallReply.TheVariants.{Hit}
-use Rattle.mc_calls.specs.Call.{key_of}
 use Rattle.mc_calls.specs.Shard.{State, reply_to, state_after}
+pub use Rattle.mc_allows.specs.Steps.{is_same, is_own_key, is_about}
 
 -- a call is a cas
 abbrev pub is_cas : Call → Bool
@@ -18,20 +16,6 @@ is_cas call = false
 abbrev pub AreWithoutCas : List Call → Type 0
 AreWithoutCas [] = Unit {0}
 AreWithoutCas (call ∷ calls) = (is_cas call ≡ false) × AreWithoutCas calls
-
--- two keys are the same
-abbrev pub is_same : List ℕ → List ℕ → Bool
-is_same key other = eq_by_cmp (slice_cmp nat_cmp) key other
-
--- the key is that of the call, or the call has none
-abbrev pub is_key : List ℕ → Option (List ℕ) → Bool
-is_key key None = true
-is_key key (Some other) = is_same key other
-
--- a call is on the key, or is a flush
-abbrev pub is_about : List ℕ → Call → Bool
-is_about key Tally = false
-is_about key call = is_key key (key_of call)
 
 -- the calls on the key, and the flushes, in the list's order
 abbrev pub calls_about : List ℕ → List Call → List Call
