@@ -11,7 +11,7 @@ from dataclasses import dataclass
 from zygos_tools.judging.events import ADD, CAS, DELETE, FLUSH, GET, SET, Event
 
 
-@dataclass(slots=True)
+@dataclass
 class Span:
     """A time in which a key has one item: the place of the call that made it, whether that call can follow a loss or
     does so, and the unique of the item, if it was seen."""
