@@ -5,8 +5,8 @@ A history is a list of steps: a connection, what it sends, and what it is answer
 import moments
 import plain
 from checks import cases, same
-from lies import outputs_of
-from zygos_tools.files.formats import capture, replies, segment
+from lies import outputs_of, verdict
+from zygos_tools.files.formats import Output, capture, close, pieces, replies, replies_file, segment
 from zygos_tools.judging.events import Verdict
 from zygos_tools.judging.judge import Clock, Judge
 
@@ -15,7 +15,7 @@ def recorded(steps):
     """The files of a history, with the ends of its answers."""
     records, told = [], {}
     for connection, sent, answer in steps:
-        records += [segment(connection, sent)] * bool(sent) + [segment(connection, b"")] * bool(answer)
+        records += [*pieces(connection, sent), *[segment(connection, b"")] * bool(answer)]
         told[connection] = told.get(connection, b"") + answer
     count = max(told) + 1
     return capture(count, records), replies([told.get(connection, b"") for connection in range(count)])
@@ -89,4 +89,181 @@ def uniques_that_do_not_count():
     same("a server without uniques", "order found", judged(none)[0])
 
 
-Tests = cases(uniques_after_a_restart, uniques_that_do_not_count)
+# ---- meta commands that the profile leaves out
+
+
+def a_block_that_is_dropped():
+    """A faulty `ms` has a block, also if memcached drops it; what its session answers later is not accused."""
+    shown, gone = hit(b"b", b"1"), b"END\r\n"
+    later = [(1, b"get m\r\n", gone), (1, b"get b\r\n", shown), (1, b"get m\r\n", gone), (1, b"get b\r\n", shown)]
+    bad = b"CLIENT_ERROR invalid flag\r\n"
+    for flags, answer, wanted in ((b"c", b"HD c2\r\n", "unknown"), (b"O5", b"HD O5\r\n", "unknown"),
+                                  (b"I", b"HD\r\n", "unknown"), (b"MA N30", b"NS\r\n", "unknown"),
+                                  (b"\x7f", bad, "order found")):
+        sent = b"ms a 1 %s\r\nx\r\n" % flags
+        word, lines, judge = judged([(0, *stored(b"b", b"1")), (1, sent, answer), *later])
+        same(f"the flags {flags!r}", wanted, word)
+        same(f"the keys that have an order with {flags!r}", [b"b", b"m"], sorted(judge.keys.found))
+        same(f"what is said of {flags!r}", wanted == "unknown", wanted == "unknown" and lines[0] ==
+             "unknown: commands that the profile leaves out: ms (1); --except-keys 'a' leaves out their keys")
+    base64 = [(0, b"ms YQ== 1 b\r\nx\r\n", b"HD\r\n"), (1, b"get a\r\n", hit(b"a", b"x"))]
+    same("a key in base64", "unknown", judged(base64)[0])
+    lines_in_block = [(0, *stored(b"b", b"1")), (1, b"ms a 10 ?\r\ndelete b\r\n\r\n", bad + b"DELETED\r\n"),
+                      (0, b"get b\r\n", gone)]
+    same("a server that reads the block as lines", "unknown", judged(lines_in_block)[0])
+
+
+def batches_that_cannot_be_followed():
+    """A session whose answers are not known is unknown, and the others are judged."""
+    hidden = (1, b"mg a v q\r\nmg b v q\r\nmn\r\n", b"VA 1\r\n1\r\nMN\r\n")
+    word, lines, judge = judged([ONE, hidden, (2, b"get a\r\n", hit(b"a", b"1"))])
+    same("a batch without keys in its answers", ("unknown", "unknown: a command with the flag q and without k"),
+         (word, lines[0][:48]))
+    same("the keys that have an order", [b"a"], sorted(judge.keys.found))
+    lied = judged([ONE, hidden, (2, b"get a\r\n", hit(b"a", b"2"))])
+    same("another session's lie", "no", lied[0])
+
+
+# ---- retrievals
+
+
+def items_in_any_order():
+    """A proxy before several servers shows the items of a get in the order in which they come."""
+    steps = [ONE, (0, *stored(b"b", b"2"))]
+    item, other = hit(b"a", b"1")[:-5], hit(b"b", b"2")
+    word, counts, _ = judged([*steps, (1, b"get a b\r\n", other[:-5] + item + b"END\r\n")])
+    same("two items", ("order found", {"items in another order": 1}), (word, counts))
+    named = [*steps, (1, b"gets b a b\r\n", hit(b"a", b"1", 1)[:-5] + hit(b"b", b"2", 2)[:-5] + hit(b"b", b"2", 2))]
+    same("a key twice", "order found", judged(named)[0])
+    same("a key that was not asked for", "no", judged([*steps, (1, b"get a c\r\n", other[:-5] + item + b"END\r\n")])[0])
+    same("an item too many", "no", judged([*steps, (1, b"get a b\r\n", item + item + other)])[0])
+
+
+# ---- commands of operators
+
+LISTS = (
+    (b"stats cachedump 1 3", b"ITEM k [1 b; 0 s]\r\nEND\r\n"),
+    (b"stats cachedump 1 3", b"ITEM a [1 b; 0 s]\r\nITEM b [1 b; 0 s]\r\nEND\r\n"),
+    (b"stats detail dump", b"PREFIX a get 1 hit 0 set 1 del 0\r\nEND\r\n"), (b"stats detail on", b"OK\r\n"),
+    (b"stats items", b"STAT items:1:number 1\r\nEND\r\n"), (b"stats reset", b"RESET\r\n"),
+    (b"lru_crawler metadump all", b"key=k exp=-1 la=0 cas=1 fetch=no cls=1 size=63\nkey=l exp=0\nEND\r\n"),
+    (b"lru_crawler mgdump all", b"mg k\r\nmg l\r\nEN\r\n"), (b"lru_crawler metadump all", b"BUSY currently processing\r\n"),
+    (b"slabs automove 0", b"OK\r\n"), (b"lru mode flat", b"OK\r\n"), (b"cache_memlimit 100", b"OK\r\n"),
+    (b"me k", b"EN\r\n"), (b"slabs reassign 1 2", b"NOTFULL source class has no spare page\r\n"),
+)
+
+
+def lists_of_operators():
+    """Commands that touch no item are left out, with the whole of their answers."""
+    for line, answer in LISTS:
+        steps = [(0, line + b"\r\n", answer), (0, b"get k\r\n", b"END\r\n"), (0, *stored(b"k", b"x")),
+                 (0, b"get k\r\n", hit(b"k", b"x"))]
+        name = f"{line.split()[0].decode()} left out"
+        same(f"{line!r}", ("order found", {name: 1}), judged(steps)[:2])
+    watched = [(0, b"watch mutations\r\n", b"OK\r\n"), (1, *stored(b"k", b"x")), (0, b"", b"ts=1.1 gid=1 type=item_store key=k\r\n"),
+               (1, b"get k\r\n", hit(b"k", b"x"))]
+    word, _, judge = judged(watched)
+    same("a log", ("unknown", [b"k"]), (word, sorted(judge.keys.found)))
+
+
+def answers_that_are_left():
+    """Answers to no command make their session unknown if it has a line that the profile leaves out."""
+    odd = [(0, b"foo\r\n", b"LINE one\r\nLINE two\r\nEND\r\n"), (1, *stored(b"a", b"1")), (1, b"get a\r\n", hit(b"a", b"1"))]
+    word, _, judge = judged(odd)
+    same("an unknown list", ("unknown", [b"a"]), (word, sorted(judge.keys.found)))
+    surplus = [(0, b"get a\r\n", b"END\r\nEND\r\n"), (1, *stored(b"a", b"1"))]
+    same("an answer too many", "no", judged(surplus)[0])
+
+
+def flushes_with_a_delay():
+    """A delayed `flush_all` may take items away after it."""
+    steps = [(0, b"get a\r\n", b"END\r\n"), ONE, (0, b"flush_all 1\r\n", b"OK\r\n")]
+    word, lines, _ = judged([*steps, GONE])
+    same("an item that it took", ("unknown", "`flush_all 1`: --may-forget lets items go"), (word, lines[0][-41:]))
+    same("the same with --may-forget", "order found", judged([*steps, GONE], loses=True)[0])
+    same("an item that is there", "order found", judged([*steps, (0, b"get a\r\n", hit(b"a", b"1"))])[0])
+    same("another value", "no", judged([*steps, (0, b"get a\r\n", hit(b"a", b"7"))])[0])
+    same("an item that was gone before it", "no", judged([ONE, GONE, (0, b"flush_all 1\r\n", b"OK\r\n")])[0])
+    quiet = [ONE, (0, b"flush_all 1 noreply\r\n", b""), GONE]
+    same("with noreply", "unknown", judged(quiet)[0])
+    refused = [ONE, (0, b"flush_all 1\r\n", b"CLIENT_ERROR bad command line format\r\n"), GONE]
+    same("a server that refuses it", "no", judged(refused)[0])
+
+
+# ---- connections that are not served
+
+
+def connections_that_are_refused():
+    """Beyond its most connections, memcached says so to a client that sent nothing, or whatever."""
+    line = b"ERROR Too many open connections\r\n"
+    for name, step in (("nothing", (1, b"", line)), ("a set", (1, b"set a 0 0 1\r\n2\r\n", line)),
+                       ("two gets", (1, b"get a\r\nget b\r\n", line))):
+        word, counts, _ = judged([ONE, step, (0, b"get a\r\n", hit(b"a", b"1"))])
+        same(f"a client that sent {name}", ("order found", 1), (word, len(counts)))
+
+
+def authentications():
+    """The first `set` of a session may be a user and a password."""
+    enter = (0, *stored(b"auth", b"user pass"))
+    word, counts, _ = judged([enter, (1, *enter[1:]), ONE, (1, b"get auth\r\n", b"END\r\n"), (1, b"get a\r\n", hit(b"a", b"1"))])
+    same("all sessions begin so", ("order found", {"authentications left out": 2}), (word, counts))
+    word, lines, _ = judged([enter, ONE, (1, b"get auth\r\n", b"END\r\n")])
+    same("one session does", ("unknown", True), (word, "(-Y)" in lines[0]))
+    same("a set that is one", "order found", judged([enter, (0, b"get auth\r\n", hit(b"auth", b"user pass"))])[0])
+
+
+# ---- calls that fail
+
+FAILED = b"SERVER_ERROR object too large for cache\r\n"
+
+
+def stores_that_fail():
+    """A store that failed stored nothing, and the older item may be gone."""
+    kept, there, new = (0, b"get a\r\n", hit(b"a", b"1")), b"END\r\n", b"set a 0 0 1\r\n2\r\n"
+    for size in (1, 1 << 20, (1 << 20) + 1):
+        large = b"set a 0 0 %d\r\n%s\r\n" % (size, b"x" * size)
+        for answer in (FAILED, b"SERVER_ERROR out of memory storing object\r\n"):
+            name = f"{size} bytes, {answer!r}"
+            same(f"the item is there, {name}", "order found", judged([ONE, (0, large, answer), kept])[0])
+            word, counts, _ = judged([ONE, (0, large, answer), GONE])
+            same(f"the item is gone, {name}", ("order found", 1), (word, counts["items that a failed command removed"]))
+            same(f"there was none, {name}", "order found", judged([(0, large, answer), GONE])[0])
+            same(f"it was stored, {name}", "no", judged([(0, large, answer), (0, b"get a\r\n", hit(b"a", b"x" * size))])[0])
+            back = [ONE, (0, large, answer), GONE, kept]
+            same(f"it comes back, {name}", "no", judged(back)[0])
+    for line in (b"append a 0 0 1\r\n2\r\n", b"incr a 1\r\n", b"cas a 0 0 1 7\r\n2\r\n", b"ms a 1 MP\r\n2\r\n"):
+        same(f"{line!r}", "order found", judged([ONE, (0, line, b"SERVER_ERROR out of memory\r\n"), kept])[0])
+        same(f"{line!r}, gone", "order found", judged([ONE, (0, line, b"SERVER_ERROR out of memory\r\n"), GONE])[0])
+    proxy = b"SERVER_ERROR Connection timed out\r\n"
+    for answer in (hit(b"a", b"1"), hit(b"a", b"2")):
+        same(f"a proxy, {answer!r}", "order found", judged([ONE, (0, new, proxy), (0, b"get a\r\n", answer)])[0])
+        same(f"a proxy, {answer!r}", "order found", judged([ONE, (0, b"get a\r\n", proxy), (0, new, proxy), (1, b"get a\r\n", answer)])[0])
+    same("a proxy, and a value of nobody", "no", judged([ONE, (0, new, proxy), (0, b"get a\r\n", hit(b"a", b"3"))])[0])
+    several = [ONE, (1, b"get a\r\n", hit(b"a", b"1")), (0, new, FAILED), (1, b"get a\r\n", there), (2, new, b"STORED\r\n"),
+               (1, b"get a\r\n", hit(b"a", b"2"))]
+    for more in ({}, {"loses": True}, {"is_warm": True}, {"shards": 1}):
+        same(f"several, {more}", "order found", judged(several, **more)[0])
+
+
+def lines_that_may_be_carried_out():
+    """A faulty line that had no error may have been carried out, and its block read as memcached reads it."""
+    quiet = b"set a 0 +5 1 noreply\r\n2\r\n"
+    steps = [ONE, (1, *stored(b"b", b"1")), (0, quiet, b""), (0, b"get b\r\n", hit(b"b", b"1")), (0, b"get a\r\n", hit(b"a", b"2"))]
+    word, _, judge = judged(steps)
+    same("a block after a faulty line", "unknown", word)
+    same("an incr with a sign", "unknown", judged([ONE, (0, b"incr a +5 noreply\r\n", b""), (0, b"get a\r\n", hit(b"a", b"6"))])[0])
+    same("one that was answered", "unknown", judged([ONE, (0, b"incr a +5\r\n", b"6\r\n"), (0, b"get a\r\n", hit(b"a", b"6"))])[0])
+
+
+def commands_of_sessions_that_ended():
+    """A server may read what a client sent after the client has gone, and another one has come."""
+    late = b"set a 0 0 1 noreply\r\n1\r\n"
+    told = replies_file(2, [Output(0, 0, b""), Output(0, 1, b"END\r\n"), Output(1, 0, hit(b"a", b"1"))])
+    sent = capture(2, [segment(0, late), close(0), segment(0, b"get a\r\n"), segment(0, b""), segment(1, b"get a\r\n"),
+                       segment(1, b"")], 2)
+    same("a set that comes late", "unknown", verdict(sent, outputs_of(told))[0])
+
+
+Tests = cases(uniques_after_a_restart, uniques_that_do_not_count, a_block_that_is_dropped, batches_that_cannot_be_followed,
+              items_in_any_order, lists_of_operators, answers_that_are_left, flushes_with_a_delay, connections_that_are_refused,
+              authentications, stores_that_fail, lines_that_may_be_carried_out, commands_of_sessions_that_ended)

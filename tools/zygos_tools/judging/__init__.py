@@ -4,6 +4,7 @@
 |---|---|
 | `events` | commands as they were asked and answered, and their calls |
 | `reading` | the commands of a recording, each with its answer |
+| `doubts` | what is taken to be known and is not surely so, and may make a `no` of a right server |
 | `times` | when each command can have been carried out |
 | `seeing` | what an answer says of the replies to the calls of its command |
 | `values`, `states` | the values that items have, and what each call does to the item of its key |

@@ -33,7 +33,7 @@ def spans(calls: Iterable[tuple[Event, bool, bool]]) -> Iterator[Span]:
         if is_change:
             if now:
                 yield now
-            stores = event.kind not in (DELETE, FLUSH)
+            stores = event.kind not in (DELETE, FLUSH) and event.want != "failed"
             now = Span(place, event.kind in (SET, ADD), was_lost) if stores else None
     if now:
         yield now

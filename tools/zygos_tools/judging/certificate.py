@@ -24,16 +24,19 @@ from zygos_tools.files.formats import (END, JOURNAL_START, MOST_CONNECTIONS, MOS
                                        capture_records, capture_start, close, hold, output_start, pieces, replies_start,
                                        segment)
 from zygos_tools.files.part import Part
-from zygos_tools.judging.events import ADD, CAS, REPLACE, SET, Unknown
+from zygos_tools.judging.events import ADD, CAS, DELETE, REPLACE, SET, Unknown
 from zygos_tools.judging.keys import Keys
 from zygos_tools.judging.orders import CHANGED, WAS_LOST, Order
 from zygos_tools.judging.reading import Recording, sessions_of
 from zygos_tools.judging.replay import Replay
-from zygos_tools.judging.table import ANSWERED, DROPPED, LOST, REPLACED, VERBS
-from zygos_tools.protocol.meaning import line_of, words_of
+from zygos_tools.judging.table import (ANSWERED, DROPPED, LOST, QUIET, REPLACED, VERB_OF, VERBS, WANT_BITS,
+                                       WANT_OF)
+from zygos_tools.protocol.meaning import Command, line_of, words_of
 from zygos_tools.protocol.table import is_touching
 from zygos_tools.protocol.uniques import cut_line, with_unique
 
+# the commands that a `delete` may take the place of
+STORING = (b"set", b"add", b"replace", b"append", b"prepend", b"cas", b"incr", b"decr", b"ms")
 # the calls that give an item another exptime; a value that is joined to it keeps the old one
 GIVING = (SET, ADD, REPLACE, CAS)
 # what is counted of a command that another one takes the place of, by its first word
@@ -72,6 +75,7 @@ class Certificate:
         there = [(key, item) for key, item in sorted(keys.first.items()) if item]
         self.added = Added(recording.count, there, len(lost))
         self.leave_out(order, base)
+        self.leave_out_failed(keys)
         self.entries = tempfile.TemporaryFile()
         self.entries.write(JOURNAL_START)
         self.replay = Replay(self.table, self.entries)
@@ -94,6 +98,25 @@ class Certificate:
             if state & LOST and not state & DROPPED and table.count_of_calls(command) and command not in made:
                 table.state[command] |= DROPPED
                 self.recording.notes[f"unanswered {VERBS[table.verb[command]]} left out"] += 1
+
+    def leave_out_failed(self, keys: Keys) -> None:
+        """Drops the calls that were not made. One that removed an item becomes a `delete`."""
+        table, orders = self.table, keys.orders
+        for call, want in enumerate(table.want):
+            if want & WANT_BITS != WANT_OF["failed"]:
+                continue
+            command, key = table.command[call], table.keys[table.key[call]]
+            place = None if table.state[command] & DROPPED else orders.place(key, call)
+            if place is None or not orders.found[key].marks[place] & CHANGED:
+                table.state[command] |= DROPPED
+                continue
+            quiet = table.state[command] & (QUIET | LOST) != 0
+            line = b"delete %s%s\r\n" % (key, b" noreply" * quiet)
+            table.replaced[command] = Command("delete", [key], quiet=quiet), line
+            table.state[command] = table.state[command] & ~LOST | REPLACED | QUIET * quiet
+            table.kind[call], table.want[call] = DELETE, WANT_OF["deleted"]
+            table.verb[command] = VERB_OF["delete"]
+            self.recording.notes["items that a failed command removed"] += 1
 
     def losses_by_time(self, order: Order) -> int:
         """How many of the losses of a key came after a command that gave the item an exptime."""
@@ -118,6 +141,8 @@ class Certificate:
         latest, make, count = 0, replay.make, len(commands)
         for node in order:
             if node < count:
+                if self.table.state[commands[node]] & DROPPED:
+                    continue
                 make(node)
                 begin = begins[commands[node]]
                 if begin > latest:
@@ -160,7 +185,7 @@ class Certificate:
         if state & REPLACED:
             line = table.original(command)
             word = line.split(None, 1)[0]
-            if b"\0" not in line[: line.index(b"\n")]:
+            if b"\0" not in line[: line.index(b"\n")] and word not in STORING:
                 self.counts[READ_AS.get(word, "words left out")] += 1
         if given is not None:
             frame = with_unique(frame, given)
@@ -185,7 +210,8 @@ class Certificate:
 
     def is_recorded_capture(self) -> bool:
         """Whether the capture is the recorded one."""
-        return not self.frames and self.added.count == self.recording.count and not any(self.hidden())
+        is_all = not self.frames and not self.recording.surplus and self.added.count == self.recording.count
+        return is_all and not any(self.hidden())
 
     def hidden(self) -> Iterator[int]:
         """The commands whose answers zygos does not give."""
@@ -216,7 +242,8 @@ class Certificate:
                 continue
             writer = writers.get(connection)
             if writer is None:
-                writer = writers[connection] = Session(self, of_session[connection, sessions[connection]])
+                session = connection, sessions[connection]
+                writer = writers[connection] = Session(self, of_session[session], session in self.recording.surplus)
             if record.text:
                 yield from pieces(connection, writer.sent(record.text))
             elif writer.keeps_mark():
@@ -269,9 +296,9 @@ class Certificate:
 class Session:
     """A session of the capture that is written: the commands whose bytes come next, and whose marks."""
 
-    def __init__(self, certificate: Certificate, asked: array[int]):
+    def __init__(self, certificate: Certificate, asked: array[int], has_surplus: bool):
         self.table, self.frames, self.answers = certificate.table, certificate.frames, certificate.replay.answers
-        self.asked, self.at, self.read, self.written = asked, 0, 0, 0
+        self.asked, self.at, self.read, self.written, self.has_surplus = asked, 0, 0, 0, has_surplus
         self.answered = iter([command for command in asked if self.table.state[command] & ANSWERED])
 
     def sent(self, text: bytes) -> bytes:
@@ -298,5 +325,5 @@ class Session:
         """Whether the next mark is that of an answer which zygos gives too."""
         command = next(self.answered, None)
         if command is None:
-            return True
+            return not self.has_surplus
         return not self.table.state[command] & DROPPED and self.answers.get(command) != b""

@@ -53,7 +53,7 @@ class Loose(NamedTuple):
 
 def need_of(event: Event, is_there: bool) -> int:
     """What a call needs to answer and to work as it did; `is_there` says whether it found an item."""
-    if event.kind in (SET, FLUSH):
+    if event.kind in (SET, FLUSH) or event.want == "failed":
         return NOTHING
     if not is_there:
         return NONE
@@ -314,7 +314,7 @@ class Piece:
         if event.unique is not None and self.maker is not None:
             self.shown[event.unique] = self.maker
         if is_change or was_lost:
-            self.change(at, is_change and event.kind not in (DELETE, FLUSH))
+            self.change(at, is_change and event.kind not in (DELETE, FLUSH) and event.want != "failed")
         return at is not None
 
     def change(self, at: int | None, is_there: bool) -> None:

@@ -8,6 +8,7 @@ from collections.abc import Callable, Iterable, Iterator
 from zygos_tools.files.formats import Output
 from zygos_tools.judging import pairing, sharing, times
 from zygos_tools.judging.certificate import Certificate
+from zygos_tools.judging.doubts import Doubts, leave_out_entering
 from zygos_tools.judging.events import No, Unknown, Verdict, brief, counted
 from zygos_tools.judging.graph import Graph
 from zygos_tools.judging.keys import Keys
@@ -64,18 +65,19 @@ class Judge:
         self.recording = Recording(capture, shards, self.clock.look)
         self.table = self.recording.table
         self.clock.set("reading answers")
-        pairing.pair(self.recording, outputs)
+        faults = pairing.pair(self.recording, outputs)
         if not self.table.verb:
             raise Unknown("no command was recorded")
         self.kind = times.set_times(self.recording, kind)
+        leave_out_entering(self.recording)
         self.is_closed = self.leave_out(is_chosen) if is_chosen else True
         seeing = Seeing(self.recording)
         seeing.all()
-        self.faults: list[Verdict] = seeing.faults
+        self.faults: list[Verdict] = faults + seeing.faults
         if is_first and self.faults:
             raise self.worst()
         self.clock.set("sorting calls by keys")
-        self.keys = Keys(self.table, loses, is_warm, limit, self.clock.look, self.recording.unsure, has_reasons,
+        self.keys = Keys(self.table, loses, is_warm, limit, self.clock.look, Doubts(self.recording), has_reasons,
                          is_chosen)
         self.is_numbered = shards == 1 and any(want & HAS_UNIQUE for want in self.table.want)
         self.graph: Graph | None = None

@@ -8,6 +8,7 @@ from itertools import accumulate
 
 from zygos_tools.files.formats import shown
 from zygos_tools.judging.anew import begun_anew
+from zygos_tools.judging.doubts import Doubts
 from zygos_tools.judging.events import CAS, FLUSH, GET, Event, Limited, Unknown, counted
 from zygos_tools.judging.flushes import Flushes
 from zygos_tools.judging.needs import ITEM, Needs
@@ -53,15 +54,15 @@ class Keys:
 
     With `is_warm` a key may have an item at first: one that explains what was seen, which `first` then has. With
     `loses` the server may lose items. `limit` is how many states of a key are looked at, and `look` is called from
-    time to time. Of keys that are `unsure` nothing can be refused, each for its reason. Without `has_reasons` nothing
-    is said of why there is no order. `is_chosen` says which keys are looked at.
+    time to time. `doubts` has what is not surely known. Without `has_reasons` nothing is said of why there is no order.
+    `is_chosen` says which keys are looked at.
     """
 
     def __init__(self, table: Table, loses: bool = False, is_warm: bool = False, limit: int = 200000,
-                 look: Callable[[], None] = lambda: None, unsure: dict[bytes, str] | None = None,
+                 look: Callable[[], None] = lambda: None, doubts: Doubts | None = None,
                  has_reasons: bool = True, is_chosen: Callable[[bytes], bool] | None = None):
         self.table, self.loses, self.is_warm, self.limit, self.look = table, loses, is_warm, limit, look
-        self.unsure, self.has_reasons = unsure or {}, has_reasons
+        self.doubts, self.has_reasons = doubts, has_reasons
         self.first: dict[bytes, tuple[int, bytes] | None] = {}
         self.orders = Orders(table, loses, self.first)
         self.falling = self.orders.falling
@@ -123,8 +124,8 @@ class Keys:
         except Stuck as stuck:
             if not self.has_reasons:
                 raise Unknown("there is no order") from None
-            from zygos_tools.judging.reasons import Reason  # which takes keys itself
-            raise Reason(self, calls, stuck.at).verdict() from None
+            from zygos_tools.judging.reasons import reason_of  # which takes keys itself
+            raise reason_of(self, calls, stuck.at) from None
         except GaveUp:
             told = f"key {shown(names[0])}" if len(names) == 1 else "keys " + ", ".join(map(shown, names[:5]))
             raise Limited(f"{told}: given up after {counted(self.limit, 'state')}; give --states more", keys=names,

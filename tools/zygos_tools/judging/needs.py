@@ -148,7 +148,7 @@ class Needs:
 def wanted(event: Event, can_lose: bool, has_uniques: bool = True) -> Iterator[Thing]:
     """What a call needs; without `has_uniques` no unique."""
     kind, want, key = event.kind, event.want, event.key
-    if want is None or kind == FLUSH:
+    if want in (None, "failed") or kind == FLUSH:
         return
     if kind == GET and want == "hit":
         if event.item is not None:
@@ -185,7 +185,7 @@ class Makers:
             kind, key = event.kind, event.key
             if kind in STORING and event.want in ("stored", None):
                 self.stored(place, event)
-            elif kind == DELETE and event.want != "not found":
+            elif kind == DELETE and event.want != "not found" or event.want == "failed":
                 self.made((ITEM, key, ABSENT), place)
             elif kind == FLUSH:
                 for one in keys:
@@ -297,7 +297,7 @@ class Sure:
 def is_sure(event: Event) -> bool:
     """Whether a call surely changed its key."""
     is_change = event.kind in (SET, FLUSH) or event.kind != GET and event.want in ("stored", "number", "deleted")
-    return is_change and not event.optional and event.end < FOREVER
+    return is_change and event.want != "failed" and not event.optional and event.end < FOREVER
 
 
 class Near:

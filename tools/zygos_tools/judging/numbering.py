@@ -11,7 +11,7 @@ from collections.abc import Mapping
 from zygos_tools.judging.events import CAS, DELETE, FLUSH, GET
 from zygos_tools.judging.graph import Graph
 from zygos_tools.judging.orders import CHANGED, Order
-from zygos_tools.judging.table import HAS_UNIQUE, Table
+from zygos_tools.judging.table import HAS_UNIQUE, WANT_BITS, WANT_OF, Table
 
 
 class Stores:
@@ -31,7 +31,7 @@ class Stores:
                         self.shown[last] = table.seen[call]
                 elif is_change:
                     last = None
-                    if kind not in (DELETE, FLUSH):
+                    if kind not in (DELETE, FLUSH) and table.want[call] & WANT_BITS != WANT_OF["failed"]:
                         self.all.add(call)
                         last = call
 

@@ -105,4 +105,4 @@ def says_there(event: Event) -> bool:
     """Whether an answer says that its key has an item."""
     kind, want = event.kind, event.want
     return (kind == ADD and want == "not stored" or kind in (REPLACE, APPEND, PREPEND, CAS) and want == "stored" or
-            kind == DELETE and want == "deleted" or want in ("exists", "no number", "hit", "too large"))
+            kind == DELETE and want == "deleted" or want in ("exists", "no number", "hit"))

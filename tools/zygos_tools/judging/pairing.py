@@ -8,10 +8,10 @@ from array import array
 from collections.abc import Iterable
 
 from zygos_tools.files.formats import Output
-from zygos_tools.judging.events import No, Unknown, first_line
+from zygos_tools.judging.events import No, Unknown, Verdict, first_line
 from zygos_tools.judging.reading import Recording, sessions_of
 from zygos_tools.judging.table import ANSWERED, DROPPED, LOST, QUIET, V_FAULT, V_MD, V_MG, V_MS
-from zygos_tools.protocol.answers import answer_end, is_whole
+from zygos_tools.protocol.answers import FAULT, answer_end, is_whole
 from zygos_tools.protocol.fits import SHORT, is_answered
 from zygos_tools.protocol.meaning import Command, line_of
 
@@ -19,6 +19,8 @@ from zygos_tools.protocol.meaning import Command, line_of
 NOT_HIDDEN = {"get": (b"HD", b"VA"), "set": (), "cas": (b"EX", b"NF"), "delete": (b"NF",)}
 STORING = (b"NS",)
 ONE_RECORDING = "are both files of one recording?"
+# what memcached says to a connection that it closes before it reads anything
+REFUSED = b"ERROR Too many open connections\r\n"
 
 
 def several(text: bytes, at: int, most: int) -> list[bytes]:
@@ -30,13 +32,20 @@ def several(text: bytes, at: int, most: int) -> list[bytes]:
     return found
 
 
-def pair(recording: Recording, outputs: Iterable[Output]) -> None:
-    """Gives each command its answer."""
+def pair(recording: Recording, outputs: Iterable[Output]) -> list[Verdict]:
+    """Gives each command its answer. Gives what is said of sessions that cannot be followed; of their commands nothing
+    is known."""
+    faults: list[Verdict] = []
     texts = {(one.connection, one.session): one.text for one in outputs}
     recording.table.outputs = texts
     met = set()
     for key, asked in sessions_of(recording):
-        Pairing(recording, asked, texts.setdefault(key, b""), key).pair()
+        pairing = Pairing(recording, asked, texts.setdefault(key, b""), key)
+        try:
+            pairing.pair()
+        except Verdict as verdict:
+            faults.append(verdict)
+            recording.lose(asked[pairing.followed :])
         recording.look_at_clock()
         met.add(key)
     left = [key for key in texts if key not in met and texts[key]]
@@ -44,18 +53,23 @@ def pair(recording: Recording, outputs: Iterable[Output]) -> None:
         connection, session = min(left)
         raise Unknown(f"the replies have an output of connection {connection}, session {session}, and the capture"
                       f" hasn't; {ONE_RECORDING}")
+    return faults
 
 
 class Pairing:
-    """The commands of a session, and its answers."""
+    """The commands of a session, and its answers. If the session cannot be followed to its end, it is up to the command
+    `followed`."""
 
     def __init__(self, recording: Recording, asked: array[int], text: bytes, key: tuple[int, int]):
         self.recording, self.table, self.asked, self.text, self.key = recording, recording.table, asked, text, key
         self.met: set[tuple[bytes, bytes]] = set()
-        self.at = 0
+        self.at = self.followed = 0
 
     def pair(self) -> None:
         """Gives the commands the answers, one after the other."""
+        if self.text == REFUSED and self.asked:
+            self.refuse()
+            return
         table, text, at, count = self.table, self.text, 0, 0
         states, verbs, answer_at, answer_size = table.state, table.verb, table.answer_at, table.answer_size
         size = end = len(text)
@@ -64,6 +78,8 @@ class Pairing:
                 continue
             if verbs[one] in (V_MG, V_MS, V_MD, V_FAULT):
                 self.at = at
+                if not self.met:
+                    self.followed = number
                 if not self.is_answered(number, one):
                     continue
             elif self.met:
@@ -82,6 +98,13 @@ class Pairing:
         if at < end and not (answer_end(text, at) == size and self.is_cut_off(at)):
             self.refuse_rest(count, at)
 
+    def refuse(self) -> None:
+        """The server closed the connection before it read anything."""
+        for one in self.asked:
+            self.table.state[one] |= DROPPED
+        self.recording.notes["commands of refused connections left out"] += len(self.asked)
+        self.recording.surplus.add(self.key)
+
     def is_cut_off(self, begin: int) -> bool:
         """Whether the last answer, which begins there, is cut off."""
         if is_whole(self.text[begin:]):
@@ -90,13 +113,23 @@ class Pairing:
         return True
 
     def refuse_rest(self, count: int, at: int) -> None:
-        """Answers are left."""
+        """Answers are left; an error line alone may be to no command."""
+        recording, first = self.recording, self.table.number[self.asked[0]] if self.asked else 0
+        if FAULT.match(self.text, at) and answer_end(self.text, at) == len(self.text):
+            recording.notes["error lines to no command"] += 1
+            recording.surplus.add(self.key)
+            return
         why = (f"connection {self.key[0]}, session {self.key[1]}: answer {count} is to no command: "
                f"{first_line(self.text[at : at + 200])}")
-        if self.key in self.recording.odd:
-            raise Unknown(f"{why}; {self.recording.odd[self.key]}", connections=[self.key[0]])
-        kind = Unknown if self.key in self.recording.outside else No
-        raise kind(f"{why}; {ONE_RECORDING}", connections=[self.key[0]])
+        self.followed = len(self.asked)
+        if self.key in recording.odd:
+            odd = recording.odd[self.key]
+            self.followed = max(0, odd.since - first)
+            raise Unknown(f"{why}; {odd.why}", connections=[self.key[0]])
+        if self.key in recording.outside:
+            self.followed = recording.outside[self.key] - first
+            raise Unknown(f"{why}; a line before it is one that the profile leaves out", connections=[self.key[0]])
+        raise No(f"{why}; {ONE_RECORDING}", connections=[self.key[0]])
 
     def is_answered(self, number: int, one: int) -> bool:
         """Whether the next answer is that of a meta command or of a faulty line."""
@@ -105,9 +138,10 @@ class Pairing:
             if self.is_silent(number, one):
                 table.state[one] |= DROPPED
                 self.recording.notes["faulty line left out"] += 1
+                self.recording.doubt(one, False)
                 return False
             if self.at < len(text):
-                self.recording.outside.add(self.key)
+                self.recording.outside.setdefault(self.key, table.number[one])
             self.met.clear()
             return True
         command = table.meaning(one)

@@ -1,22 +1,28 @@
 """The commands of a recording: a capture is cut into commands, whose calls go into the table.
 
 Commands that the profile leaves out are read as those that do the same to items: `gat` and `gats` as `get` and `gets`,
-`bget` as `get`, and `touch` as an `mg` that shows nothing. `stats` is dropped, with its answer. A line with a NUL is
-read up to there, as memcached reads it.
+`bget` as `get`, and `touch` as an `mg` that shows nothing. `stats` and other commands of operators, which touch no
+item, are dropped with their answers. A line with a NUL is read up to there, as memcached reads it. A faulty `ms` has a
+block if its length is good, which memcached drops.
 """
 from __future__ import annotations
 
+import base64
+import contextlib
 import re
 from array import array
 from collections import Counter, defaultdict
-from collections.abc import Callable, Iterator
+from collections.abc import Callable, Iterable, Iterator
+from typing import NamedTuple
 
-from zygos_tools.files.formats import MOST_VALUE, Segment, capture_head, capture_records, read_end
+from zygos_tools.files.formats import MOST_KEY, MOST_VALUE, Segment, capture_head, capture_records, read_end
 from zygos_tools.files.part import Part
-from zygos_tools.judging.events import FLUSH, GET, KINDS
-from zygos_tools.judging.table import DROPPED, NO_KEY, QUIET, REPLACED, V_FAULT, V_FLUSH, V_STATS, VERB_OF, Table
-from zygos_tools.protocol.meaning import KEY, STORAGE, Command, command_in, line_of, stored, words_of
-from zygos_tools.protocol.table import does
+from zygos_tools.judging.events import FLUSH, GET, KINDS, SET
+from zygos_tools.judging.table import (ANSWERED, DROPPED, LOST, NO_KEY, QUIET, REPLACED, V_FAULT, V_FLUSH,
+                                       V_STATS, VERB_OF, Table)
+from zygos_tools.protocol.meaning import (KEY, STORAGE, TOO_LARGE, Command, command_in, framed, line_of, stored,
+                                          words_of)
+from zygos_tools.protocol.table import does, keys_of, kind_of
 
 # a usual line: of a retrieval, or of a command that stores
 USUAL_KEY = KEY.replace(rb"\r", rb"\r\0")
@@ -36,6 +42,19 @@ FAR_EXPTIME = "an exptime is one that memcached does not take"
 LONG_BLOCK = "a block is longer than memcached takes"
 BINARY = "a stream begins as the binary protocol does"
 CLOSING = "a line is one on which memcached closes the connection"
+WATCHING = "after a watch the server sends lines that no command asked for"
+BAD_LINE = "a line is one that the profile leaves out, and what follows it may have been read otherwise"
+LEFT_OUT = "a command on it is one that the profile leaves out"
+BAD_META = "an ms has a flag that the profile leaves out, and its block may be dropped, stored, or read as lines"
+# the commands of operators, which touch no item
+OPERATORS = (b"stats", b"slabs", b"lru", b"lru_crawler", b"watch", b"extstore", b"cache_memlimit", b"me")
+
+
+class Odd(NamedTuple):
+    """Why nothing is sure in a session, and the number of the first command of its connection of which that is so."""
+
+    why: str
+    since: int
 
 
 class Stream:
@@ -55,7 +74,10 @@ class Recording:
 
     By connection and session, `marks` has the times at which answers were whole, and `starts` those at which the client
     began to send after a whole command. In the sessions of `odd` is something that memcached reads otherwise, each with
-    what that is. Of keys that are `unsure` nothing can be refused, each for its reason.
+    what that is, and those of `outside` have a faulty line, each with its number. Of keys that are `unsure` nothing can
+    be refused, each for its reason. `forgetting` has the commands after which the server may lose items, and `tails` the
+    last commands of sessions, if they have no end and another session follows. `surplus` has the sessions whose last
+    answer is to no command.
     """
 
     def __init__(self, capture: bytes, shards: int = 16, look: Callable[[], None] = lambda: None):
@@ -64,8 +86,11 @@ class Recording:
         self.starts: dict[tuple[int, int], array[int]] = defaultdict(lambda: array("q"))
         self.sessions: Counter[int] = Counter()
         self.notes: Counter[str] = Counter()
-        self.odd: dict[tuple[int, int], str] = {}
-        self.outside: set[tuple[int, int]] = set()
+        self.odd: dict[tuple[int, int], Odd] = {}
+        self.outside: dict[tuple[int, int], int] = {}
+        self.forgetting: list[int] = []
+        self.tails: set[int] = set()
+        self.surplus: set[tuple[int, int]] = set()
         self.unsure: dict[bytes, str] = {}
         part = Part("capture", capture)
         self.version, self.count = capture_head(part)
@@ -109,8 +134,28 @@ class Recording:
             self.be_odd(connection, LONG_BLOCK)
 
     def be_odd(self, connection: int, why: str) -> None:
-        """Nothing is sure in the current session of a connection."""
-        self.odd.setdefault((connection, self.sessions[connection]), why)
+        """Nothing is sure in the current session of a connection, from its last command on."""
+        since = max(0, len(self.of_connection[connection]) - 1)
+        self.odd.setdefault((connection, self.sessions[connection]), Odd(why, since))
+
+    def doubt(self, one: int, is_refused: bool) -> None:
+        """A faulty line: if the server did not refuse it, it may have been carried out. If it may have a block, that may
+        have been read otherwise than here, and nothing is sure in its session any more."""
+        table = self.table
+        line = line_of(table.original(one))
+        kind = kind_of(line)
+        if kind is None and not is_refused or kind is not None and kind.block:
+            self.odd.setdefault((table.connection[one], table.session[one]), Odd(BAD_LINE, table.number[one]))
+        for key in () if is_refused else keys_left_out(line):
+            self.unsure.setdefault(key, LEFT_OUT)
+
+    def lose(self, commands: Iterable[int]) -> None:
+        """It is not known which answers these commands had, nor whether they were carried out."""
+        table = self.table
+        for command in commands:
+            table.state[command] = table.state[command] & ~ANSWERED | (DROPPED if table.reads(command) else LOST)
+            for call in table.calls_of(command):
+                table.want[call] = 0
 
     def take(self, stream: Stream, connection: int, text: bytes, place: int, begin: int) -> None:
         """The commands that end in a further piece of a session, which is at this place of the capture."""
@@ -166,12 +211,13 @@ class Recording:
         if not line_end:
             return 0
         command, end = command_in(text[at:line_end]), line_end
-        if "bytes" in command.numbers:
-            end += command.numbers["bytes"] + 2
+        size = command.numbers.get("bytes", dropped_size(command, text[at:line_end]))
+        if size >= 0:
+            end += size + 2
             if end > len(text):
                 stream.least = end - at
                 return 0
-            command = stored(command, text[line_end:end])
+            command = stored(command, text[line_end:end]) if "bytes" in command.numbers else command
         if command.verb == "quit":
             stream.has_quit = True
             return 0
@@ -188,7 +234,7 @@ class Recording:
         verb = VERB_OF[meant.verb]
         is_dropped = verb == V_STATS or meant.verb == "mg" and meant.quiet
         if is_dropped:
-            self.notes["stats left out" if verb == V_STATS else "touch left out"] += 1
+            self.leave_out(len(table.verb), connection, words_of(line_of(frame)))
         state = QUIET * meant.quiet | DROPPED * is_dropped | REPLACED * (read is not None)
         asked = self.of_connection[connection]
         number = table.add(connection, self.sessions[connection], len(asked), verb, state, begin, frame_at, len(frame))
@@ -203,7 +249,18 @@ class Recording:
                 table.add_call(number, FLUSH, NO_KEY)
         elif meant.keys and not is_dropped:
             self.add_calls(number, meant, frame_at, line_size)
+        if verb == V_FAULT and meant.error == TOO_LARGE:  # it may have removed the older item
+            table.add_call(number, SET, table.number_of(frame[:line_size].split()[1]))
         self.look(connection, command, frame, line_size)
+
+    def leave_out(self, number: int, connection: int, words: list[bytes]) -> None:
+        """Counts a command that is dropped, and notes what it may do later."""
+        name = words[0].decode() if words else "faulty line"
+        self.notes[f"{name} with a delay left out" if name == "flush_all" else f"{name} left out"] += 1
+        if name in ("flush_all", "cache_memlimit") or words[:2] == [b"slabs", b"reassign"]:
+            self.forgetting.append(number)
+        if name == "watch":
+            self.be_odd(connection, WATCHING)
 
     def add_calls(self, number: int, command: Command, frame_at: int, line_size: int) -> None:
         """The calls of a command on its keys."""
@@ -227,8 +284,13 @@ class Recording:
     def look_at_fault(self, connection: int, command: Command, frame: bytes, line_size: int) -> None:
         """Notes what a faulty line does on a memcached alone."""
         words, error = frame[:line_size].split(), command.error or b""
-        if error.startswith(b"SERVER_ERROR") and len(words) > 1:
-            self.unsure.setdefault(words[1], "a value is too large, and memcached then removes the older one")
+        if error == TOO_LARGE and command.quiet:
+            self.unsure.setdefault(words[1], "a value is too large, and it is not known whether it was stored")
+        if len(frame) > line_size and words[0] == b"ms" and error != TOO_LARGE:
+            self.be_odd(connection, BAD_META)
+            for inner, _ in framed(frame[line_size:]):
+                for key in inner.keys:
+                    self.unsure.setdefault(key, BAD_META)
         if error.startswith(b"CLIENT_ERROR") and any(len(word) > 250 for word in words[1:]):
             self.be_odd(connection, LONG_KEY)
         if words and words[-1].startswith(b"HTTP/") or words[:1] == [b"quit"]:
@@ -262,6 +324,25 @@ class Recording:
         return meant
 
 
+def keys_left_out(line: bytes) -> list[bytes]:
+    """The keys on which a line that the profile leaves out may do something: with the flag `b`, its key in base64."""
+    words = words_of(line)
+    keys = list(keys_of(Command("fault"), line))
+    if words[:1] in ([b"ms"], [b"mg"], [b"md"], [b"ma"]) and b"b" in words[2:]:
+        with contextlib.suppress(ValueError):
+            keys.append(base64.b64decode(words[1], validate=True))
+    return keys
+
+
+def dropped_size(command: Command, line: bytes) -> int:
+    """The length of the block of a faulty `ms` line; below 0 where it has none."""
+    if command.verb != "fault" or not line.lstrip(b" ").startswith(b"ms "):
+        return -1
+    words = words_of(line_of(line))
+    is_good = len(words) > 2 and len(words[1]) <= MOST_KEY and words[2].isdigit() and len(words[2]) < 11
+    return int(words[2]) if is_good and int(words[2]) <= MOST_BLOCK else -1
+
+
 def line_for(command: Command) -> bytes:
     """The line of a command that takes the place of another one."""
     if command.verb == "stats":
@@ -280,9 +361,16 @@ def line_for(command: Command) -> bytes:
 # ---- commands that the profile leaves out
 
 
-def read_stats(_: list[bytes]) -> Command:
-    """`stats`, which is dropped."""
-    return Command("stats")
+def read_operator(words: list[bytes]) -> Command | None:
+    """`stats` and the like, which are dropped."""
+    return Command("stats") if words else None
+
+
+def read_flush(words: list[bytes]) -> Command | None:
+    """`flush_all` with a delay, which is dropped, for it may take items away later."""
+    quiet = words[-1] == b"noreply"
+    numbers = words[1 : len(words) - quiet]
+    return Command("stats", quiet=quiet) if len(numbers) == 1 and is_exptime(numbers[0]) else None
 
 
 def read_get(words: list[bytes]) -> Command | None:
@@ -317,7 +405,7 @@ def is_exptime(word: bytes) -> bool:
     return word.removeprefix(b"-").isdigit()
 
 
-READ_AS = {b"stats": read_stats, b"gat": read_get, b"gats": read_get, b"bget": read_get, b"touch": read_touch,
+READ_AS = {**dict.fromkeys(OPERATORS, read_operator), b"flush_all": read_flush, b"gat": read_get, b"gats": read_get, b"bget": read_get, b"touch": read_touch,
            b"version": read_version, b"mn": read_version}
 
 

@@ -9,13 +9,14 @@ from __future__ import annotations
 import copy
 from bisect import bisect_left
 from collections.abc import Iterable, Iterator, Sequence
+from dataclasses import replace
 
 from zygos_tools.files.formats import shown
 from zygos_tools.judging.events import (ADD, APPEND, CAS, DECR, FLUSH, FOREVER, GET, INCR, PREPEND, REPLACE, SET,
                                         Event, No, Unknown, Verdict)
 from zygos_tools.judging.keys import Calls, Keys
 from zygos_tools.judging.needs import ITEM, NUMBER, Needs, Thing, wanted
-from zygos_tools.judging.search import GaveUp, Search, Stuck
+from zygos_tools.judging.search import OPEN, GaveUp, Search, Stuck
 from zygos_tools.judging.states import ABSENT, ANYTHING, NOTHING_KNOWN
 from zygos_tools.judging.values import BEGUN, PADDED
 from zygos_tools.protocol.meaning import line_of
@@ -60,6 +61,17 @@ def is_doubtful_number(event: Event) -> bool:
     """Whether a call stores a value of which memcached may count what an older item left in memory."""
     value = event.value if event.kind in (SET, ADD, REPLACE, CAS) else None
     return value is not None and (not value.strip() or value.strip().isdigit() and int(value) >= MOST_SIGNED)
+
+
+def reason_of(keys: Keys, calls: Calls, at: int) -> Verdict:
+    """What is said of calls that have no order: if they have one as far as they are surely known, that is unknown."""
+    reason = Reason(keys, calls, at)
+    events, why = keys.doubts.loosened(calls.events) if keys.doubts else (calls.events, None)
+    if why is None:
+        return reason.verdict()
+    loose = Reason(keys, replace(calls, events=events), at)
+    loose.is_known = not keys.is_warm
+    return loose.verdict() if loose.is_stuck(events) else reason.unknown(why)
 
 
 class Reason:
@@ -114,9 +126,10 @@ class Reason:
 
     def doubt(self) -> str | None:
         """Why it is not known whether there is an order, though none was found: what memcached does otherwise."""
+        doubts = self.keys.doubts
         for name in self.names:
-            if name in self.keys.unsure:
-                return self.keys.unsure[name]
+            if doubts and name in doubts.unsure:
+                return doubts.unsure[name]
         if any(event.kind in (INCR, DECR) and event.want == "number" for event in self.all) and \
                 any(map(is_doubtful_number, self.all)):
             return "a number of 2^63 and more, or white space: memcached counts what an older item left in memory too"
@@ -126,7 +139,8 @@ class Reason:
                     " with a number")
         if not self.states.loses and any(map(has_exptime, self.all)) and self.may_be_lost(self.all):
             return "an item may have been lost, as the key has an exptime: --may-forget lets items go"
-        return None
+        forgotten = doubts.forgetting(self.all) if doubts and not self.states.loses else None
+        return forgotten if forgotten and self.may_be_lost(self.all) else None
 
     def has_order_with_joins(self) -> bool:
         """Whether there may be an order where padded numbers to which values were joined are numbers."""
@@ -279,7 +293,7 @@ class Reason:
     def forget(self) -> None:
         """Lets calls be made or not, with whatever answer, as far as there is no order still."""
         for at, event in enumerate(self.events):
-            if event.kind in (GET, FLUSH) or event.optional and event.want is None or self.searches > MOST_SEARCHES:
+            if event.kind in (GET, FLUSH) or event.want in OPEN and event.optional or self.searches > MOST_SEARCHES:
                 continue
             for want in (None, event.want):
                 events = [*self.events[:at], loosened(event, want), *self.events[at + 1 :]]
@@ -347,7 +361,7 @@ class Origins:
 def loosened(event: Event, want: str | None) -> Event:
     """A call that may have been made or not, of which this reply was seen."""
     event = copy.copy(event)
-    event.optional, event.want = True, want
+    event.optional, event.want = True, event.want if event.want == "failed" else want
     return event
 
 

@@ -8,6 +8,7 @@ Only what zygos says otherwise than the server is translated, and each case is c
 | version | the text of `version` |
 | error lines | the text of the answer to a line that is faulty here and there |
 | padded values | a number that became shorter, which keeps its length in memcached, with spaces |
+| items in another order | the items of a retrieval, which a proxy shows as they come |
 | quiet answers, meta misses | an `NF` of `md` with q, which zygos hides; an `EN` with marks |
 """
 from __future__ import annotations
@@ -120,6 +121,9 @@ class Replay:
         self.pads: dict[bytes, bool] = {}
         self.replies: dict[int, list[Reply]] = {}
         self.places = places_of(table)
+        for command, state in enumerate(table.state):
+            if state & (LOST | ANSWERED) == LOST | ANSWERED:  # its answer said that it may not have been made
+                self.answers[command] = b""
         self.stamp = self.size = 0
         self.gathered: list[bytes] = []
 
@@ -316,6 +320,8 @@ class Replay:
     def difference(self, command: int, ours: bytes, theirs: bytes, replies: list[Reply]) -> str:
         """What is translated in an answer; nothing where that is counted already."""
         table, verb = self.table, self.table.verb[command]
+        if theirs.startswith(b"SERVER_ERROR"):
+            return ""  # a delete in place of a command that failed
         if verb in (V_VERSION, V_FAULT):
             return "version" if verb == V_VERSION else "error lines"
         if verb in (V_GET, V_GETS):
@@ -330,11 +336,17 @@ class Replay:
 
     def in_items(self, command: int, ours: bytes, theirs: bytes, replies: list[Reply]) -> str:
         """What is translated in the answer to a retrieval."""
-        hits, is_padded = [reply for reply in replies if reply.name == "hit"], False
-        for (item, value), reply in zip(all_items(theirs), hits):
+        keys, shown, is_padded = self.table.meaning(command).keys, list(all_items(theirs)), False
+        hits = [(key, reply) for key, reply in zip(keys, replies) if reply.name == "hit"]
+        is_moved = [key for key, _ in hits] != [item.key for item, _ in shown]
+        if is_moved:
+            hits.sort(key=lambda hit: hit[0])
+            shown.sort(key=lambda one: one[0].key)
+        for (item, value), (_, reply) in zip(shown, hits):
             if item.flags != reply.flags or value != reply.value and value.rstrip(b" ") != reply.value:
                 raise self.untranslated(command, ours)
             is_padded |= value != reply.value
+        self.counts["items in another order"] += is_moved
         return "padded values" if is_padded else ""
 
     def in_meta(self, command: int, ours: bytes, theirs: bytes, replies: list[Reply]) -> str:

@@ -47,6 +47,8 @@ class Branch(NamedTuple):
 
 # after how many states the clock is looked at
 LOOKS = 256
+# the replies after which a call that may have changed nothing may have changed its key too
+OPEN = (None, "failed")
 
 
 class GaveUp(Exception):
@@ -126,7 +128,7 @@ class Search:
             if event.connection in blocked:
                 continue
             found = step(state, event) if not self.after or self.can_come(at) else ()
-            if found and found[0] is state and event.want is not None and event.kind != FLUSH:
+            if found and found[0] is state and event.want not in OPEN and event.kind != FLUSH:
                 self.take(at, event, Made(at, False, False, state))
                 continue
             if found:

@@ -1,39 +1,42 @@
-"""What an answer says of the replies to the calls of its command, and what is no answer to it in any run."""
+"""What an answer says of the replies to the calls of its command, and what is no answer to it in any run.
+
+A call that the server says it failed to make (`SERVER_ERROR ..`) stored nothing, and may have removed the older item. Of
+one that a proxy did not pass on, or whose answer it lost, nothing is known.
+"""
 from __future__ import annotations
 
-import re
+from collections import Counter
 from collections.abc import Iterator
 from typing import NamedTuple
 
+from zygos_tools.files.formats import shown
 from zygos_tools.judging.events import (ADD, APPEND, CAS, DECR, DELETE, GET, INCR, PREPEND, REPLACE, SET, No, Unknown,
                                         Verdict)
-from zygos_tools.judging.reading import Recording
+from zygos_tools.judging.reading import Recording, keys_left_out
 from zygos_tools.judging.table import (ANSWERED, DROPPED, HAS_FLAGS, HAS_UNIQUE, HAS_VALUE, LOST, QUIET, V_DECR,
                                        V_FAULT, V_FLUSH, V_GET, V_GETS, V_INCR, V_MD, V_MN, V_MS, V_VERBOSITY,
-                                       V_VERSION, VERB_OF, VERBS, W_HIT, W_MISS, WANT_BITS, WANT_OF)
-from zygos_tools.protocol.answers import MOST_FLAGS, line_end, meta, number
-from zygos_tools.protocol.meaning import words_of
-from zygos_tools.protocol.table import KINDS
-from zygos_tools.protocol.table import READING as READS
+                                       V_VERSION, VERBS, W_HIT, W_MISS, WANT_BITS, WANT_OF)
+from zygos_tools.protocol.answers import FAULT, MOST_FLAGS, line_end, meta, name_of, number
+from zygos_tools.protocol.meaning import line_of, words_of
 
 WORDS = {b"STORED": "stored", b"NOT_STORED": "not stored", b"EXISTS": "exists", b"NOT_FOUND": "not found",
-         b"DELETED": "deleted", b"SERVER_ERROR object too large for cache": "too large",
-         b"CLIENT_ERROR cannot increment or decrement non-numeric value": "no number"}
+         b"DELETED": "deleted", b"CLIENT_ERROR cannot increment or decrement non-numeric value": "no number"}
 CODES = {b"NS": "not stored", b"EX": "exists", b"NF": "not found"}
 # which replies a call can have
 REPLIES = {SET: ("stored",), ADD: ("stored", "not stored"), REPLACE: ("stored", "not stored"),
-           APPEND: ("stored", "not stored", "too large"), PREPEND: ("stored", "not stored", "too large"),
+           APPEND: ("stored", "not stored"), PREPEND: ("stored", "not stored"),
            CAS: ("stored", "exists", "not found"), INCR: ("number", "not found", "no number"),
            DECR: ("number", "not found", "no number"), DELETE: ("deleted", "not found")}
 # the numbers of the replies that a call can have, by its kind and by the line of the answer
 LINES = {(kind, line): WANT_OF[want] for kind, wants in REPLIES.items() for line, want in WORDS.items()
          if want in wants}
 MUTE = {V_VERBOSITY: b"OK\r\n", V_MN: b"MN\r\n"}
-READING = {VERB_OF[name] for name, kind in KINDS.items() if kind.does in READS} | {V_FAULT}
-FAULT = re.compile(rb"((CLIENT|SERVER)_)?ERROR\b")
-TOO_LARGE = "an item was too large, and memcached may have removed it"
-LEFT_OUT = "a command that the profile leaves out"
+# what a memcached says of a call that it did not make; other texts are of proxies
+FAILED = (b"SERVER_ERROR object too large for cache", b"SERVER_ERROR out of memory")
+SERVER_ERROR = b"SERVER_ERROR"
+W_FAILED = WANT_OF["failed"]
 TWICE = "a retrieval names a key twice and has one item of it: which was found is not known"
+MOST_NAMED = 8
 
 
 class Shown(NamedTuple):
@@ -58,9 +61,16 @@ class Seeing:
         self.recording, self.table = recording, recording.table
         self.faults: list[Verdict] = []
         self.refused: set[tuple[int, int]] = set()
+        self.left_out: list[int] = []
 
     def all(self) -> None:
         """Goes over all commands."""
+        self.go_over()
+        if self.left_out:
+            self.faults.append(self.of_left_out())
+
+    def go_over(self) -> None:
+        """Goes over all commands, but for what is said of those that are left out."""
         table = self.table
         states, verbs = table.state, table.verb
         for connection, asked in enumerate(self.recording.of_connection):
@@ -78,61 +88,110 @@ class Seeing:
 
     def take(self, one: int, text: bytes) -> None:
         """What is seen of a command; one that reads only and was not answered is dropped."""
-        verb, state = self.table.verb[one], self.table.state[one]
+        table, verb, state = self.table, self.table.verb[one], self.table.state[one]
         if state & DROPPED:
             return
-        if state & LOST and verb in READING:
+        if verb == V_FAULT and table.count_of_calls(one):
+            self.see_failed(one)
+        elif state & LOST and table.reads(one):
             name = "faulty line" if verb == V_FAULT else VERBS[verb]
             self.recording.notes[f"unanswered {name} left out"] += 1
-            self.table.state[one] |= DROPPED
+            table.state[one] |= DROPPED
+            if verb == V_FAULT:
+                self.recording.doubt(one, False)
+        elif state & ANSWERED and self.is_failed(one, verb):
+            return
         elif verb in (V_VERBOSITY, V_MN, V_VERSION, V_FAULT):
             self.expect(one, verb)
         elif verb == V_FLUSH:
             self.flush(one)
         elif verb in (V_GET, V_GETS):
             self.see_items(one, text)
-        elif self.table.kind[self.table.first_call[one]] == GET:
+        elif table.kind[table.first_call[one]] == GET:
             if not state & (LOST | QUIET):
                 self.see_meta(one)
         elif state & ANSWERED:
             self.see_line(one, verb, text)
         elif verb == V_MS and not state & (LOST | QUIET):  # hidden by q; whether an md found an item is not known
-            self.table.want[self.table.first_call[one]] = WANT_OF["stored"]
+            table.want[table.first_call[one]] = WANT_OF["stored"]
+
+    # ---- calls that were not made
+
+    def is_failed(self, one: int, verb: int) -> bool:
+        """Whether the server said that it failed to carry out a command that calls for items."""
+        table, recording = self.table, self.recording
+        answer = table.answer(one) or b""
+        if not answer.startswith(SERVER_ERROR) or not table.count_of_calls(one):
+            return False
+        recording.notes[f"failed {VERBS[verb]}"] += 1
+        kind = table.kind[table.first_call[one]]
+        if kind == GET:
+            table.state[one] |= DROPPED
+        elif kind in REPLIES and kind != DELETE and answer.startswith(FAILED):
+            table.want[table.first_call[one]] = W_FAILED
+        else:
+            table.state[one] |= LOST
+        return True
+
+    def see_failed(self, one: int) -> None:
+        """A value that is too large, which surely was not stored, if the answer says so."""
+        table = self.table
+        answer = table.answer(one)
+        if answer is not None and not FAULT.match(answer):
+            self.recording.doubt(one, False)
+            self.leave_out(one)
+            table.state[one] |= LOST
+        table.want[table.first_call[one]] = W_FAILED
+
+    # ---- answers that are none
 
     def refuse(self, one: int, why: str) -> None:
         """An answer that no run gives; after a line that is outside the profile nothing is sure in its session."""
         table, recording = self.table, self.recording
         session, answer = (table.connection[one], table.session[one]), table.answer(one)
         is_error = answer is not None and FAULT.match(answer)
-        is_known = session not in recording.odd and session not in recording.outside and not is_error
-        if session in recording.odd:
-            why = f"{why}; {recording.odd[session]}"
+        odd, outside = recording.odd.get(session), recording.outside.get(session)
+        is_known = odd is None and outside is None and not is_error
         if session not in self.refused:
             self.refused.add(session)
+            why = f"{why}; {odd.why}" if odd else why
             self.faults.append((No if is_known else Unknown)(why, table.asked(one)))
-        table.state[one] |= DROPPED if table.verb[one] in READING else LOST
-        for call in table.calls_of(one):
-            table.want[call] = 0
+        since = min([table.number[one], *([odd.since] if odd else []), *([] if outside is None else [outside])])
+        asked = recording.of_connection[session[0]]
+        recording.lose(asked[since:] if odd or outside is not None else [one])
 
     def expect(self, one: int, verb: int) -> None:
         """The answer to a command without a call."""
-        answer = self.table.answer(one)
-        if self.table.state[one] & QUIET or answer is None:
+        table, answer = self.table, self.table.answer(one)
+        if table.state[one] & QUIET or answer is None:
             return
         if verb == V_FAULT:
-            if not FAULT.match(answer):
+            is_refused = FAULT.match(answer) is not None
+            self.recording.doubt(one, is_refused)
+            if not is_refused:
                 self.leave_out(one)
+            elif table.has_block(one):
+                table.state[one] |= DROPPED
+                self.recording.notes["faulty ms left out"] += 1
         elif not (answer.startswith(b"VERSION ") if verb == V_VERSION else answer == MUTE[verb]):
             self.refuse(one, f"no run answers {VERBS[verb]} so")
 
     def leave_out(self, one: int) -> None:
         """A command that the profile leaves out did something that is not known."""
-        session = self.table.connection[one], self.table.session[one]
-        if session not in self.refused:
-            self.refused.add(session)
-            self.faults.append(Unknown(LEFT_OUT, self.table.asked(one)))
-        for key in self.table.original(one).split()[1:]:
-            self.recording.unsure.setdefault(key, "a command on it is one that the profile leaves out")
+        table = self.table
+        self.left_out.append(one)
+        if table.original(one).startswith(b"flush_all"):
+            self.recording.forgetting.append(one)
+
+    def of_left_out(self) -> Unknown:
+        """What is said of commands that the profile leaves out, with the words that leave out their keys."""
+        lines = [line_of(self.table.original(one)) for one in self.left_out]
+        names = Counter(name_of(line) for line in lines)
+        keys = dict.fromkeys(key for line in lines for key in keys_left_out(line))
+        told = ", ".join(f"{name} ({count:,})" for name, count in names.most_common(MOST_NAMED))
+        some = " ".join(map(shown, list(keys)[:MOST_NAMED])) + " .." * (len(keys) > MOST_NAMED)
+        advice = f"; --except-keys '{some}' leaves out their keys" if keys else ""
+        return Unknown(f"commands that the profile leaves out: {told}{advice}", self.table.asked(self.left_out[0]))
 
     def flush(self, one: int) -> None:
         """The answer to a `flush_all`."""
@@ -160,8 +219,6 @@ class Seeing:
         if want is None:
             self.refuse(one, f"no run answers {VERBS[verb]} so")
             return
-        if want == WANT_OF["too large"]:
-            self.recording.unsure.setdefault(table.keys[table.key[call]], TOO_LARGE)
         table.want[call] = want
 
     @staticmethod
@@ -185,26 +242,42 @@ class Seeing:
             return
         items, rest = items_of(text, begin, end)
         if text[rest:end].rstrip(b"\r\n") != b"END":
+            if self.is_failed(one, verb):
+                return
             self.refuse(one, f"no run answers {VERBS[verb]} so")
             return
-        at, shows_unique = 0, verb == V_GETS
-        for call in range(first, last):
-            item = items[at] if at < len(items) else None
-            if item is None or item.key != table.keys[table.key[call]]:
-                table.want[call] = W_MISS
-                continue
-            if shows_unique == (item.unique is None):
-                self.refuse(one, f"no run answers {VERBS[verb]} so")
-                return
-            self.show(call, item.flags, item.at, item.size, item.unique)
-            at += 1
-        if at < len(items):
-            self.refuse(one, "an item of a key that was not asked for there")
+        shows_unique = verb == V_GETS
+        if any(shows_unique == (item.unique is None) for item in items):
+            self.refuse(one, f"no run answers {VERBS[verb]} so")
             return
-        if last - first > 1:
+        if not self.match(range(first, last), items):
+            self.refuse(one, "an item of a key that was not asked for there")
+        elif last - first > 1:
             self.look_for_twice(range(first, last))
 
-    def show(self, call: int, flags: int | None, at: int | None, size: int, unique: int | None) -> None:
+    def match(self, calls: range, items: list[Shown]) -> bool:
+        """Gives the calls of a retrieval its items, which may be in any order. Gives whether all items are theirs."""
+        table, at = self.table, 0
+        for call in calls:
+            if at < len(items) and items[at].key == table.keys[table.key[call]]:
+                self.show(call, *items[at][1:])
+                at += 1
+            else:
+                table.want[call] = W_MISS
+        if at == len(items):
+            return True
+        of_key: dict[bytes, list[Shown]] = {}
+        for item in reversed(items):
+            of_key.setdefault(item.key, []).append(item)
+        for call in calls:
+            found = of_key.get(table.keys[table.key[call]])
+            if found:
+                self.show(call, *found.pop()[1:])
+            else:
+                table.want[call] = W_MISS
+        return not any(of_key.values())
+
+    def show(self, call: int, flags: int | None, size: int, unique: int | None, at: int | None) -> None:
         """An item was found."""
         table, want = self.table, W_HIT
         if flags is not None:
@@ -232,16 +305,17 @@ class Seeing:
         """The answer to an `mg` or a `touch`."""
         table, call = self.table, self.table.first_call[one]
         answer = table.answer(one) or b"EN\r\n"
-        shown = meta(answer)
-        if shown.code in (b"EN", b"NOT_FOUND"):
+        answered = meta(answer)
+        if answered.code in (b"EN", b"NOT_FOUND"):
             table.want[call] = W_MISS
             return
-        is_wrong = b"f" in shown.marks and shown.flags is None or b"c" in shown.marks and shown.unique is None
-        if shown.code not in (b"HD", b"VA", b"TOUCHED") or is_wrong:
+        marks = answered.marks
+        is_wrong = b"f" in marks and answered.flags is None or b"c" in marks and answered.unique is None
+        if answered.code not in (b"HD", b"VA", b"TOUCHED") or is_wrong:
             self.refuse(one, f"no run answers {VERBS[table.verb[one]]} so")
             return
-        at = table.answer_at[one] + line_end(answer, 0) if shown.value is not None else None
-        self.show(call, shown.flags, at, len(shown.value or b""), shown.unique)
+        at = table.answer_at[one] + line_end(answer, 0) if answered.value is not None else None
+        self.show(call, answered.flags, len(answered.value or b""), answered.unique, at)
 
 
 def items_of(text: bytes, begin: int, end: int) -> tuple[list[Shown], int]:

@@ -65,7 +65,9 @@ class States:
         number, flags = self.values.number, {0}
         for event in events:
             kind = event.kind
-            if event.flags is not None and event.value is not None and kind <= CAS and kind not in (APPEND, PREPEND):
+            if event.want == "failed" or event.flags is None or event.value is None:
+                continue
+            if kind <= CAS and kind not in (APPEND, PREPEND):
                 event.item = number(event.flags, event.value)
                 flags.add(event.flags)
         self.flags = sorted(flags)
@@ -75,12 +77,18 @@ class States:
     def step(self, state: AnyState, event: Event) -> Sequence[New]:
         """The states after a call."""
         now: State = state  # type: ignore[assignment]
+        if event.want == "failed":
+            return self.failed(now)
         if now[0] < 0:
             return self.step_anything(now, event)
         found: tuple[New, ...] = STEPS[event.kind](self, now, event)
         if self.loses and self.may_be_lost(now, event, bool(found)):
             found += tuple([Lost(new) for new in STEPS[event.kind](self, NO_ITEM, event)])
         return found
+
+    def failed(self, state: State) -> tuple[State, ...]:
+        """The states after a call that was not made, and may have removed the item."""
+        return (state, (ABSENT, 0, self.top(state))) if state[0] else (state,)
 
     def may_be_lost(self, now: State, event: Event, fits: bool) -> bool:
         """Whether a loss before a call is looked at: of the item, if the call does not fit otherwise; and if uniques need
@@ -128,8 +136,8 @@ class States:
             return (state,) if event.want in ("not stored", None) else ()
         item = self.values.joined(state[0], event)
         if item is None:
-            return (state,) if event.want in ("too large", "not stored", None) else ()
-        if event.want in ("too large", "not stored"):  # memcached counts its header too
+            return (state,) if event.want in ("not stored", None) else ()
+        if event.want == "not stored":  # memcached counts its header too
             return (state,) if len(self.values.pairs[item][1]) > MOST_VALUE - MOST_HEAD else ()
         return ((item, 0, self.top(state)),)
 
@@ -184,7 +192,7 @@ class States:
         elif want == "number":
             items = [self.values.number(flags, b"%d" % (event.number or 0)) for flags in self.flags]
             found += [(item, 0, 0) for item in dict.fromkeys(items + self.of_number.get(event.number, []))]
-        elif want in ("no number", "too large", None):
+        elif want in ("no number", None):
             found.append(state)
         elif want == "stored":  # joined to a value that is not known: a state of its own, as the call changed the key
             found.append((state[0], state[1], state[2]))

@@ -9,9 +9,10 @@ from array import array
 from collections.abc import Iterable
 
 from zygos_tools.judging.events import CAS, GET, Asked, Event
-from zygos_tools.protocol.meaning import Command, command_in
+from zygos_tools.protocol.meaning import BAD_CHUNK, TOO_LARGE, Command, command_in
 from zygos_tools.protocol.model import shard_of
 from zygos_tools.protocol.table import KINDS
+from zygos_tools.protocol.table import READING as READS
 
 # the names of commands, by number: those of the table, and a line that is none
 VERBS = (*KINDS, "fault")
@@ -20,6 +21,8 @@ V_GET, V_GETS, V_INCR, V_DECR = map(VERB_OF.__getitem__, ("get", "gets", "incr",
 V_FLUSH, V_VERSION, V_VERBOSITY = map(VERB_OF.__getitem__, ("flush_all", "version", "verbosity"))
 V_MN, V_MG, V_MS, V_MD = METAS = tuple(map(VERB_OF.__getitem__, ("mn", "mg", "ms", "md")))
 V_STATS, V_FAULT = map(VERB_OF.__getitem__, ("stats", "fault"))
+# those that change no item
+READING = {VERB_OF[name] for name, kind in KINDS.items() if kind.does in READS} | {V_FAULT}
 
 # what is known of a command: it is not answered; it should have been answered; it is not in the certificate; another
 # one takes its place; it has an answer
@@ -27,7 +30,7 @@ QUIET, LOST, DROPPED, REPLACED, ANSWERED = 1, 2, 4, 8, 16
 
 # the replies that were seen, by number; then what is known of an item
 WANTS = (None, "hit", "miss", "stored", "not stored", "exists", "not found", "deleted", "number", "no number",
-         "too large", "flushed")
+         "flushed", "failed")
 WANT_OF = {want: number for number, want in enumerate(WANTS)}
 W_NONE, W_HIT, W_MISS = 0, 1, 2
 WANT_BITS, HAS_FLAGS, HAS_VALUE, HAS_UNIQUE = 15, 16, 32, 64
@@ -95,6 +98,16 @@ class Table:
     def count_of_calls(self, command: int) -> int:
         """How many calls a command makes."""
         return self.first_call[command + 1] - self.first_call[command]
+
+    def reads(self, command: int) -> bool:
+        """Whether a command changes no item; a faulty line with a call may remove one."""
+        verb = self.verb[command]
+        return verb in READING and not (verb == V_FAULT and self.count_of_calls(command))
+
+    def has_block(self, command: int) -> bool:
+        """Whether a faulty line has a block here and is a line alone for zygos."""
+        is_bad_block = self.errors.get(command) in (TOO_LARGE, BAD_CHUNK)
+        return not is_bad_block and self.original(command).index(b"\n") + 1 < self.frame_size[command]
 
     def at(self, place: int, size: int) -> bytes:
         """Bytes of the capture, or of a frame that came in pieces."""

@@ -8,6 +8,7 @@ one without an answer ends before the next one that has an answer.
 from __future__ import annotations
 
 from array import array
+from collections.abc import Iterator
 
 from zygos_tools.judging.events import FOREVER
 from zygos_tools.judging.reading import Recording, sessions_of
@@ -26,6 +27,8 @@ def set_times(recording: Recording, kind: str | None = None) -> str:
             set_ends(recording, asked, recording.marks.get(session, array("q")))
         else:
             set_starts(recording, asked, recording.starts.get(session, array("q")))
+        if session[1] < recording.sessions[session[0]]:
+            recording.tails.update(tail_of(recording, asked))
     for asked in recording.of_connection:
         close(recording, asked)
     if kind == NONE:
@@ -55,6 +58,14 @@ def set_starts(recording: Recording, asked: array[int], starts: array[int]) -> N
             last = starts[at]
             at -= 1
         ends[one] = last
+
+
+def tail_of(recording: Recording, asked: array[int]) -> Iterator[int]:
+    """The last commands of a session, as far as they have no end."""
+    for one in reversed(asked):
+        if recording.table.end[one] < FOREVER:
+            break
+        yield one
 
 
 def close(recording: Recording, asked: array[int]) -> None:

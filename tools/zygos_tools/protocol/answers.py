@@ -12,8 +12,9 @@ from typing import NamedTuple
 
 from zygos_tools.protocol.meaning import Command, frames_of, line_of, words_of
 
-# the answers of several lines that end in another line, by how they begin
-LISTS = (b"VALUE ", b"STAT ")
+# the answers of several lines that end in another line, by how they begin: of retrievals, of `stats` and its `cachedump`
+# and `detail dump`, and of the `metadump` and the `mgdump` of `lru_crawler`
+LISTS = (b"VALUE ", b"STAT ", b"ITEM ", b"PREFIX ", b"key=", b"mg ")
 META, FAULT = re.compile(rb"(HD|VA|EN|NS|EX|NF)[ \r\n]"), re.compile(rb"((CLIENT|SERVER)_)?ERROR\b")
 UNIQUE_MARK = re.compile(rb" c[0-9]{1,20}(?=[ \r\n])")
 NAME = re.compile(rb"[a-z_]{2,16}")
@@ -65,8 +66,8 @@ def answer_end(text: bytes, begin: int) -> int:
 
 
 def answers(text: bytes) -> Iterator[bytes]:
-    """The answers of an output: a line; the items and the END of one `get` or `gets`, the lines and the END of one
-    `stats`; a line `VA` with its block."""
+    """The answers of an output: a line; the items and the END of one `get` or `gets`, the lines and the END of another
+    list; a line `VA` with its block."""
     at, end = 0, len(text)
     while at < end:
         begin, at = at, answer_end(text, at)
@@ -81,7 +82,7 @@ def is_whole(answer: bytes) -> bool:
         size = number(words[1], MOST_SIZE) if len(words) > 1 else None
         return size is not None and answer[:at].endswith(b"\n") and len(answer) == at + size + 2
     if answer.startswith(LISTS):
-        return answer.endswith(b"\nEND\r\n") or b"ERROR" in answer.rpartition(b"\n")[0].rpartition(b"\n")[2]
+        return answer.endswith((b"\nEND\r\n", b"\nEN\r\n")) or b"ERROR" in answer.rpartition(b"\n")[0].rpartition(b"\n")[2]
     return answer.endswith(b"\n")
 
 

@@ -70,10 +70,10 @@ KINDS = {kind.name: kind for kind in (
     Kind("mn", "", "MN", key=0),
     Kind("version", "", "VERSION", key=0),
     Kind("verbosity", "", "OK", key=0, noreply=True),
-    Kind("stats", "", "STAT END RESET OK", key=0),
+    Kind("stats", "", "STAT END RESET OK ITEM PREFIX", key=0),
     Kind("flush_all", "flush", "OK", key=0, noreply=True),
     Kind("cache_memlimit", "", "OK", key=0),
-    Kind("slabs", key=0), Kind("lru", key=0), Kind("lru_crawler", key=0), Kind("watch", key=0),
+    Kind("extstore", key=0), Kind("slabs", key=0), Kind("lru", key=0), Kind("lru_crawler", key=0), Kind("watch", key=0),
     Kind("shutdown", key=0), Kind("quit", key=0),
 )}
 BY_WORD = {name.encode(): kind for name, kind in KINDS.items()}
