@@ -96,7 +96,7 @@ class Repository:
 
     def furnish(self):
         """Puts in what ./zygos and tools/build need, and the stand-in of rt."""
-        self.write("crates.txt", "low: std\nhigh: low\nzygos: high low\n")
+        self.write("crates.txt", "low: std\nhigh: low\n# program\nzygos: high low\n")
         for name in ("crates/low", "crates/high", "crates/zygos/src"):
             os.makedirs(self.path(name), exist_ok=True)
         self.write("crates/zygos/src/main.rt", "")
@@ -271,9 +271,10 @@ def builds(one):
     one.says("a newer file is summed", "check|summed|", "zygos check | tr '\\n' '|'")
     one.says("and once only", "check|", "zygos check | tr '\\n' '|'")
     one.shell("touch -d yesterday \"$made/crates/low/src/lib.rt\"")
-    one.says("a changed source is proved, whatever time it has", f"{LOW}check|summed|summed|{COPIED}",
+    one.says("a changed source is proved, whatever time it has", f"{LOW}check|summed|summed|summed|{COPIED}",
              "zygos check | tr '\\n' '|'")
-    one.says("a program is confirmed by its sum", "", "\"$made/tools/build\" zygos --confirm 2>&1")
+    one.says("a program is confirmed by its sum", "zygos: dist/ does not have it; tools/release makes it",
+             "\"$made/tools/build\" zygos --confirm 2>&1")
     one.shell("echo >>\"$made/crates/zygos/out/zygos\"")
     one.says("and another program of the same sources is not", "another program",
              "\"$made/tools/build\" zygos --confirm 2>&1 | grep -o 'another program'")
@@ -285,7 +286,7 @@ def builds(one):
     one.says("with --keep it is proved in its folder", "summed|all check in zygos|run in zygos|",
              "zygos build --keep | tr '\\n' '|'")
     one.shell("touch \"$made/crates/low/src/lib.rt\"")
-    one.says("and then so again", "check|summed|summed|all check in zygos|run in zygos|", "zygos check | tr '\\n' '|'")
+    one.says("and then so again", "check|summed|summed|summed|all check in zygos|run in zygos|", "zygos check | tr '\\n' '|'")
     shutil.rmtree(one.path("crates/zygos/out/incremental"))
     failing(one)
 
@@ -319,11 +320,11 @@ def two_programs(one):
     one.furnish()
     for name in ("times", "linear"):
         one.write(f"crates/{name}/src/{'main' if name == 'linear' else 'lib'}.rt", "")
-    one.write("crates.txt", "low: std\nhigh: low\ntimes: low\nlinear: times low\nzygos: high low\n")
+    one.write("crates.txt", "low: std\nhigh: low\ntimes: low\n# program\nzygos: high low\nlinear: times low\n# laws\nhigh_laws: high\n")
     one.write("tools/repo/shares.txt", "low 30\nhigh 30\ntimes 30\nlinear 30\nzygos 30\n")
     linear, zygos = "linear: times low times: low", "zygos: high low high: low low: std"
     both = f"ci in a copy|crates: {zygos} {linear}|"
-    alone = "linear: low is proved, 1 of 3: elapsed|--shards=2|summed|summed|ci in a copy|crates: linear: times low times: low low: std|"
+    alone = "linear: low is proved, 1 of 3: elapsed|--shards=2|summed|summed|summed|ci in a copy|crates: linear: times low times: low low: std|"
     one.says("both are proved together", f"linear: low is proved, 1 of 5: elapsed|--shards=2|summed|summed|{both}",
              "zygos linear --shards=2 | tr '\\n' '|'")
     one.says("then both start at once", "report|--shards=3|", "{ zygos report; zygos linear --shards=3; } | tr '\\n' '|'")

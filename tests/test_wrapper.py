@@ -92,7 +92,7 @@ class Wrapper(unittest.TestCase):
             shutil.copy(f"{TOP}/tools/{name}", f"{self.made}/tools")
         for name in ("repo", "zygos_tools"):
             shutil.copytree(f"{TOP}/tools/{name}", f"{self.made}/tools/{name}")
-        self.write("repository/crates.txt", "low: std\nzygos: low\n")
+        self.write("repository/crates.txt", "low: std\n# program\nzygos: low\n")
         self.write("repository/crates/zygos/src/main.rt", "")
         self.write("repository/tools/repo/shares.txt", "low 30\nzygos 30\n")
 
@@ -232,7 +232,7 @@ class Said(Wrapper):
         self.stand_in(MAKING)
         os.makedirs(f"{self.made}/crates/linear/src")
         self.write("repository/crates/linear/src/main.rt", "")
-        self.write("repository/crates.txt", "low: std\nzygos: low\nlinear: low\n")
+        self.write("repository/crates.txt", "low: std\n# program\nzygos: low\nlinear: low\n")
         self.assertEqual(0, self.run_it("zygos", "build")[0])
         for words, line in ((("linear",), b"no early-end record 0 \n"), (("linear", "--shards", "7"), b"no early-end record 2 --shards 7\n")):
             with self.subTest(words):
