@@ -1,0 +1,9 @@
+pub mod KeyLemmas
+pub mod NumberTextLemmas
+pub mod StepLemmas
+pub mod BesideLemmas
+pub mod NeedLemmas
+pub mod LeftLemmas
+pub mod MakeLemmas
+pub mod JoinLemmas
+pub mod TurnLemmas

@@ -1,6 +1,6 @@
 -- The numbers that a memcached may find in a value. It reads digits with spaces after them, and odd texts such as `+5`,
 -- ` 5`, `5 apples` or more than 20 digits in ways of its own.
-use Rattle.std.specs.Prelude.{◌≡◌, ◌⊎◌, ℕ, ◌-◌, ◌^◌, ◌==◌, nat_lt, nat_le, nat_eq, if◌then◌else◌, Bool, true, false}
+use Rattle.std.specs.Prelude.{◌≡◌, ◌⊎◌, ℕ, ◌-◌, ◌^◌, ◌==◌, nat_lt, nat_le, nat_eq, if◌then◌else◌, Bool, false}
 use Rattle.std.specs.Prelude.{◌&&◌, ◌||◌, not, List, [], ◌∷◌, ◌++◌, length, replicate, decimal, Option, None, Some}
 use Rattle.zy_base.specs.Number.{number_of}
 
