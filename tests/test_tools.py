@@ -12,8 +12,8 @@ from zygos_tools.files.formats import (Call, Entry, Hold, Reply, big, capture, c
                                        read_capture, replies, segment)
 from zygos_tools.files.part import Part
 
-TOOLS = ("capture", "chain", "compare", "cost", "dead", "indexes", "inline", "judge", "names", "packets", "part", "picture",
-         "play", "record", "show", "top", "warm")
+TOOLS = ("capture", "chain", "compare", "cost", "dead", "indexes", "inline", "judge", "lie", "load", "names", "packets",
+         "part", "picture", "play", "record", "show", "top", "warm")
 # how those that read an input are called
 READERS = ("capture FILE", "compare FILE -", "inline FILE", "inline FILE -", "judge --out /dev/null FILE -", "part capture FILE",
            "picture FILE", "show FILE", "top FILE", "warm FILE -")
@@ -63,6 +63,10 @@ def wrong_words():
         ("which part is cut out: capture, journal or replies; --help says more", "part"),
         ("which part is cut out: capture, journal or replies; --help says more", "part", "reply"),
         ("two files are written; --help says more", "record"),
+        ("one fault is taken, of stale, dropped, uncounted, mixed, swapped, resurrected; --help says more", "lie", "old"),
+        ("a load has one server; --help says more", "load"),
+        ("a server is HOST:PORT, [HOST]:PORT or a path with a slash, of at most 107 bytes, not here", "load", "here"),
+        ("--kinds takes names of commands, separated by spaces, not got", "load", "--kinds", "got", "./here"),
     ):
         says(" ".join([tool, *words]), line, tool, *words, status=2)
 
