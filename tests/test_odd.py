@@ -53,7 +53,7 @@ def is_plain(tool, said):
 def looks(name, words, given=b"", must_fail=False, wanted="", **more):
     """A case: the tool ends plainly; an input that is not whole must not pass in silence."""
     status, output, said = forked_tool(words, given, **more)
-    if status not in (0, 1, 2, 3) or not is_plain(words[0], said):
+    if status not in range(8) or not is_plain(words[0], said):
         fail(name, f"{words}: status {status}, {said[-400:]!r}")
     elif must_fail and status == 0 or wanted and not re.search(wanted, said + output.decode(errors="replace")):
         fail(name, f"{words}: status {status}, says {said!r}, and should say {wanted!r}")
@@ -117,13 +117,14 @@ def wrong_files():
 def faults_by_json():
     """judge --json has a line also for a file that cannot be judged, with what is wrong in it."""
     with files(capture=CAPTURE, replies=REPLIES, cut=CAPTURE[:20]) as path:
-        for one, other, why in ((path["cut"], path["replies"], "capture: truncated at 20"),
-                                ("/none/file", path["replies"], "No such file or directory"),
-                                (path["capture"], path["capture"], "capture: not expected here")):
+        for one, other, wanted, why in (
+                (path["cut"], path["replies"], 3, "capture: truncated at 20"),
+                ("/none/file", path["replies"], 4, "No such file or directory"),
+                (path["capture"], path["capture"], 3, "capture: not expected here: the replies file comes second")):
             status, output, said = forked_tool(["judge", "--json", one, other])
             told = json.loads(output)
             name = other if one == path["capture"] else one
-            same(f"judge --json of {why}", (1, "", "fault", f"{name}: {why}"),
+            same(f"judge --json of {why}", (wanted, "", "fault", f"{name}: {why}"),
                  (status, said, told["verdict"], told["fault"]))
     looks("an option in place of a file", ["packets", "--in-order", "--ends", "t.cap"], must_fail=True,
           wanted="--in-order takes .*, not --ends")

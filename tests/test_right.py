@@ -2,9 +2,15 @@
 
 A history is a list of steps: a connection, what it sends, and what it is answered. Its next step comes after that.
 """
+import json
+import os
+import pty
+import subprocess
+import tempfile
+
 import moments
 import plain
-from checks import cases, same
+from checks import LONGEST, TOP, cases, run, same, written
 from lies import outputs_of, verdict
 from zygos_tools.files.formats import Output, capture, close, pieces, replies, replies_file, segment
 from zygos_tools.judging.events import Verdict
@@ -264,6 +270,68 @@ def commands_of_sessions_that_ended():
     same("a set that comes late", "unknown", verdict(sent, outputs_of(told))[0])
 
 
+# ---- what is said
+
+
+def words(*given, **texts):
+    """The status of the tool with these words, and its first line; files are named by their texts."""
+    with tempfile.TemporaryDirectory() as folder:
+        paths = written(folder, **texts)
+        ran = run("judge", *[paths.get(word, word) for word in given])
+    said = (ran.stdout or ran.stderr).decode()
+    return ran.returncode, said.split("\n")[0].replace(folder + "/", "")
+
+
+def no_key_is_left():
+    """Patterns that match no key give no verdict."""
+    sent, told = recorded([ONE, GONE])
+    for given, line in ((("--keys", "zzz*"), "no key matches zzz*"), (("--except-keys", "*"), "no key is left by --except-keys *")):
+        same(f"{given}", (7, f"unknown: {line}"), words(*given, "--out", os.devnull, "sent", "told", sent=sent, told=told))
+    status, line = words("--json", "--keys", "zzz*", "sent", "told", sent=sent, told=told)
+    same("as JSON", (7, "unknown"), (status, json.loads(line)["verdict"]))
+    same("a no", 1, words("--out", os.devnull, "sent", "told", sent=sent, told=told)[0])
+
+
+def files_that_are_none():
+    """A file that is none of the two is named after its first bytes, with a status of its own."""
+    sent, told = recorded([ONE])
+    zipped = b"\x1f\x8b\x08" + bytes(100)
+    for name, given, line in (("gzip", (zipped, told), "sent: this is a compressed file; decompress it first"),
+                              ("nothing", (b"", told), "sent: this is an empty file; nothing was recorded into it, or the recorder was"
+                               " killed"), ("no replies", (sent, b""), "told: this is an empty file; nothing was recorded into it, or"
+                                            " the recorder was killed"), ("swapped", (told, sent), "sent: this is a replies file; the"
+                                                                          " capture comes first")):
+        same(name, (3, f"tools/judge: {line}"), words("--out", os.devnull, "sent", "told", sent=given[0], told=given[1]))
+    with tempfile.TemporaryDirectory() as folder:
+        name = os.path.join(folder, "large")
+        with open(name, "wb") as file:
+            file.write(b"ZYGCAP1\n\0\0\0\1")
+            file.truncate(1 << 36)
+        same("a wrong byte early in a large file", (3, f"tools/judge: {name}: capture: bad-tag at 12 byte 0"), words(name, "x"))
+
+
+def at_a_terminal():
+    """At a terminal there is a verdict, and no file."""
+    sent, told = recorded([ONE])
+    with tempfile.TemporaryDirectory() as folder:
+        paths = written(folder, sent=sent, told=told)
+        above, below = pty.openpty()
+        with subprocess.Popen([os.path.join(TOP, "tools", "judge"), paths["sent"], paths["told"]], stdout=below, stderr=below) as tool:
+            status = tool.wait(LONGEST)
+        os.close(below)
+        shown = os.read(above, 10000).decode().split("\r\n")
+        os.close(above)
+    same("the lines", (0, "order found: 1 commands, 1 calls, 1 keys", "not certified: "), (status, shown[0], shown[2][:15]))
+
+
+def flags_are_told():
+    """A value that was stored with other flags says so."""
+    told = judged([(0, *stored(b"a", b"4.17", 5)), (0, b"get a\r\n", hit(b"a", b"4.17"))])[1]
+    same("what was read", "get a -> '4.17' with flags 0", told[1].split(": ", 1)[1])
+    same("where it was stored", "  the same value is stored with flags 5, by connection 0, command 0", told[2][:67])
+
+
 Tests = cases(uniques_after_a_restart, uniques_that_do_not_count, a_block_that_is_dropped, batches_that_cannot_be_followed,
               items_in_any_order, lists_of_operators, answers_that_are_left, flushes_with_a_delay, connections_that_are_refused,
-              authentications, stores_that_fail, lines_that_may_be_carried_out, commands_of_sessions_that_ended)
+              authentications, stores_that_fail, lines_that_may_be_carried_out, commands_of_sessions_that_ended,
+              no_key_is_left, files_that_are_none, at_a_terminal, flags_are_told)

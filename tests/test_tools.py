@@ -132,7 +132,10 @@ def faults():
     got = entry(*Entry(1, 0, 0, 0, 0, Call("get", b"a"), Reply("miss")))
     head, out = b"ZYGJRN1\n", b"ZYGREP1\n"
     for given, line in (
-        (b"x", "no capture, journal or replies file begins at byte 0"),
+        (b"\0", "no capture, journal or replies file begins at byte 0"), (b"x", "this is text"),
+        (b"\x1f\x8b\x08", "this is a compressed file; decompress it first"),
+        (b"\xd4\xc3\xb2\xa1\2\0", "this is recorded packets; tools/packets makes a capture and a replies file of them"),
+        (b"ZYGCAP1\r\n", "this is a file whose line ends were changed; copy it again as a binary file"),
         (b"ZYGCAPX\n", "capture: bad-magic at 6"), (b"ZYGCAP1\n" + big(4, 4097), "capture: conn-count 4097"),
         (one + b"C", "capture: bad-tag at 12 byte 67"), (one + b"S" + big(4, 1), "capture: conn-range at 13 number 1"),
         (one + b"S" + big(4, 0) + big(4, 65536), "capture: segment-length at 17 number 65536"),

@@ -13,41 +13,16 @@ import subprocess
 import sys
 import tempfile
 
-# what to do about a line of the program, by how the line begins
-ADVICE = (
-    (r"no (not-next|wrong-reply|missing) ",
-     "give the capture that was served, and the --shards of the run; otherwise the journal is not that of a legal run"),
-    (r"no wrong-output ", "the replies file is not the one of this journal and this capture"),
-    (r"no wrong-holds ", "the journal is not that of a run of this capture"),
-    (r"no early-end ", "was the capture recorded with --ends, and are the replies those of the recording? docs/JUDGE.md says more"),
-    (r"no out-of-time ", "the journal has an order that the recorded times rule out; tools/judge searches for one that fits"),
-    (r"\w+: usage: ", "./zygos help has the commands and their options"),
-    (r"\w+: capture: bad-magic ",
-     "this is no capture{}; tools/capture makes one of text, tools/record of live traffic, and zygos pcap of packets"),
-    (r"\w+: capture: conn-count ", "a capture has at most 4,096 connections: split it, or use sessions"),
-    (r"\w+: capture: bad-tag ", "the file is damaged, or has a close record in version 1"),
-    (r"\w+: capture: conn-range ", "the file's count of connections is too small"),
-    (r"\w+: capture: segment-length ", "a segment has at most 65,535 bytes: split it"),
-    (r"\w+: capture: truncated ", "give the whole file; tools/record --repair completes a recording that was killed"),
-    (r"\w+: capture: trailing ", "run takes one capture with nothing after it, which tools/part capture cuts out"),
-    (r"\w+: capture: too-long", "split the capture"),
-    (r"\w+: replies: (form|truncated) ", "a replies file has to come last, and once; zygos run writes it"),
-    (r"\w+: pcap: fault ", "tools/packets FILE names this error, its offset and what to do"),
-    (r"\w+: reading failed", "the system refused a read of standard input"),
-    (r"\w+: writing failed", "the disk is full, or the reader of the output went away"),
-    (r"\w+: out of memory", "a run takes about 14 times its capture, and more for long answers; docs/COMMANDS.md, \"Memory\""),
-)
+from zygos_tools.cli import advice
+from zygos_tools.files import kinds
+
 JOURNAL = re.compile(r"\w+: journal: (form|truncated) ")
 OF_JOURNAL = {"report": "give only a journal, which tools/part journal cuts out of what zygos run --out both writes"}
 IN_ORDER = "give a capture, a journal and a replies file, in this order; zygos run --out both writes the last two"
 # a capture of no connection, as pcap writes it if no packet goes to the port
 NOTHING = b"ZYGCAP2\n\0\0\0\0E"
-# what a file may be in place of a capture, by its beginning
-KINDS = ((rb"ZYGJRN\d\n", "a journal"), (rb"ZYGREP\d\n", "a replies file"),
-         (rb"\xa1\xb2[\xc3\x3c][\xd4\x4d]|[\xd4\x4d][\xc3\x3c]\xb2\xa1|\n\r\r\n", "recorded packets"),
-         (rb"\x1f\x8b|\x28\xb5\x2f\xfd|BZh|\xfd7zXZ", "a compressed file"), (rb"[\t\n\r -~\x80-\xff]+\Z", "text"))
 # the commands whose output decides the advice, and how much of it
-HEADED, HEAD = ("check", "linear", "pcap"), 200
+HEADED = ("check", "linear", "pcap")
 # in how many bytes of recorded packets ports are looked for
 MOST_PACKETS = 1 << 22
 FORWARDED = signal.SIGINT, signal.SIGTERM, signal.SIGHUP
@@ -57,7 +32,7 @@ def advice_on(command, line):
     """The advice on a line of the program, or None."""
     if JOURNAL.match(line):
         return OF_JOURNAL.get(command, IN_ORDER)
-    return next((advice for pattern, advice in ADVICE if re.match(pattern, line)), None)
+    return advice.advice_on(re.sub(r"^\w+: ", "", line))
 
 
 def command_of(program, words):
@@ -76,8 +51,8 @@ def beginning(given, size):
 
 def kind_in(given):
     """What an input is if it is no capture, to be printed; nothing if that is not known."""
-    head = beginning(given, HEAD)
-    kind = next((kind for pattern, kind in KINDS if re.match(pattern, head)), None) if head is not None else None
+    head = beginning(given, kinds.HEAD)
+    kind = kinds.kind_of(head) if head else None
     return f" but {kind}" if kind else ""
 
 
@@ -109,7 +84,7 @@ def pass_on(source):
     try:
         with source:
             while piece := source.read1(1 << 16):
-                head += piece[: HEAD - len(head)]
+                head += piece[: kinds.HEAD - len(head)]
                 sys.stdout.buffer.write(piece)
                 sys.stdout.buffer.flush()
     except OSError:

@@ -1,8 +1,9 @@
 """The words of the tools, and how they end.
 
 A tool ends quietly when it is interrupted or the reader of its output goes away. At a fault of its input, or of reading
-and writing, it prints one line that says where, and ends with status 1; words that it does not know have status 2. What
-nobody foresaw is one line too, with status 70: it names the file with the trace.
+and writing, it prints one line that says where, and ends with status 1; words that it does not know have status 2. A
+tool whose verdict has status 1 tells these apart. What nobody foresaw is one line too, with status 70: it names the
+file with the trace.
 """
 from __future__ import annotations
 
@@ -16,13 +17,15 @@ import traceback
 from collections.abc import Callable, Container, Iterable
 from typing import Any, NoReturn
 
-from zygos_tools.cli import screen
+from zygos_tools.cli import advice, screen
 from zygos_tools.files.outputs import STANDARD_OUTPUT
 from zygos_tools.files.part import Fault
 
 # an option: what it takes, in the words of a message, and how a word is read, which gives None for a wrong one
 Option = tuple[str, Callable[[str], Any]]
 UNFORESEEN = 70
+# the statuses of what ends a tool with a line
+FAILED: dict[type[Exception], int] = {Fault: 1, OSError: 1, MemoryError: 1}
 # signals that end a tool once it has removed what it had begun to write
 ENDING = (signal.SIGINT, signal.SIGTERM, signal.SIGHUP)
 FILE: Option = ("a file", lambda word: word or None)
@@ -157,14 +160,36 @@ def handle_endings(handler: signal.Handlers | Callable[[int, object], NoReturn])
         signal.signal(number, handler)
 
 
-def leave(why: str, status: int) -> NoReturn:
-    """Ends the process with a line, after what was printed."""
+def tell_failures_apart() -> None:
+    """From now on status 1 is a verdict, and what ends the tool with a line has the statuses of the program."""
+    FAILED.update({Fault: 3, OSError: 5, MemoryError: 6})
+
+
+def status_of(fault: Exception) -> int:
+    """The status after what ends a tool."""
+    return next(status for kind, status in FAILED.items() if isinstance(fault, kind))
+
+
+def told(fault: Exception) -> list[str]:
+    """What is printed about a fault of a file, of reading and writing, or of memory: a line, and perhaps what to do."""
+    if isinstance(fault, MemoryError):
+        return ["out of memory; record a shorter time"]
+    if isinstance(fault, OSError):
+        return [of_system(fault)]
+    hint = getattr(fault, "hint", "")
+    cure = None if hint else advice.on_fault(str(fault))
+    return [f"{fault}{hint}", *([cure] if cure else [])]
+
+
+def leave(*lines: str, status: int) -> NoReturn:
+    """Ends the process with lines, after what was printed."""
     try:
         if sys.stdout is not None:
             sys.stdout.flush()
     except (OSError, ValueError):
         pass
-    screen.say(why)
+    for line in lines:
+        screen.say(line)
     os._exit(status)  # what could not be written is not tried again
 
 
@@ -185,21 +210,17 @@ def carried_out(main: Callable[[list[str]], object], page: str) -> int:
 def guarded(main: Callable[[list[str]], object], page: str) -> int:
     """Carries out a tool with its words. Gives its status, or ends the process with a line."""
     if sys.stdout is None:
-        leave("standard output is closed", 1)
+        leave("standard output is closed", status=FAILED[OSError])
     if isinstance(sys.stdout, io.TextIOWrapper):
         sys.stdout.reconfigure(errors="backslashreplace")
     try:
         return carried_out(main, page)
     except Stop as why:
-        leave(str(why), why.status)
-    except Fault as fault:
-        leave(f"{fault}{fault.hint}", 1)
-    except MemoryError:
-        leave("out of memory; record a shorter time", 1)
-    except OSError as error:
-        leave(of_system(error), 1)
+        leave(str(why), status=why.status)
+    except (Fault, MemoryError, OSError) as fault:
+        leave(*told(fault), status=status_of(fault))
     except Exception as error:
-        leave(unforeseen(error), UNFORESEEN)
+        leave(unforeseen(error), status=UNFORESEEN)
 
 
 def run(main: Callable[[list[str]], object], page: str, name: str | None = None) -> NoReturn:

@@ -6,10 +6,11 @@ import sys
 from collections.abc import Callable, Iterator
 from typing import Protocol
 
-from zygos_tools.files.formats import FORMATS, Output, capture_head, replies_records, replies_version, skim
+from zygos_tools.files import kinds
+from zygos_tools.files.formats import FORMATS, Output, replies_records, replies_version, skim
 from zygos_tools.files.part import PIECE, Fault, Part
 
-# how many bytes say what a file is
+# how many bytes say which file of zygos a file is
 MAGIC = 6
 
 
@@ -39,9 +40,25 @@ def pieces(name: str) -> Callable[[int], bytes]:
     return more
 
 
-def read(name: str) -> bytes:
-    """The bytes of an input."""
-    return b"".join(iter(functools.partial(pieces(name), PIECE), b""))
+def read(name: str, is_wanted: Callable[[bytes], bool] = lambda head: True) -> bytes:
+    """The bytes of an input; only the first ones, if these say that it is not what is wanted."""
+    more = pieces(name)
+    head = beginning(more)
+    return b"".join([head, *iter(functools.partial(more, PIECE), b"")]) if is_wanted(head) else head
+
+
+def beginning(more: Callable[[int], bytes], head: bytes = b"") -> bytes:
+    """The first bytes of an input, as many as say what it is; it begins with `head`."""
+    while len(head) < (MAGIC if head[:MAGIC] in FORMATS else kinds.HEAD) and (piece := more(PIECE)):
+        head += piece
+    return head
+
+
+def expect(name: str, head: bytes, cures: dict[str, str]) -> None:
+    """Refuses an input that is of another kind: of one with a cure, or of none of zygos's files."""
+    kind = kinds.kind_of(head)
+    if kind in cures or head[:MAGIC] not in FORMATS and kind or kind == kinds.CHANGED:
+        raise Fault(f"{name_of(name)}: {kinds.told(head, cures)}")
 
 
 def parts(name: str) -> Iterator[Part]:
@@ -55,6 +72,9 @@ def parts(name: str) -> Iterator[Part]:
             text += piece
         if not text:
             return
+        if not at:
+            text = beginning(more, text)
+            expect(name, text, {})
         if text[:MAGIC] not in FORMATS:
             raise Fault(f"{name_of(name)}: no capture, journal or replies file begins at byte {at}")
         after = f", in the part that begins at byte {at}" if at else ""
@@ -67,18 +87,19 @@ def parts(name: str) -> Iterator[Part]:
 
 def capture_alone(name: str) -> bytes:
     """The bytes of an input that is one capture; anything after its end is refused."""
-    text = read(name)
-    if text.startswith(b"ZYGREP"):
-        raise Fault(f"{name_of(name)}: this is a replies file; the capture comes first")
-    part = Part("capture", text, before=f"{name_of(name)}: ")
-    capture_head(part)
-    part.at = 0
+    more, gathered = pieces(name), list[bytes]()
+    head = beginning(more)
+    expect(name, head, {kinds.REPLIES: "the capture comes first", kinds.JOURNAL: "a capture is read here",
+                        kinds.TEXT: "tools/capture makes a capture of text"})
+    part = Part("capture", head, more, f"{name_of(name)}: ")
+    part.passed = gathered.append
     skim(part)
-    if part.place < len(text):
-        what = FORMATS.get(text[part.place : part.place + MAGIC])
+    part.pass_rest()
+    if part.want(MAGIC) or part.text:
+        what = FORMATS.get(part.text[:MAGIC])
         after = f"a {what} begins" if what else "bytes follow the end of the capture"
         raise Fault(f"{name_of(name)}: {after} at byte {part.place}; a capture is read alone")
-    return text
+    return b"".join(gathered)
 
 
 def outputs_in(name: str, hint: str = "", capture_hint: str = "", second_hint: str = "") -> tuple[list[Output], bool]:
@@ -87,13 +108,16 @@ def outputs_in(name: str, hint: str = "", capture_hint: str = "", second_hint: s
     `hint` says what writes one if there is none, `capture_hint` and `second_hint` what may be done about a capture or
     something after the replies.
     """
-    found, has_journal = None, False
+    found, has_journal, is_empty = None, False, True
     for part in parts(name):
+        is_empty = False
         if found is not None or part.name == "capture":
             raise part.fault(f"not expected here{capture_hint if part.name == 'capture' else second_hint}")
         if part.name == "replies":
             found = list(replies_records(part, replies_version(part)))
         has_journal = has_journal or part.name == "journal"
+    if is_empty and not hint:
+        raise Fault(f"{name_of(name)}: {kinds.told(b'')}")
     if found is None:
         raise Fault(f"{name_of(name)}: no replies file in it{hint}")
     return found, has_journal

@@ -10,7 +10,8 @@ CAPTURE, REPLIES  what clients sent and what the server answered, best as `tools
 --check       runs `./zygos linear` on the files that are made, or `./zygos check` if times are not known, and prints
               what it says
 --out FILES   where the files are written, one after the other: a capture, a journal of the order, and replies. Without
-              --out, --order, --check and --json they go to standard output, and what is said to standard error
+              --out, --order, --check and --json they go to standard output, and what is said to standard error; at a
+              terminal no files are written
 --order FILE  where the order of the commands is written, for tools/inline and tools/compare
 --over        overwrites files that are not empty
 --shards N    the shards of the journal's run, 1 to 256 (if left out, 16); give the checkers the same number
@@ -28,8 +29,9 @@ CAPTURE, REPLIES  what clients sent and what the server answered, best as `tools
 
 The first line is `order found: ..`, and a second one says what is translated; `no: ..`, with a few commands that no
 order explains; or `unknown: ..`, with the reason. Then follow how many keys have an order, and a line for each that has
-none. The status is 0, 1 or 3, and after an order, with --check, that of the checker, which says `yes`. For an error in
-a file it is 1, and for a wrong option 2. docs/JUDGE.md says what `yes` means, and what it does not.
+none. The status is 0 for an order, 1 for `no` and nothing else, and 7 for `unknown`. After an order, with --check, the
+checker says `yes`. Other statuses: 2 a wrong option, 3 an error in a file, 4 a failed read, 5 a failed write, 6 too
+little memory. docs/JUDGE.md says what `yes` means, and what it does not.
 """
 from __future__ import annotations
 
@@ -63,11 +65,14 @@ from zygos_tools.repository import TOP
 # beside the folder that the tool was called in, which may be a link to the repository's
 BESIDE = os.path.join(os.path.dirname(os.path.dirname(os.path.abspath(sys.argv[0]))), "zygos")
 ZYGOS = BESIDE if os.path.exists(BESIDE) else os.path.join(TOP, "zygos")
-STATUS = {"no": 1, "unknown": 3}
+# the status of each verdict, and of a failed read
+STATUS, READING = {"order found": 0, "no": 1, "unknown": 7}, 4
 NO_ENDS = ("the capture has no ends of answers: each client is taken to have waited for its answers; tools/record"
            " --ends writes them; a `no` may be false without them")
 NOT_USED = "ends of answers are not used (--times segments): each client is taken to have waited"
 NOT_CLOSED = "commands name keys that are left out too, so no checker is asked"
+NOT_CERTIFIED = "not certified: --check asks the proved program, and --out FILES keeps the files for it"
+REFUSED = "the proved program refuses this order, so there is no verdict; please report it, with the recording"
 # of how many keys without an order something is said
 MOST_FAULTS = 100
 # memory: of the tool itself in MB, and of each command and each byte of the files in bytes; less than so many MB is not
@@ -115,7 +120,10 @@ class Judging:
     def __init__(self, names: list[str], given: dict[str, Any]):
         self.names, self.given, self.screen, self.begun = names, given, Screen(), time.monotonic()
         self.is_json = "--json" in given
-        self.to_output = not {"--check", "--out", "--order", "--json"} & set(given)
+        is_silent = not {"--check", "--out", "--order", "--json"} & set(given)
+        self.at_terminal = is_silent and os.isatty(1)
+        self.to_output = is_silent and not self.at_terminal
+        self.is_read = False
         self.judge: Judge | None = None
         self.certificate: Certificate | None = None
         self.checked = self.recording = ""
@@ -131,21 +139,31 @@ class Judging:
 
     def run(self) -> int:
         """Judges, prints what is to be said, and gives the status."""
-        faults: list[Verdict] = []
-        try:
-            faults = self.search()
-        except Verdict as verdict:
-            faults = [*(self.judge.faults if self.judge else []), verdict]
-            if self.judge and verdict in self.judge.faults:
-                faults.pop()
+        faults = self.found()
         self.screen.clear()
+        faults.sort(key=lambda fault: (fault.word != "no", fault.record is None, fault.record or 0))
+        word = faults[0].word if faults else "order found"
         if faults:
-            return self.refuse(faults)
-        return self.accept()
+            self.refuse(faults)
+        elif not self.accept():
+            word = "unknown"
+        if self.is_json:
+            self.print_json(word, faults)
+        return STATUS[word]
+
+    def found(self) -> list[Verdict]:
+        """Looks for an order. Gives the faults, if there are some."""
+        try:
+            return self.search()
+        except Verdict as verdict:
+            others = self.judge.faults if self.judge else []
+            return [*others, verdict] if verdict not in others else [*others]
 
     def search(self) -> list[Verdict]:
-        """Looks for an order. Gives the faults, if there are some."""
-        given, capture, replies = self.given, capture_alone(self.names[0]), outputs_in(self.names[1])[0]
+        """Looks for an order of what is in the files. Gives the faults of single keys and answers, if there are some."""
+        given, capture = self.given, capture_alone(self.names[0])
+        replies = outputs_in(self.names[1], capture_hint=": the replies file comes second")[0]
+        self.is_read = True
         commands, megabytes = expected_memory(capture, replies)
         if megabytes > MUCH:
             self.screen.say(f"about {commands:,} commands, for which about {megabytes:,} MB of memory are needed")
@@ -153,6 +171,8 @@ class Judging:
             capture, replies, given.get("--shards", 16), given.get("--times"), "--warm" in given,
             "--may-forget" in given, given.get("--states", 200000), self.clock, is_first="--first" in given,
             is_chosen=chosen_by(given))
+        if not judge.keys.names and {"--keys", "--except-keys"} & set(given):
+            raise Unknown(f"no key {self.choice()}")
         if "--order" in given:
             self.recording = digest(capture, {one[:2]: one.text for one in replies})
         del capture, replies
@@ -167,6 +187,12 @@ class Judging:
             self.certificate = judge.certificate()
         return []
 
+    def choice(self) -> str:
+        """The patterns of keys, to be printed."""
+        keys, but = self.given.get("--keys"), self.given.get("--except-keys")
+        some = [f"matches {keys}"] * bool(keys) + [f"is left by --except-keys {but}"] * bool(but)
+        return " and ".join(some)
+
     # ---- what is said
 
     def counts(self, faults: list[Verdict]) -> dict[str, int]:
@@ -177,9 +203,8 @@ class Judging:
         done = len(self.judge.keys.found.keys() - no - unknown) if total and self.judge else 0
         return {"keys": total, "ordered": done, "without": len(no), "unknown": len(unknown)}
 
-    def refuse(self, faults: list[Verdict]) -> int:
-        """Prints a no or an unknown. Gives the status."""
-        faults.sort(key=lambda fault: (fault.word != "no", fault.record is None, fault.record or 0))
+    def refuse(self, faults: list[Verdict]) -> None:
+        """Prints a no or an unknown."""
         for line in faults[0].told():
             self.say(line)
         counts = self.counts(faults)
@@ -193,9 +218,6 @@ class Judging:
         self.say_left_out()
         if faults[0].word == "no" and self.judge and self.judge.kind == SEGMENTS:
             self.say(NOT_USED if self.judge.recording.marks else NO_ENDS)
-        if self.is_json:
-            self.print_json(faults[0].word, faults)
-        return STATUS[faults[0].word]
 
     def say_left_out(self) -> None:
         """Says which commands are left out by the words."""
@@ -217,36 +239,39 @@ class Judging:
         if not judge.is_closed:
             yield NOT_CLOSED
 
-    def accept(self) -> int:
-        """Writes the files of an order, and asks the checker. Gives the status."""
+    def accept(self) -> bool:
+        """Writes the files of an order, and asks the checker. Gives whether that does not refuse it."""
         assert self.judge
         for line in self.lines(self.judge):
             self.say(line)
         if "--order" in self.given:
             self.write_order(self.judge)
-        status = 0
-        if self.certificate:
-            status = self.write(self.certificate)
-        if self.is_json:
-            self.print_json(self.checked.split(" ")[0] if self.checked else "order found", [])
-        return status
+        if self.certificate and not self.at_terminal:
+            self.write(self.certificate)
+        if self.at_terminal:
+            self.say(NOT_CERTIFIED)
+        if self.checked.startswith("no"):
+            self.say(f"unknown: {REFUSED}")
+            return False
+        return True
 
-    def write(self, certificate: Certificate) -> int:
-        """Writes the files where they are wanted. Gives the status."""
+    def write(self, certificate: Certificate) -> None:
+        """Writes the files where they are wanted, and has them checked."""
         if self.to_output:
             sys.stdout.buffer.writelines(certificate.pieces())
         if "--out" in self.given:
             with Beside(self.given["--out"], "--over" in self.given) as out:
                 out.write(certificate.pieces())
         if "--check" not in self.given:
-            return 0
+            return
         if "--out" in self.given:
             with open(self.given["--out"], "rb") as file:
-                return self.check(file)
+                self.check(file)
+            return
         with tempfile.TemporaryFile() as made:
             made.writelines(certificate.pieces())
             made.seek(0)
-            return self.check(made)
+            self.check(made)
 
     def write_order(self, judge: Judge) -> None:
         """Writes the order of the commands."""
@@ -254,8 +279,8 @@ class Judging:
         with Beside(self.given["--order"], "--over" in self.given) as file:
             file.write(order_text(connections_of(list(judge.places()), counts), self.recording))
 
-    def check(self, file: IO[bytes]) -> int:
-        """Runs a proved checker on the files. Gives its status."""
+    def check(self, file: IO[bytes]) -> None:
+        """Runs a proved checker on the files. Where it has no verdict, its status is that of the tool."""
         assert self.judge
         words = ["linear" if self.judge.kind == ENDS else "check", "--shards", str(self.given.get("--shards", 16))]
         sys.stdout.flush()
@@ -263,7 +288,8 @@ class Judging:
         self.checked = ran.stdout.decode("ascii", "replace").strip()
         if self.checked:
             self.say(self.checked)
-        return ran.returncode
+        if not self.checked.startswith(("yes", "no")):
+            ends.end(ran.returncode if ran.returncode > 1 else ends.UNFORESEEN)
 
     def print_json(self, word: str, faults: list[Verdict]) -> None:
         """Prints the verdict and the counts as one line."""
@@ -279,31 +305,43 @@ class Judging:
                 "seconds": round(time.monotonic() - self.begun, 1)}
         print(json.dumps(line))
 
-    def print_fault(self, fault: Fault | OSError) -> None:
-        """Prints a line with a fault of a file in place of a verdict."""
+    def make_sure(self) -> None:
+        """Sees that the files can be written."""
+        written = [self.given[option] for option in ("--out", "--order") if option in self.given]
+        self.is_read = True
+        told_apart(written, self.names)
+        for name in () if "--over" in self.given else written:
+            refuse_full(name)
+        self.is_read = False
+
+    def status_of(self, fault: Exception) -> int:
+        """The status after what prevents a verdict."""
+        return READING if isinstance(fault, OSError) and not self.is_read else ends.status_of(fault)
+
+    def say_fault(self, fault: Exception) -> None:
+        """Says what prevents a verdict."""
+        lines = ends.told(fault)
+        if not self.is_json:
+            for line in lines:
+                self.screen.say(line)
+            return
         self.screen.clear()
-        why = ends.of_system(fault) if isinstance(fault, OSError) else f"{fault}{fault.hint}"
+        why = "; ".join(lines)
         print(json.dumps({"verdict": "fault", "fault": why, "seconds": round(time.monotonic() - self.begun, 1)}))
 
 
 def main(words: list[str]) -> None:
     """Judges a recording."""
+    ends.tell_failures_apart()
     given, names = ends.options(words, OPTIONS)
     if len(names) != 2 or names.count("-") > 1:
         ends.stop("a capture and a replies file are judged; --help says more", 2)
     gc.disable()  # what is read stays to the end
     judging = Judging(names, given)
-    if judging.to_output and os.isatty(1):
-        ends.stop("the files are not written to a terminal; --check judges them, and --out FILES keeps them", 2)
-    written = [given[option] for option in ("--out", "--order") if option in given]
-    told_apart(written, names)
-    for name in () if "--over" in given else written:
-        refuse_full(name)
     try:
+        judging.make_sure()
         status = judging.run()
-    except (Fault, OSError) as fault:
-        if not judging.is_json:
-            raise
-        judging.print_fault(fault)
-        status = 1
+    except (Fault, OSError, MemoryError) as fault:
+        judging.say_fault(fault)
+        status = judging.status_of(fault)
     ends.end(status)

@@ -158,16 +158,16 @@ class Event:
         """The command of the call."""
         return self.table.asked(self.command)
 
-    def told(self) -> str:
-        """The call with what was seen of it, to be printed."""
+    def told(self, has_flags: bool = False) -> str:
+        """The call with what was seen of it, to be printed, and with its flags if these matter."""
         asked = self.asked
         value = f" '{brief(self.value)}'" if self.kind != GET and self.value is not None else ""
         is_one_of_many = self.key is not None and self.table.count_of_calls(self.command) > 1
         key = f" (key {shown(self.key or b'')})" if is_one_of_many else ""
         perhaps = " (if it was made then)" if self.optional and self.want is not None else ""
-        return f"  {asked.name()}, {asked.when()}: {asked.line()}{value}{key} -> {self.seen()}{perhaps}"
+        return f"  {asked.name()}, {asked.when()}: {asked.line()}{value}{key} -> {self.seen(has_flags)}{perhaps}"
 
-    def seen(self) -> str:
+    def seen(self, has_flags: bool = False) -> str:
         """What was seen of the call."""
         if self.want is None:
             return "may have been made" if self.optional else "no answer"
@@ -175,8 +175,10 @@ class Event:
             return str(self.number)
         if self.want != "hit":
             return self.want
-        unique = f" with unique {self.unique}" if self.unique is not None else ""
-        return (f"'{brief(self.value)}'" if self.value is not None else "an item") + unique
+        marks = [f"flags {self.flags}"] * (has_flags and self.flags is not None)
+        marks += [f"unique {self.unique}"] * (self.unique is not None)
+        return (f"'{brief(self.value)}'" if self.value is not None else "an item") + " with " * bool(marks) + \
+            " and ".join(marks)
 
 
 def cut(text: str, most: int) -> str:

@@ -115,7 +115,7 @@ class Reason:
             elsewhere = self.elsewhere(lost)
             why = "what this one answers is stored under other keys alone" if elsewhere else \
                 f"no command stores what this one answers, and the store began empty{self.advice()}"
-            return self.no(why, [lost.told(), *elsewhere], [lost])
+            return self.no(why, [lost.told(self.has_flags()), *elsewhere, *self.with_other_flags(lost)], [lost])
         if not self.shrink():
             came = ", from an empty store" if self.is_known else ""
             return self.no(f"no order of the {len(self.all)} calls explains their answers{came}{self.advice()}",
@@ -190,6 +190,17 @@ class Reason:
         if store is None:
             return []
         return [f"  stored only under {shown(store.key or b'')}, by {store.told().lstrip()}"]
+
+    def has_flags(self) -> bool:
+        """Whether the items of these keys have several flags."""
+        return len({event.flags for event in self.all if event.flags is not None}) > 1
+
+    def with_other_flags(self, event: Event) -> Iterator[str]:
+        """A line about the value that a call saw, if it is stored with other flags alone."""
+        other = next((one for one in self.all if one.kind in (SET, ADD, REPLACE, CAS) and one.key == event.key
+                      and one.value == event.value and one.flags != event.flags), None)
+        if event.kind == GET and event.value is not None and other is not None:
+            yield f"  the same value is stored with flags {other.flags}, by {other.told().lstrip()}"
 
     # ---- fewer calls
 
@@ -309,7 +320,7 @@ class Reason:
         lines: list[str] = []
         origins = Origins(self, sure[:MOST_PRINTED])
         for event in sure[:MOST_PRINTED]:
-            lines += [event.told(), *origins.lines(event)]
+            lines += [event.told(self.has_flags()), *origins.lines(event)]
         if len(sure) > MOST_PRINTED:
             lines.append(f"  and {len(sure) - MOST_PRINTED} more")
         if len(self.events) > len(sure):
@@ -337,7 +348,8 @@ class Origins:
         counted = f"{thing[2]}, from which it counted" if thing[0] == NUMBER else None
         if not made:
             yield f"  no command {name} {counted or 'it'}"
-            yield from self.reason.elsewhere(event) if thing[0] == ITEM and thing[2] != ABSENT else ()
+            if thing[0] == ITEM and thing[2] != ABSENT:
+                yield from self.reason.elsewhere(event) or self.reason.with_other_flags(event)
         elif not all(one.id in self.printed for one in made):
             yield f"  {f'{counted}, is ' if counted else ''}{done} {self.who(made, event.end)}"
 

@@ -33,6 +33,7 @@ from collections import Counter
 
 from zygos_tools.cli import ends
 from zygos_tools.files import inputs
+from zygos_tools.files.kinds import is_packets
 from zygos_tools.files.outputs import Beside, refuse_full, told_apart
 from zygos_tools.files.part import Fault
 from zygos_tools.protocol import pace
@@ -160,7 +161,7 @@ def main(words):
     for other in () if "--over" in found else names:
         refuse_full(other)
     reading, report, why = look(
-        inputs.read(name), name, found.get("--port", 11211), with_answers=written[1] is not None,
+        inputs.read(name, is_packets), name, found.get("--port", 11211), with_answers=written[1] is not None,
         with_ends="--ends" in found, resumes="--resume" in found)
     for line in report.lines:
         print(line, file=sys.stderr if "-" in written else sys.stdout)
