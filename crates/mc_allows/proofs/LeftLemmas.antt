@@ -19,7 +19,7 @@ use Rattle.mc_allows.specs.declared.fact.Fact.{Fact}
 use Rattle.mc_allows.specs.declared.fact.Fact.TheVariants.{Absent, Present, Item as AnItem, Counted, Ending, Beginning}
 use Rattle.mc_allows.specs.Allows.{HasItem, HasNumber, Allows, AllowsReply, Counts, Joins}
 use Rattle.mc_allows.specs.Facts.{is_same_value, holds}
-use Rattle.mc_allows.specs.Needs.{Fits, left_by_reply, left_always, left_by}
+use Rattle.mc_allows.specs.Needs.{Suits, left_by_reply, left_always, left_by}
 use Rattle.mc_allows.proofs.NumberTextLemmas.{read_below, written}
 use Rattle.mc_allows.proofs.BesideLemmas.{equal_value, equal_number}
 use Rattle.mc_allows.proofs.NeedLemmas.{nothing_known, itself, some_hit, hit_with, item_present, item_value}
@@ -144,7 +144,7 @@ left_told call (Replies.Hit flags unique value) = refl
 left_told call reply = refl
 
 -- what all that may have been said to a call surely leaves holds after it
-pub shown_leaves : (before : Option Item) (call : Call) (said : Said) (after : Option Item) (shown : Shown) → Allows before call said after → Fits shown said → holds (left_by call shown) after ≡ true
+pub shown_leaves : (before : Option Item) (call : Call) (said : Said) (after : Option Item) (shown : Shown) → Allows before call said after → Suits shown said → holds (left_by call shown) after ≡ true
 shown_leaves before call said after Nothing allowed fits = always_left before call said after allowed
 shown_leaves before call (Replied own) after NoFailure allowed fits = unfailed before call own after allowed
 shown_leaves before call Failed after NoFailure allowed fits = absurd (cc)

@@ -1,5 +1,6 @@
 pub mod KeyLemmas
 pub mod NumberTextLemmas
+pub mod SpaceLemmas
 pub mod StepLemmas
 pub mod BesideLemmas
 pub mod NeedLemmas

@@ -18,7 +18,7 @@ use Rattle.mc_allows.specs.declared.fact.Fact.TheVariants as Facts
 use Rattle.mc_allows.specs.Values.{padded_number}
 use Rattle.mc_allows.specs.Allows.{HasItem, HasNumber, Allows, AllowsReply, Counts, Joins, may_fail}
 use Rattle.mc_allows.specs.Facts.{is_same_value, is_of, holds}
-use Rattle.mc_allows.specs.Needs.{FitsReply, Fits, may_have_failed}
+use Rattle.mc_allows.specs.Needs.{SuitsReply, Suits, may_have_failed}
 use Rattle.mc_allows.specs.Makers.{is_need, may_have_stored, may_have_deleted, is_presence, is_empty_piece, may_end_with, may_begin_with, is_countable, is_count, may_have_counted, makes, may_make}
 use Rattle.mc_allows.proofs.NumberTextLemmas.{read_below, written, only_number}
 use Rattle.mc_allows.proofs.BesideLemmas.{same_value, equal_number}
@@ -36,7 +36,7 @@ unfolding is_hit
 told_itself (Replies.Hit flags unique value) own is not = let hit = ap is_hit is in absurd (cc)
 told_itself shown own is not = sym is
 
-stored_fits : (shown : Shown) → FitsReply shown Replies.Stored → may_have_stored shown ≡ true
+stored_fits : (shown : Shown) → SuitsReply shown Replies.Stored → may_have_stored shown ≡ true
 unfolding is_hit
 stored_fits Nothing fits = refl
 stored_fits NoFailure fits = refl
@@ -45,7 +45,7 @@ stored_fits SomeHit fits = absurd fits
 stored_fits (HitWith value) fits = absurd fits
 stored_fits Failure fits = absurd (cc)
 
-deleted_fits : (shown : Shown) → FitsReply shown Replies.Deleted → may_have_deleted shown ≡ true
+deleted_fits : (shown : Shown) → SuitsReply shown Replies.Deleted → may_have_deleted shown ≡ true
 unfolding is_hit
 deleted_fits Nothing fits = refl
 deleted_fits NoFailure fits = refl
@@ -60,7 +60,7 @@ countable (Facts.Value value) n is = refl
 countable (Facts.Number number) n is = refl
 countable fact n is = is
 
-counted_fits : (shown : Shown) (fact : Fact) (n : ℕ) → FitsReply shown (Replies.Number n) → is_count fact n ≡ true → may_have_counted shown fact ≡ true
+counted_fits : (shown : Shown) (fact : Fact) (n : ℕ) → SuitsReply shown (Replies.Number n) → is_count fact n ≡ true → may_have_counted shown fact ≡ true
 unfolding is_hit
 counted_fits Nothing fact n fits is = countable fact n is
 counted_fits NoFailure fact n fits is = countable fact n is
@@ -132,16 +132,16 @@ module _ (shown : Shown) (fact : Fact) (need : is_need fact ≡ true) where
   kept : {A : Type 0} (before after : Option Item) → after ≡ before → holds fact before ≡ false → holds fact after ≡ true → A
   kept before after is fails held = both_so (holds fact before) fails (subst (λ f. holds fact f ≡ true) is held)
 
-  stored_by : (reply : CallReply) → reply ≡ Replies.Stored → FitsReply shown reply → may_have_stored shown ≡ true
-  stored_by reply is fits = stored_fits shown (subst (FitsReply shown) is fits)
+  stored_by : (reply : CallReply) → reply ≡ Replies.Stored → SuitsReply shown reply → may_have_stored shown ≡ true
+  stored_by reply is fits = stored_fits shown (subst (SuitsReply shown) is fits)
 
   -- a call that stored an item made what holds of it
-  puts : (flags : ℕ) (value : List ℕ) (reply : CallReply) (after : Option Item) → reply ≡ Replies.Stored → HasItem flags value after → FitsReply shown reply → holds fact after ≡ true
+  puts : (flags : ℕ) (value : List ℕ) (reply : CallReply) (after : Option Item) → reply ≡ Replies.Stored → HasItem flags value after → SuitsReply shown reply → holds fact after ≡ true
       → (may_have_stored shown ≡ true) × (is_of fact flags value ≡ true)
   puts flags value reply after is has fits held = (stored_by reply is fits, of_stored fact flags value after has held)
 
   -- and, where there was an item before, no more than that there is one
-  replaces : (i : Item) (flags : ℕ) (value : List ℕ) (reply : CallReply) (after : Option Item) → reply ≡ Replies.Stored → HasItem flags value after → FitsReply shown reply → holds fact (Some i) ≡ false
+  replaces : (i : Item) (flags : ℕ) (value : List ℕ) (reply : CallReply) (after : Option Item) → reply ≡ Replies.Stored → HasItem flags value after → SuitsReply shown reply → holds fact (Some i) ≡ false
       → holds fact after ≡ true → makes (Calls.Replace [] flags value) shown fact ≡ true
   replaces i flags value reply after is has fits fails held =
       let parts = puts flags value reply after is has fits held in
@@ -151,7 +151,7 @@ module _ (shown : Shown) (fact : Fact) (need : is_need fact ≡ true) where
   not_empty i [] whole same fails is = both_so (holds fact (Some i)) fails (subst (λ v. is_of fact i.flags v ≡ true) (same refl) is)
   not_empty i (byte ∷ bytes) whole same fails is = refl
 
-  appends : (key : List ℕ) (i : Item) (piece : List ℕ) (reply : CallReply) (after : Option Item) → Joins i (i.value ++ piece) reply after → FitsReply shown reply → holds fact (Some i) ≡ false
+  appends : (key : List ℕ) (i : Item) (piece : List ℕ) (reply : CallReply) (after : Option Item) → Joins i (i.value ++ piece) reply after → SuitsReply shown reply → holds fact (Some i) ≡ false
       → holds fact after ≡ true → makes (Calls.Append key piece) shown fact ≡ true
   appends key i piece reply after (inr refused) fits fails held = kept (Some i) after refused.1 fails held
   appends key i piece reply after (inl done) fits fails held =
@@ -160,7 +160,7 @@ module _ (shown : Shown) (fact : Fact) (need : is_need fact ≡ true) where
       (and_from (may_have_stored shown) _ parts.0 (not_empty i piece (i.value ++ piece) (λ empty. ap (λ p. i.value ++ p) empty ∙ append-nil i.value) fails parts.1))
       (ends_made fact i piece need fails parts.1)
 
-  prepends : (key : List ℕ) (i : Item) (piece : List ℕ) (reply : CallReply) (after : Option Item) → Joins i (piece ++ i.value) reply after → FitsReply shown reply → holds fact (Some i) ≡ false
+  prepends : (key : List ℕ) (i : Item) (piece : List ℕ) (reply : CallReply) (after : Option Item) → Joins i (piece ++ i.value) reply after → SuitsReply shown reply → holds fact (Some i) ≡ false
       → holds fact after ≡ true → makes (Calls.Prepend key piece) shown fact ≡ true
   prepends key i piece reply after (inr refused) fits fails held = kept (Some i) after refused.1 fails held
   prepends key i piece reply after (inl done) fits fails held =
@@ -173,22 +173,22 @@ module _ (shown : Shown) (fact : Fact) (need : is_need fact ≡ true) where
   counts_to i n None small has fails held = absurd has
   counts_to i n (Some j) small has fails held = count_made fact i j n need (written n (length i.value) j.value small has.1) fails held
 
-  counts_up : (i : Item) (amount : ℕ) (reply : CallReply) (after : Option Item) → Counts i (λ n. (n + amount) % 2 ^ 64) reply after → FitsReply shown reply → holds fact (Some i) ≡ false
+  counts_up : (i : Item) (amount : ℕ) (reply : CallReply) (after : Option Item) → Counts i (λ n. (n + amount) % 2 ^ 64) reply after → SuitsReply shown reply → holds fact (Some i) ≡ false
       → holds fact after ≡ true → may_have_counted shown fact ≡ true
   counts_up i amount reply after (inr none) fits fails held = kept (Some i) after none.1 fails held
   counts_up i amount reply after (inl counted) fits fails held =
       let n = (counted.0 + amount) % 2 ^ 64 in
-      counted_fits shown fact n (subst (FitsReply shown) counted.2 fits) (counts_to i n after (omega arith) counted.3 fails held)
+      counted_fits shown fact n (subst (SuitsReply shown) counted.2 fits) (counts_to i n after (omega arith) counted.3 fails held)
 
-  counts_down : (i : Item) (amount : ℕ) (reply : CallReply) (after : Option Item) → Counts i (λ n. n - amount) reply after → FitsReply shown reply → holds fact (Some i) ≡ false
+  counts_down : (i : Item) (amount : ℕ) (reply : CallReply) (after : Option Item) → Counts i (λ n. n - amount) reply after → SuitsReply shown reply → holds fact (Some i) ≡ false
       → holds fact after ≡ true → may_have_counted shown fact ≡ true
   counts_down i amount reply after (inr none) fits fails held = kept (Some i) after none.1 fails held
   counts_down i amount reply after (inl counted) fits fails held =
       let n = counted.0 - amount in
       let small = read_below i.value counted.0 counted.1 in
-      counted_fits shown fact n (subst (FitsReply shown) counted.2 fits) (counts_to i n after (omega (arith, small)) counted.3 fails held)
+      counted_fits shown fact n (subst (SuitsReply shown) counted.2 fits) (counts_to i n after (omega (arith, small)) counted.3 fails held)
 
-  makes_it : (before : Option Item) (call : Call) (reply : CallReply) (after : Option Item) → AllowsReply before call reply after → FitsReply shown reply → holds fact before ≡ false
+  makes_it : (before : Option Item) (call : Call) (reply : CallReply) (after : Option Item) → AllowsReply before call reply after → SuitsReply shown reply → holds fact before ≡ false
       → holds fact after ≡ true → makes call shown fact ≡ true
   makes_it None (Calls.Get key) reply after done fits fails held = kept None after done.1 fails held
   makes_it (Some i) (Calls.Get key) reply after done fits fails held = kept (Some i) after done.1 fails held
@@ -211,7 +211,7 @@ module _ (shown : Shown) (fact : Fact) (need : is_need fact ≡ true) where
   makes_it (Some i) (Calls.Decr key amount) reply after done fits fails held = counts_down i amount reply after done fits fails held
   makes_it None (Calls.Delete key) reply after done fits fails held = kept None after done.1 fails held
   makes_it (Some i) (Calls.Delete key) reply after done fits fails held =
-      and_from (may_have_deleted shown) _ (deleted_fits shown (subst (FitsReply shown) done.0 fits)) (subst (λ f. holds fact f ≡ true) done.1 held)
+      and_from (may_have_deleted shown) _ (deleted_fits shown (subst (SuitsReply shown) done.0 fits)) (subst (λ f. holds fact f ≡ true) done.1 held)
   makes_it None Calls.Flush reply after done fits fails held = subst (λ f. holds fact f ≡ true) done.1 held
   makes_it (Some i) Calls.Flush reply after done fits fails held = subst (λ f. holds fact f ≡ true) done.1 held
   makes_it None Calls.Tally reply after done fits fails held = kept None after done.2 fails held
@@ -225,6 +225,6 @@ module _ (shown : Shown) (fact : Fact) (need : is_need fact ≡ true) where
 
 -- what did not hold before a call and holds after it, the call may make
 pub turned_made : (fact : Fact) → is_need fact ≡ true → (before : Option Item) (call : Call) (said : Said) (after : Option Item) (shown : Shown) → Allows before call said after
-    → Fits shown said → holds fact before ≡ false → holds fact after ≡ true → may_make call shown fact ≡ true
+    → Suits shown said → holds fact before ≡ false → holds fact after ≡ true → may_make call shown fact ≡ true
 turned_made fact need before call (Replied reply) after shown done fits fails held = or_left (makes call shown fact) _ (makes_it shown fact need before call reply after done fits fails held)
 turned_made fact need before call Failed after shown done fits fails held = failed_to shown fact need before call after done fits fails held

@@ -17,7 +17,7 @@ use Rattle.mc_allows.specs.declared.fact.Fact.TheVariants.{Unknown, Never, Prese
 use Rattle.mc_allows.specs.Values.{may_read}
 use Rattle.mc_allows.specs.Allows.{Allows, AllowsReply, Counts, Joins}
 use Rattle.mc_allows.specs.Facts.{is_same_value, holds}
-use Rattle.mc_allows.specs.Needs.{FitsReply, Fits, taken_from, need_of_reply, need_of}
+use Rattle.mc_allows.specs.Needs.{SuitsReply, Suits, taken_from, need_of_reply, need_of}
 use Rattle.mc_allows.proofs.NumberTextLemmas.{read_below, uncounted}
 use Rattle.mc_allows.proofs.BesideLemmas.{equal_value}
 
@@ -106,11 +106,11 @@ pub record IsHit (reply : CallReply) : Type 0 where
   pub value : List ℕ
   pub is : reply ≡ Replies.Hit flags unique value
 
-pub some_hit : (reply : CallReply) → FitsReply SomeHit reply → IsHit reply
+pub some_hit : (reply : CallReply) → SuitsReply SomeHit reply → IsHit reply
 some_hit (Replies.Hit flags unique value) fits = record { flags = flags; unique = unique; value = value; is = refl }
 some_hit reply fits = absurd fits
 
-pub hit_with : (value : List ℕ) (reply : CallReply) → FitsReply (HitWith value) reply → (hit : IsHit reply) × (hit.value ≡ value)
+pub hit_with : (value : List ℕ) (reply : CallReply) → SuitsReply (HitWith value) reply → (hit : IsHit reply) × (hit.value ≡ value)
 hit_with value (Replies.Hit flags unique own) fits = (record { flags = flags; unique = unique; value = own; is = refl }, fits)
 hit_with value reply fits = absurd fits
 
@@ -126,7 +126,7 @@ item_value flags value own is (Some i) held =
     subst (λ v. is_same_value v i.value ≡ true) is (and_parts (nat_eq flags i.flags) (is_same_value own i.value) held).1
 
 -- what all that may have been said to a call needs holds before it
-pub shown_needs : (before : Option Item) (call : Call) (said : Said) (after : Option Item) (shown : Shown) → Allows before call said after → Fits shown said → holds (need_of call shown) before ≡ true
+pub shown_needs : (before : Option Item) (call : Call) (said : Said) (after : Option Item) (shown : Shown) → Allows before call said after → Suits shown said → holds (need_of call shown) before ≡ true
 shown_needs before call said after Nothing allowed fits = nothing_known before
 shown_needs before call said after NoFailure allowed fits = nothing_known before
 shown_needs before call (Replied own) after (Reply reply) allowed fits =

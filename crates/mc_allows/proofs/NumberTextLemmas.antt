@@ -12,7 +12,7 @@ use Rattle.mc_allows.specs.Facts.{is_this_number}
 -- ---- digits
 
 -- a byte that is no space stays
-kept_byte : (byte : ℕ) (bytes : List ℕ) → (byte == 32) ≡ false → byte_before byte bytes ≡ byte ∷ bytes
+pub kept_byte : (byte : ℕ) (bytes : List ℕ) → (byte == 32) ≡ false → byte_before byte bytes ≡ byte ∷ bytes
 kept_byte byte [] is = ap (λ b. cond b [] (byte ∷ [])) is
 kept_byte byte (next ∷ rest) is = refl
 
@@ -65,7 +65,7 @@ spaces_go : (count : ℕ) → unpadded (replicate count 32) ≡ []
 spaces_go zero = refl
 spaces_go (suc count) = ap (byte_before 32) (spaces_go count)
 
-padding_goes : (text spaces : List ℕ) → unpadded spaces ≡ [] → unpadded (text ++ spaces) ≡ unpadded text
+pub padding_goes : (text spaces : List ℕ) → unpadded spaces ≡ [] → unpadded (text ++ spaces) ≡ unpadded text
 padding_goes [] spaces is = is
 padding_goes (byte ∷ text) spaces is = ap (byte_before byte) (padding_goes text spaces is)
 

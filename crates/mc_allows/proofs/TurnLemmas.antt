@@ -10,7 +10,7 @@ use Rattle.mc_allows.specs.declared.fact.Fact.{Fact}
 use Rattle.mc_allows.specs.Allows.{Allows}
 use Rattle.mc_allows.specs.Steps.{KeyStep, made, lost, MayLose}
 use Rattle.mc_allows.specs.Facts.{holds_without, holds, may_hold_beside}
-use Rattle.mc_allows.specs.Needs.{Fits, left_by}
+use Rattle.mc_allows.specs.Needs.{Suits, left_by}
 use Rattle.mc_allows.specs.Turns.{HoldsAfterEach, IsSafe, LastTurn, HasLastTurn, MakersAreNew}
 use Rattle.mc_allows.proofs.BesideLemmas.{beside}
 use Rattle.mc_allows.proofs.LeftLemmas.{shown_leaves}
@@ -87,7 +87,7 @@ has_last_turn forget first before fact safe (made name call said after ∷ steps
     go (inr turn) = inr (later before fact name call said after steps turn)
 
 -- what holds after a call is not excluded by what the call surely leaves
-pub not_excluded : (before : Option Item) (call : Call) (said : Said) (after : Option Item) (shown : Shown) (fact : Fact) → Allows before call said after → Fits shown said → holds fact after ≡ true → may_hold_beside (left_by call shown) fact ≡ true
+pub not_excluded : (before : Option Item) (call : Call) (said : Said) (after : Option Item) (shown : Shown) (fact : Fact) → Allows before call said after → Suits shown said → holds fact after ≡ true → may_hold_beside (left_by call shown) fact ≡ true
 not_excluded before call said after shown fact allowed fits held = beside (left_by call shown) fact after (shown_leaves before call said after shown allowed fits) held
 
 pub makers_are_new : MakersAreNew

@@ -83,14 +83,16 @@ may_have_counted NoFailure fact = is_countable fact
 may_have_counted (Reply (Replies.Number number)) fact = is_count fact number
 may_have_counted shown fact = false
 
+-- a call that stores in place of an item may make a need, by what is shown; it does not make that there is an item
+abbrev pub may_replace : Shown → Fact → ℕ → List ℕ → Bool
+may_replace shown fact flags value = may_have_stored shown && is_of fact flags value && not (is_presence fact)
+
 -- a call that did not fail may make a need, by what is shown
 abbrev pub makes : Call → Shown → Fact → Bool
 makes (Calls.Set key flags value) shown fact = may_have_stored shown && is_of fact flags value
 makes (Calls.Add key flags value) shown fact = may_have_stored shown && is_of fact flags value
-makes (Calls.Replace key flags value) shown fact =
-    may_have_stored shown && is_of fact flags value && not (is_presence fact)
-makes (Calls.Cas flags key unique value) shown fact =
-    may_have_stored shown && is_of fact flags value && not (is_presence fact)
+makes (Calls.Replace key flags value) shown fact = may_replace shown fact flags value
+makes (Calls.Cas flags key unique value) shown fact = may_replace shown fact flags value
 makes (Calls.Append key piece) shown fact =
     may_have_stored shown && not (is_empty_piece piece) && may_end_with fact piece
 makes (Calls.Prepend key piece) shown fact =

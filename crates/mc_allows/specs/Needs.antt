@@ -23,20 +23,20 @@ may_have_failed Failure = true
 may_have_failed shown = false
 
 -- the call may have got this reply, by what is shown
-abbrev pub FitsReply : Shown → CallReply → Type 0
-FitsReply Nothing reply = Unit {0}
-FitsReply NoFailure reply = Unit {0}
-FitsReply (Reply shown) reply = told reply ≡ told shown
-FitsReply SomeHit (Replies.Hit flags unique value) = Unit {0}
-FitsReply SomeHit reply = ⊥
-FitsReply (HitWith shown) (Replies.Hit flags unique value) = value ≡ shown
-FitsReply (HitWith shown) reply = ⊥
-FitsReply Failure reply = reply ≡ Replies.TooLarge
+abbrev pub SuitsReply : Shown → CallReply → Type 0
+SuitsReply Nothing reply = Unit {0}
+SuitsReply NoFailure reply = Unit {0}
+SuitsReply (Reply shown) reply = told reply ≡ told shown
+SuitsReply SomeHit (Replies.Hit flags unique value) = Unit {0}
+SuitsReply SomeHit reply = ⊥
+SuitsReply (HitWith shown) (Replies.Hit flags unique value) = value ≡ shown
+SuitsReply (HitWith shown) reply = ⊥
+SuitsReply Failure reply = reply ≡ Replies.TooLarge
 
 -- this may have been said to the call, by what is shown
-abbrev pub Fits : Shown → Said → Type 0
-Fits shown (Replied reply) = FitsReply shown reply
-Fits shown Failed = may_have_failed shown ≡ true
+abbrev pub Suits : Shown → Said → Type 0
+Suits shown (Replied reply) = SuitsReply shown reply
+Suits shown Failed = may_have_failed shown ≡ true
 
 -- ---- needs
 

@@ -11,7 +11,7 @@ use Rattle.mc_allows.specs.declared.fact.Fact.TheVariants as Facts
 use Rattle.mc_allows.specs.Allows.{Allows}
 use Rattle.mc_allows.specs.Steps.{KeyStep, made, lost, AreAllowed, item_after}
 use Rattle.mc_allows.specs.Facts.{holds, holds_without, may_hold_beside}
-use Rattle.mc_allows.specs.Needs.{Fits, left_by}
+use Rattle.mc_allows.specs.Needs.{Suits, left_by}
 
 -- a fact holds after each of these steps
 abbrev pub HoldsAfterEach : Fact → List KeyStep → Type 0
@@ -69,5 +69,5 @@ PrependsToRest = (fact : Fact) (value : List ℕ) → SaysValue fact value → (
 abbrev pub MakersAreNew : Type 0
 MakersAreNew = (forget : Bool) (first before : Option Item) (fact : Fact) → IsSafe forget first fact → (name : CallName) (call : Call)
     (said : Said) (after : Option Item) (middle : List KeyStep) → AreAllowed forget first before (made name call said after ∷ middle)
-    → (shown : Shown) → Fits shown said → may_hold_beside (left_by call shown) fact ≡ false
+    → (shown : Shown) → Suits shown said → may_hold_beside (left_by call shown) fact ≡ false
     → holds fact (item_after after middle) ≡ true → LastTurn after fact middle

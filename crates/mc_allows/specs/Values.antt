@@ -6,18 +6,14 @@ use Rattle.zy_base.specs.Number.{number_of}
 
 -- ---- bytes
 
--- a byte is white space of C: a space, or one of the bytes 9 to 13
-abbrev pub is_white_byte : ℕ → Bool
-is_white_byte byte = byte == 32 || (nat_le 9 byte && nat_le byte 13)
-
--- a byte is a digit
-abbrev pub is_digit_byte : ℕ → Bool
-is_digit_byte byte = nat_le 48 byte && nat_le byte 57
+-- a byte is a digit, or white space of C: a space, or one of the bytes 9 to 13
+abbrev pub is_digit_or_white : ℕ → Bool
+is_digit_or_white byte = (nat_le 48 byte && nat_le byte 57) || byte == 32 || (nat_le 9 byte && nat_le byte 13)
 
 -- some byte is a digit or white space
 abbrev pub has_digit_or_white : List ℕ → Bool
 has_digit_or_white [] = false
-has_digit_or_white (byte ∷ bytes) = is_digit_byte byte || is_white_byte byte || has_digit_or_white bytes
+has_digit_or_white (byte ∷ bytes) = is_digit_or_white byte || has_digit_or_white bytes
 
 -- a byte and those after it, without a space that is the last
 abbrev pub byte_before : ℕ → List ℕ → List ℕ

@@ -14,7 +14,7 @@ ghost use Rattle.mc_allows.specs.Allows.{Allows};
 ghost use Rattle.mc_allows.specs.Steps.{is_about, entries_about, AreLeading};
 ghost use Rattle.mc_allows.specs.declared.fact.Fact.{Fact};
 ghost use Rattle.mc_allows.specs.Facts.{holds, may_hold_beside};
-ghost use Rattle.mc_allows.specs.Needs.{Fits, need_of, left_by};
+ghost use Rattle.mc_allows.specs.Needs.{Suits, need_of, left_by};
 ghost use Rattle.mc_allows.specs.Makers.{is_need, may_make};
 ghost use Rattle.mc_allows.specs.Turns.{HasLastTurn, AppendsToRest, PrependsToRest, MakersAreNew};
 ghost use Rattle.mc_allows.specs.declared.said.Said.{Said};
@@ -32,8 +32,8 @@ pub fn a_step_is_allowed()
 /// In a legal list the entries at a shard whose calls are on a key, or are flushes, are a chain of
 /// allowed steps with new uniques, from no item to what the key has after the list.
 pub fn a_legal_list_leads()
-    ensures leads { (name : Tag → CallName) (shards : ℕ) (es : List Entry) → IsLegal shards es
-        → (shard : ℕ) (key : List ℕ) → AreLeading name (entries_about key (at_shard shard es))
+    ensures leads { (name : Tag → CallName) (shards : ℕ) (es : List Entry)
+        → IsLegal shards es → (shard : ℕ) (key : List ℕ) → AreLeading name (entries_about key (at_shard shard es))
         (get (replayed shards shard empty_state (at_shard shard es)).items key) }
 {}
 
@@ -47,10 +47,10 @@ pub fn facts_of_an_item_agree()
 /// after it.
 pub fn an_answer_tells()
     ensures needs { (before : Option Item) (call : Call) (said : Said) (after : Option Item)
-        (shown : Shown) → Allows before call said after → Fits shown said
+        (shown : Shown) → Allows before call said after → Suits shown said
         → holds (need_of call shown) before ≡ true }
     ensures leaves { (before : Option Item) (call : Call) (said : Said) (after : Option Item)
-        (shown : Shown) → Allows before call said after → Fits shown said
+        (shown : Shown) → Allows before call said after → Suits shown said
         → holds (left_by call shown) after ≡ true }
 {}
 
@@ -59,7 +59,7 @@ pub fn an_answer_tells()
 pub fn what_turned_was_made()
     ensures made { (fact : Fact) → is_need fact ≡ true → (before : Option Item) (call : Call)
         (said : Said) (after : Option Item) (shown : Shown) → Allows before call said after
-        → Fits shown said → holds fact before ≡ false → holds fact after ≡ true
+        → Suits shown said → holds fact before ≡ false → holds fact after ≡ true
         → may_make call shown fact ≡ true }
 {}
 
