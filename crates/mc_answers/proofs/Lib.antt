@@ -1,0 +1,9 @@
+pub mod CutLemmas
+pub mod NumberLemmas
+pub mod ItemLemmas
+pub mod MarkLemmas
+pub mod ReplyLemmas
+pub mod MetaLemmas
+pub mod AnswerLemmas
+pub mod ErrorLemmas
+pub mod OutputLemmas
