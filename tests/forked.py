@@ -83,7 +83,7 @@ def carry_out(tool: str, words: tuple[str, ...], files: tuple[IO[bytes], ...], e
         for number, file in enumerate(files):
             os.dup2(file.fileno(), number)
         os.environ.update(environment)
-        sys.argv, screen.NAME = [path, *words], f"tools/{os.path.basename(tool)}"
+        sys.argv, screen.NAME = [path, *words], screen.name_of(path)
         sys.stdin, sys.stderr = open(0, encoding="utf-8", closefd=False), open(2, "w", 1, encoding="utf-8", closefd=False)
         sys.stdout = io.TextIOWrapper(open(1, "wb", closefd=False), encoding=environment.get("ENCODING", "utf-8"))
         sys.path.insert(0, os.path.dirname(os.path.realpath(path)))

@@ -1,4 +1,4 @@
-"""Tests ./zygos, tools/build, tools/cost and tools/chain in a small repository whose rt is a stand-in, and that words
+"""Tests ./zygos, tools/build, tools/repo/cost and tools/repo/chain in a small repository whose rt is a stand-in, and that words
 which ./zygos and the scripts of bench do not know start no proof."""
 import os
 import shutil
@@ -127,30 +127,30 @@ def in_repository(part):
 
 @in_repository
 def costs(one):
-    """tools/cost ranks functions, and tools/chain finds the longest way through crates.txt."""
+    """tools/repo/cost ranks functions, and tools/repo/chain finds the longest way through crates.txt."""
     one.write("crates/low/out/incremental/kept/Rattle-low-proofs.part.small.Lts.oantt", "std_alloc::vec::Vec::drop " * 8)
     one.write("crates/low/out/incremental/kept/Rattle-low-proofs.part.large.Lts.oantt", "\0" * 20000)
     one.write("out/cost", "low 2026-01-02 10 4 6.5\n")
     one.says("functions are ranked by what was made of them", " 0.02 0 low part.large| 0.00 2 low part.small|",
-             "tools/cost --in \"$made\" | sed -n 2,3p | tr -s ' ' | tr '\\n' '|'")
+             "tools/repo/cost --in \"$made\" | sed -n 2,3p | tr -s ' ' | tr '\\n' '|'")
     one.says("the gate proves a library with tests twice", " 0.0 10 4 6 30 low 2026-01-02| 0.0 10 4 6 30 all|",
-             "tools/cost --in \"$made\" | tail -n 2 | tr -s ' ' | tr '\\n' '|'")
-    one.says("a reader may go away", "", "{ tools/cost --in \"$made\" | true; } 2>&1")
+             "tools/repo/cost --in \"$made\" | tail -n 2 | tr -s ' ' | tr '\\n' '|'")
+    one.says("a reader may go away", "", "{ tools/repo/cost --in \"$made\" | true; } 2>&1")
     for name in ("high", "other", "zygos"):
         os.makedirs(one.path(f"crates/{name}/out/incremental"))
     one.write("crates/zygos/out/built.times", "low 10\nhigh 20\nother 8\nzygos 2\n")
     one.write("crates.txt", "low: std\nhigh: low\n#other: low\nzygos: high low\n")
     one.says("the chain is the longest way through crates.txt",
              " 10 31.2% low over a 12th| 20 62.5% high over a 12th| 2 6.2% zygos| 32 100.0% the chain, of 32 seconds||",
-             "tools/chain --in \"$made\" | sed -n 2,6p | tr -s ' ' | tr '\\n' '|'")
+             "tools/repo/chain --in \"$made\" | sed -n 2,6p | tr -s ' ' | tr '\\n' '|'")
     one.write("crates.txt", "low: std\nhigh: low\nother: low\nzygos: high low other\n")
     one.says("a crate beside the chain has time to spare", " 8 noted 0.0 18 12 other; low|",
-             "tools/chain --in \"$made\" | grep 'other; low' | tr -s ' ' | tr '\\n' '|'")
+             "tools/repo/chain --in \"$made\" | grep 'other; low' | tr -s ' ' | tr '\\n' '|'")
     one.says("what is not noted is 2 seconds a megabyte", " 0 size 0.0 0 0 low; -|",
-             "tools/chain --by size --in \"$made\" | grep ' low; -' | tr -s ' ' | tr '\\n' '|'")
+             "tools/repo/chain --by size --in \"$made\" | grep ' low; -' | tr -s ' ' | tr '\\n' '|'")
     one.says("names that no file has are found",
              "needless words of crates.txt: low: std, high: low, other: low, zygos: high, zygos: low, zygos: other",
-             "tools/chain --in \"$made\" | tail -n 1")
+             "tools/repo/chain --in \"$made\" | tail -n 1")
 
 
 @in_repository
@@ -159,7 +159,7 @@ def watched(one):
     noted = one.path("crates/zygos/out/built.times")
     busy = subprocess.Popen(["bash", "-c", "exec -a rattle bash -c 'while :; do :; done' it --crate-name low"],
                             cwd=one.path("crates/low"))
-    watching = subprocess.Popen([os.path.join(TOP, "tools/chain"), "--in", one.folder, "--watch"])
+    watching = subprocess.Popen([os.path.join(TOP, "tools/repo/chain"), "--in", one.folder, "--watch"])
     try:
         def is_noted():
             if not os.path.exists(noted):
@@ -186,7 +186,7 @@ def measured(one):
     one.write("out/cost", "low 2026-01-02 10 4 6.5\n")
     one.says("a crate is measured above its libraries, in three parts",
              "high|lib low|check high|check --jobs 1 high|check --test --jobs 1 high|must-fail --anew high top|",
-             "{ tools/cost --in \"$made\" --measure high | cut -d : -f 1 && cat \"$made/order\"; } |"
+             "{ tools/repo/cost --in \"$made\" --measure high | cut -d : -f 1 && cat \"$made/order\"; } |"
              " sed \"s/ ${made##*/}\\$/ top/\" | tr '\\n' '|'")
     one.says("what was measured is kept, and so is the work of checks", "low high|Rattle-low-proofs.part.large.Lts.oantt",
              "echo \"$(cut -d ' ' -f 1 \"$made/out/cost\" | paste -s -d ' ')|$(cd \"$made/crates/low/out/incremental/kept\" &&"

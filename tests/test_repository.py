@@ -56,11 +56,11 @@ def listed_crates():
 
 def upkeep():
     """What tools of the repository find."""
-    says_nothing("no new name is defined in two crates", "names", "--check")
-    says_nothing("no lemma is without a use", "dead", "--check")
-    says_nothing("no law is in the way of the program", "dead", "--laws")
-    says_nothing("no public call is without a caller and a row", "dead", "--calls")
-    says_nothing("the crates have what docs/PROOF.md names", "indexes")
+    says_nothing("no new name is defined in two crates", "repo/names", "--check")
+    says_nothing("no lemma is without a use", "repo/dead", "--check")
+    says_nothing("no law is in the way of the program", "repo/dead", "--laws")
+    says_nothing("no public call is without a caller and a row", "repo/dead", "--calls")
+    says_nothing("the crates have what docs/PROOF.md names", "repo/indexes")
     ran = subprocess.run([os.path.join(TOP, "tests/answers"), "--check"], capture_output=True, check=False, timeout=LONGEST)
     same("examples/answers.jsonl is what the tests say", (0, b"", b""), (ran.returncode, ran.stdout, ran.stderr))
 

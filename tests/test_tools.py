@@ -12,8 +12,8 @@ from zygos_tools.files.formats import (Call, Entry, Hold, Reply, big, capture, c
                                        read_capture, replies, segment)
 from zygos_tools.files.part import Part
 
-TOOLS = ("capture", "chain", "compare", "cost", "dead", "indexes", "inline", "judge", "lie", "load", "names", "packets",
-         "part", "picture", "play", "record", "show", "top", "warm")
+TOOLS = ("capture", "check", "compare", "inline", "judge", "lie", "load", "packets", "part", "picture", "play", "record", "show",
+         "top", "warm", "repo/chain", "repo/cost", "repo/dead", "repo/indexes", "repo/names", "repo/rows")
 # how those that read an input are called
 READERS = ("capture FILE", "compare FILE -", "inline FILE", "inline FILE -", "judge --out /dev/null FILE -", "part capture FILE",
            "picture FILE", "show FILE", "top FILE", "warm FILE -")
@@ -33,7 +33,7 @@ def helps():
             fail(f"help of {tool}", f"{ran.returncode} {len(lines)} lines {ran.stderr!r}")
         uses = [line for line in lines if f"tools/{tool}" in line and not line.startswith(("usage:", "       tools/"))]
         same(f"an example in the help of {tool}", True, bool(uses))
-        same(f"{tool} in tools/README.md", 1, sum(line.startswith((f"| `{tool}` |", f"| `repo/{tool}` |")) for line in table))
+        same(f"{tool} in tools/README.md", 1, sum(line.startswith(f"| `{tool}` |") for line in table))
 
 
 def wrong_words():
@@ -57,9 +57,9 @@ def wrong_words():
         ("--times takes ends, segments or none, not all", "judge", "--times", "all", "a", "b"),
         ("--except takes the names of commands, joined by commas, not a b", "compare", "--except", "a b", "a", "b"),
         ("--except get needs --capture, which says what was sent", "compare", "--except", "get", "a", "b"),
-        ("--most takes a number of 1 or more, not x", "cost", "--most", "x"),
-        ("none is no crate of crates.txt", "cost", "--crate", "none"),
-        ("--jobs takes a number from 1 to 256, not 0", "chain", "--jobs", "0"),
+        ("--most takes a number of 1 or more, not x", "repo/cost", "--most", "x"),
+        ("none is no crate of crates.txt", "repo/cost", "--crate", "none"),
+        ("--jobs takes a number from 1 to 256, not 0", "repo/chain", "--jobs", "0"),
         ("which part is cut out: capture, journal or replies; --help says more", "part"),
         ("which part is cut out: capture, journal or replies; --help says more", "part", "reply"),
         ("two files are written; --help says more", "record"),

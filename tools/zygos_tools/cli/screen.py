@@ -10,8 +10,16 @@ from collections.abc import Callable
 MUCH = 1 << 28
 # after how many seconds it is said that a search goes on, where there is no terminal
 SECONDS = 10
-# the tool, as its lines begin
-NAME = "tools/" + os.path.basename(sys.argv[0])
+
+
+def name_of(path: str) -> str:
+    """The name of a tool, as its lines begin."""
+    folder, name = os.path.split(os.path.realpath(path))
+    return f"tools/repo/{name}" if os.path.basename(folder) == "repo" else f"tools/{name}"
+
+
+# that of this one
+NAME = name_of(sys.argv[0])
 
 
 def hold_first() -> None:
