@@ -104,11 +104,9 @@ class Dist(unittest.TestCase):
         self.room = tempfile.mkdtemp()
         self.addCleanup(shutil.rmtree, self.room)
         self.made = f"{self.room}/repository"
-        for name in ("zygos", "HANDLES", ".gitignore", "VERSION", "tools/build", "tools/release", "dist/rt.c"):
-            if os.path.exists(f"{TOP}/{name}"):
-                self.write(name, self.read(f"{TOP}/{name}"), 0o755)
-        for name in ("repo", "zygos_tools"):
-            shutil.copytree(f"{TOP}/tools/{name}", f"{self.made}/tools/{name}")
+        shutil.copytree(f"{TOP}/tools", f"{self.made}/tools")
+        for name in ("zygos", "HANDLES", ".gitignore", "VERSION", "Makefile", "dist/rt.c"):
+            self.write(name, self.read(f"{TOP}/{name}"), 0o755)
         self.write("crates.txt", "# base\nlow: std\n# program\nzygos: low\n# laws\nlow_laws: low\n")
         self.write("crates/zygos/src/main.rt", PROGRAM)
         self.write("crates/low/src/lib.rt", "// low\n")
@@ -293,6 +291,75 @@ class Renewed(Dist):
         self.assertEqual((1, "tools/release: zygos is not built"), (status, said.splitlines()[0]))
         self.assertEqual(before, self.read(f"{self.made}/dist/zygos.s"))
         self.assertEqual([], [name for name in os.listdir(self.room) if name.startswith("release.")])
+
+
+class Versions(Dist):
+    """--version, in the repository."""
+
+    def test_it_says_where_the_program_was_proved(self):
+        version = self.read(f"{TOP}/VERSION").strip()
+        source = self.read(f"{self.made}/dist/zygos.built")[8:24]
+        for command, place in (("", "elsewhere"), ("check", "elsewhere"), ("build", "here")):
+            if command:
+                self.run_it("zygos", command)
+            line = f"zygos: source {source}, kit-1, proved {place}\n"
+            self.assertEqual((0, f"zygos {version}\n{line}"), self.run_it("zygos", "--version"))
+            self.assertEqual((0, f"tools/show of zygos {version}\n{line}"), self.run_it("tools/show", "--version"))
+        self.write("crates/low/src/lib.rt", "// another\n")
+        self.assertEqual((0, f"zygos {version}\nzygos: not built from this source\n"), self.run_it("zygos", "--version"))
+        for tool in ("build", "release"):
+            self.assertEqual((0, f"tools/{tool} of zygos {version}\n"), self.run_it(f"tools/{tool}", "--version"))
+
+
+@unittest.skipUnless(shutil.which("make"), "make is not installed")
+class Installed(Dist):
+    """make, and the archive of tools/release."""
+
+    def command(self, at, *words):
+        ran = subprocess.run([f"{at}/bin/{words[0]}", *words[1:]], stdin=subprocess.DEVNULL, stdout=subprocess.PIPE, check=False,
+                             stderr=subprocess.STDOUT, text=True)
+        return ran.returncode, ran.stdout
+
+    def check_copy(self, at):
+        """An installed copy has the program, the tools and their pages, and names them as they are called there."""
+        version, sums = self.read(f"{TOP}/VERSION").strip(), self.read(f"{self.made}/dist/zygos.built")
+        line = f"zygos: source {sums[8:24]}, kit-1, proved elsewhere\n"
+        self.assertEqual((0, f"zygos {version}\n{line}"), self.command(at, "zygos", "--version"))
+        self.assertEqual((0, f"zygos-top of zygos {version}\n{line}"), self.command(at, "zygos-top", "--version"))
+        self.assertEqual((1, ""), self.command(at, "zygos", "check"))
+        self.assertEqual("zygos-top: no such option: --x; --help lists them\n", self.command(at, "zygos-top", "--x")[1])
+        self.assertEqual("zygos: top: no such command, but a tool: zygos-top --help", self.command(at, "zygos", "top")[1].split("\n")[0])
+        self.assertEqual("zygos: build: this copy is installed, and has no source to prove or to try",
+                         self.command(at, "zygos", "build")[1].split("\n")[0])
+        self.assertNotRegex(self.command(at, "zygos-judge", "--help")[1], r"(?<!/)tools/[a-z]+\b(?!/)|\./zygos")
+        self.assertIn("usage: zygos run", self.command(at, "zygos", "help")[1])
+        self.assertRegex(self.read(f"{at}/share/man/man1/zygos-judge.1"), r'(?m)^\.TH ZYGOS-JUDGE 1 "" "zygos .*"\n\.SH NAME\n')
+
+    def test_make_installs_below_its_prefix(self):
+        ran = subprocess.run(["make", "-s", "install", f"DESTDIR={self.room}", "PREFIX=/usr", "PAGES=Makefile"], cwd=self.made, check=False,
+                             stdout=subprocess.PIPE, stderr=subprocess.STDOUT, text=True)
+        self.assertEqual((0, ""), (ran.returncode, ran.stdout))
+        self.check_copy(f"{self.room}/usr")
+        self.write("crates/low/src/lib.rt", "// another\n")
+        os.utime(f"{self.made}/dist/zygos.s")
+        ran = subprocess.run(["make"], cwd=self.made, check=False, stdout=subprocess.PIPE, stderr=subprocess.STDOUT, text=True)
+        self.assertEqual("zygos: dist/ is not of this source: crates/low/src/lib.rt has changed since", ran.stdout.splitlines()[0])
+
+    def test_the_archive_runs_where_it_is_unpacked(self):
+        for name in ("README.md", "LICENSE", "NOTICE", "docs/PAGE.md", "examples/one"):
+            self.write(name, "text\n")
+        status, said = self.run_it("tools/release", "--tar")
+        self.assertEqual((0, "is made"), (status, said.strip()[-7:]))
+        name = f"zygos-{self.read(f'{TOP}/VERSION').strip()}-x86_64-linux"
+        subprocess.run(["tar", "-C", self.room, "-xf", f"{self.made}/out/{name}.tar.xz"], check=True)
+        self.check_copy(f"{self.room}/{name}")
+        subprocess.run(["sha256sum", "--quiet", "-c", "SHA256SUMS"], cwd=f"{self.room}/{name}", check=True)
+
+    def test_it_installs_the_tools_that_are_for_people(self):
+        table = self.read(f"{TOP}/tools/README.md").partition("## For the repository")[0]
+        listed = sorted(re.findall(r"(?m)^\| `([a-z]+)` \|", table))
+        installed = re.search(r"(?m)^TOOLS := (.*)$", self.read(f"{TOP}/Makefile"))[1].split()
+        self.assertEqual(listed, sorted(installed))
 
 
 if __name__ == "__main__":

@@ -75,7 +75,8 @@ def advise(command, words, output, said, given=0):
         number = int(port[1]) if port else 11211
         found = f"no packet goes to port {number}{ports_in(given, number)}; --port names another"
     if found:
-        print(f"zygos: {found.format(kind_in(given))}", file=sys.stderr)
+        from zygos_tools.cli.screen import as_called
+        print(as_called(f"zygos: {found.format(kind_in(given))}"), file=sys.stderr)
 
 
 def pass_on(source):

@@ -52,3 +52,6 @@ copy_crates() {
         (cd "$top/crates/$one" && find . -mindepth 1 -maxdepth 1 ! -name out ! -name must-fail -exec cp -R {} "$1/crates/$one" \;)
     done
 }
+
+# origin_in FILE: the source and the kit of a file of sums
+origin_in() { sed -n 's/^sources \(.\{16\}\).*/source \1/p; s/^rt \([^ ]*\).*/\1/p' "$1" | paste -s -d ' ' | sed 's/ /, /2'; }

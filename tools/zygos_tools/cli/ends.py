@@ -17,7 +17,7 @@ import traceback
 from collections.abc import Callable, Container, Iterable
 from typing import Any, NoReturn
 
-from zygos_tools.cli import advice, screen
+from zygos_tools.cli import advice, screen, version
 from zygos_tools.files.outputs import STANDARD_OUTPUT
 from zygos_tools.files.part import Fault
 
@@ -198,7 +198,9 @@ def carried_out(main: Callable[[list[str]], object], page: str) -> int:
     status = 0
     try:
         if {"-h", "--help"} & set(sys.argv[1:]):
-            print(page.strip())
+            print(screen.as_called(page.strip()))
+        elif "--version" in sys.argv[1:]:
+            print(*version.lines(screen.NAME), sep="\n")
         else:
             main(sys.argv[1:])
     except End as end_of:
@@ -225,7 +227,7 @@ def guarded(main: Callable[[list[str]], object], page: str) -> int:
 
 def run(main: Callable[[list[str]], object], page: str, name: str | None = None) -> NoReturn:
     """Runs a tool with its words, and ends the process; `page` is what it prints for --help, and `name` how its lines begin
-    if it is none of tools/."""
+    if not with the name under which it was called."""
     screen.NAME = name or screen.NAME
     signal.signal(signal.SIGPIPE, signal.SIG_DFL)
     try:

@@ -2,14 +2,18 @@
 from __future__ import annotations
 
 import os
+import re
 import sys
 import time
 from collections.abc import Callable
+
+from zygos_tools.repository import TOP
 
 # bytes that it takes seconds to go over
 MUCH = 1 << 28
 # after how many seconds it is said that a search goes on, where there is no terminal
 SECONDS = 10
+<<<<<<< Updated upstream
 
 
 def name_of(path: str) -> str:
@@ -20,6 +24,26 @@ def name_of(path: str) -> str:
 
 # that of this one
 NAME = name_of(sys.argv[0])
+=======
+# what texts call the commands; an installed copy has no source, and its commands have no folders
+COMMANDS = re.compile(r"(?<![\w/.-])(?:\./zygos\b|tools/([a-z]+)\b(?!/))")
+IS_INSTALLED = not os.path.exists(os.path.join(TOP, "crates.txt"))
+
+
+def name_of(path: str) -> str:
+    """How the lines of a tool begin: with the name under which it was called, after tools/ if it is called there."""
+    folder, name = os.path.split(os.path.abspath(path))
+    return f"tools/{name}" if os.path.basename(folder) in ("tools", "repo") else name
+
+
+# the tool, as its lines begin
+NAME = name_of(sys.argv[0])
+
+
+def as_called(text: str) -> str:
+    """A text with the names that commands have here."""
+    return COMMANDS.sub(lambda found: f"zygos-{found[1]}" if found[1] else "zygos", text) if IS_INSTALLED else text
+>>>>>>> Stashed changes
 
 
 def hold_first() -> None:
@@ -39,7 +63,7 @@ def write(text: str) -> None:
 
 def say(text: str) -> None:
     """Prints a line of the tool."""
-    write(f"{NAME}: {text}\n")
+    write(f"{NAME}: {as_called(text)}\n")
 
 
 class Screen:

@@ -25,7 +25,7 @@ import sys
 from collections.abc import Iterable, Iterator, Mapping, Sequence
 
 from zygos_tools.cli import ends
-from zygos_tools.cli.screen import Screen
+from zygos_tools.cli.screen import Screen, say
 from zygos_tools.comparing.apart import stored_by
 from zygos_tools.comparing.arrivals import Arrival, Arrivals, Texts, ends_of, recorded, streams_of, with_answers
 from zygos_tools.files.formats import END, Close, Output, capture_start, close, pieces, segment
@@ -234,4 +234,4 @@ def main(words: list[str]) -> None:
     unknown = sum(item.value is None for item in found.values())
     sys.stdout.flush()
     also = f", {unknown} of a value that was not shown" if unknown else ""
-    print(f"tools/warm: {len(found)} items{also}", file=sys.stderr)
+    say(f"{len(found)} items{also}")

@@ -25,6 +25,7 @@ import sys
 from collections import Counter, namedtuple
 
 from zygos_tools.cli import ends
+from zygos_tools.cli.screen import say
 from zygos_tools.files import inputs
 from zygos_tools.files.formats import GETS, MOST_CORES, MOST_HOLD, SETS, Entry, journal_records
 from zygos_tools.files.part import Fault
@@ -283,8 +284,7 @@ def run_of(name, cores):
         found = found or Run(journal_records(part), cores)
     if found and found.done and found.seen < found.cores:
         unseen = f"core {found.seen}" if found.seen + 1 == found.cores else f"cores {found.seen} to {found.cores - 1}"
-        print(f"tools/picture: {inputs.name_of(name)}: {unseen} held nothing; were there {found.cores} cores?",
-              file=sys.stderr)
+        say(f"{inputs.name_of(name)}: {unseen} held nothing; were there {found.cores} cores?")
     if found is None:
         raise Fault(f"{inputs.name_of(name)}: no journal in it; `zygos run --out both` writes one")
     return found
