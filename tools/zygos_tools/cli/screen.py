@@ -13,27 +13,16 @@ from zygos_tools.repository import TOP
 MUCH = 1 << 28
 # after how many seconds it is said that a search goes on, where there is no terminal
 SECONDS = 10
-<<<<<<< Updated upstream
-
-
-def name_of(path: str) -> str:
-    """The name of a tool, as its lines begin."""
-    folder, name = os.path.split(os.path.realpath(path))
-    return f"tools/repo/{name}" if os.path.basename(folder) == "repo" else f"tools/{name}"
-
-
-# that of this one
-NAME = name_of(sys.argv[0])
-=======
 # what texts call the commands; an installed copy has no source, and its commands have no folders
 COMMANDS = re.compile(r"(?<![\w/.-])(?:\./zygos\b|tools/([a-z]+)\b(?!/))")
 IS_INSTALLED = not os.path.exists(os.path.join(TOP, "crates.txt"))
 
 
 def name_of(path: str) -> str:
-    """How the lines of a tool begin: with the name under which it was called, after tools/ if it is called there."""
+    """How the lines of a tool begin: with the name under which it was called, after the folder if that is one of tools."""
     folder, name = os.path.split(os.path.abspath(path))
-    return f"tools/{name}" if os.path.basename(folder) in ("tools", "repo") else name
+    kind = os.path.basename(folder)
+    return {"tools": f"tools/{name}", "repo": f"tools/repo/{name}"}.get(kind, name)
 
 
 # the tool, as its lines begin
@@ -43,7 +32,6 @@ NAME = name_of(sys.argv[0])
 def as_called(text: str) -> str:
     """A text with the names that commands have here."""
     return COMMANDS.sub(lambda found: f"zygos-{found[1]}" if found[1] else "zygos", text) if IS_INSTALLED else text
->>>>>>> Stashed changes
 
 
 def hold_first() -> None:
