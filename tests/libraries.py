@@ -11,6 +11,8 @@ import multiprocessing
 import random
 import sys
 
+import checks
+
 EXPTIMES = (0, 0, 0, 0, 1, 2, 60)
 
 
@@ -163,4 +165,7 @@ def main(place, seed, clients, calls, keys, library, mix):
 
 
 if __name__ == "__main__":
+    checks.help_if_asked()
+    if len(sys.argv) != 8:
+        sys.exit("tests/libraries.py: it takes seven words; --help says more")
     main(*sys.argv[1:])

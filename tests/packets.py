@@ -27,6 +27,7 @@ import sys
 import tempfile
 import time
 
+import checks
 from zygos_tools.recording.packets.recorded import PacketFault, made, toeplitz
 
 # ---- drawn files
@@ -457,4 +458,5 @@ def main(words):
 
 
 if __name__ == "__main__":
+    checks.help_if_asked()
     main(sys.argv[1:])

@@ -12,6 +12,7 @@ import random
 import subprocess
 import sys
 
+import checks
 from zygos_tools.files.formats import CALLS, REPLIES, Call, Entry, Hold, Reply, journal, read_end, read_journal
 from zygos_tools.files.part import Fault, Part
 from zygos_tools.protocol.model import tally
@@ -144,4 +145,5 @@ def main(words):
 
 
 if __name__ == "__main__":
+    checks.help_if_asked()
     main(sys.argv[1:])

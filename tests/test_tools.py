@@ -36,6 +36,16 @@ def helps():
         same(f"{tool} in tools/README.md", 1, sum(line.startswith(f"| `{tool}` |") for line in table))
 
 
+def helps_of_scripts():
+    """Each script of tests prints a page of help when it is asked, and does nothing else."""
+    folder = os.path.join(TOP, "tests")
+    scripts = [name for name in os.listdir(folder) if os.access(os.path.join(folder, name), os.X_OK | os.R_OK)
+               and os.path.isfile(os.path.join(folder, name))]
+    for name in scripts:
+        ran = subprocess.run([os.path.join(folder, name), "--help"], capture_output=True, check=False, timeout=LONGEST)
+        same(f"the help of tests/{name}", (0, b"", True), (ran.returncode, ran.stderr, b"\nusage: tests/" in ran.stdout))
+
+
 def wrong_words():
     """What the tools say of words that they do not know; none of it is of Python."""
     for tool in TOOLS:
@@ -274,7 +284,7 @@ def parts():
     same("a part that ends", "answer", program.carry_out("three", lambda: "answer", told.append))
 
 
-Tests = cases(helps, wrong_words, files, closed_pipes, early_signals, empty_inputs, faults,
+Tests = cases(helps, helps_of_scripts, wrong_words, files, closed_pipes, early_signals, empty_inputs, faults,
               many_connections, captures, made_traffic, command, parts)
 
 if __name__ == "__main__":
