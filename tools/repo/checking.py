@@ -35,7 +35,8 @@ from zygos_tools.repository import TOP
 
 OPTIONS = {"--since": ("a commit", lambda word: word or None), "--jobs": ends.number(1, 256), "--hook": None}
 SHARED = "origin/main"
-HOOK = "#!/bin/sh\n# Made by tools/check --hook.\nexec tools/check\n"
+# git tells its hooks where the repository is, which tests with repositories of their own must not hear
+HOOK = "#!/bin/sh\n# Made by tools/check --hook.\nunset $(git rev-parse --local-env-vars)\nexec tools/check\n"
 # the modules of tests that show what a changed file does, by patterns of its path
 TESTS = (
     (r"tools/zygos_tools/judging/", "test_judging test_orders"),
