@@ -1,0 +1,4 @@
+mod ListLemmas
+mod NameLemmas
+mod MomentLemmas
+mod CourseLemmas

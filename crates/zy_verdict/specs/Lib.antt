@@ -1,0 +1,6 @@
+pub mod Recorded
+pub mod Losses
+pub mod Entries
+pub mod Explained
+pub mod Course
+pub mod Numbers
