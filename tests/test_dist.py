@@ -7,6 +7,7 @@ import subprocess
 import tempfile
 import unittest
 
+from traffic import until
 from zygos_tools.repository import TOP
 
 # a program whose status is 0 if it has no words, and else 1; with other instructions it is another program
@@ -70,7 +71,7 @@ for one in "$@"; do
     [ "${before:-}" != -o ] || object=$one
     before=$one
 done
-[ ! -e "$made/slow" ] || sleep 1000
+[ ! -e "$made/slow" ] || { echo $$ >"$made/started"; exec sleep 1000; }
 exec "$clang" -O3 -c src/main.rt -o "$object" -fPIE
 """,
     "bin/rattle-link": """#!/usr/bin/env bash
@@ -142,12 +143,15 @@ class Dist(unittest.TestCase):
 
     def run_it(self, *words, has_rt=True, skipped=0, **environment):
         """Runs a script of the repository. Returns its status and what it said, without the first lines."""
-        folders = [folder for folder in os.environ["PATH"].split(":") if not os.path.exists(f"{folder}/rt")]
-        path = ":".join([f"{self.room}/path"] * has_rt + [*folders, "/usr/bin", "/bin"])
         ran = subprocess.run([f"{self.made}/{words[0]}", *words[1:]], cwd=self.made, stdin=subprocess.DEVNULL, check=False,
                              stdout=subprocess.PIPE, stderr=subprocess.STDOUT, text=True,
-                             env={**os.environ, "PATH": path, "TMPDIR": self.room, "made": self.made, **environment})
+                             env={**self.environment(has_rt), **environment})
         return ran.returncode, "".join(ran.stdout.splitlines(True)[skipped:])
+
+    def environment(self, has_rt=True):
+        folders = [folder for folder in os.environ["PATH"].split(":") if not os.path.exists(f"{folder}/rt")]
+        path = ":".join([f"{self.room}/path"] * has_rt + [*folders, "/usr/bin", "/bin"])
+        return {**os.environ, "PATH": path, "TMPDIR": self.room, "made": self.made}
 
     def mend(self, old, new):
         """Changes the assembly of dist/, and its sum to what it is then."""
@@ -283,6 +287,18 @@ class Renewed(Dist):
     def test_one_of_dist_is_no_reason_to_renew(self):
         self.run_it("zygos", "check", has_rt=False)
         self.assertEqual(1, self.run_it("tools/release", "--sums")[0])
+
+    def test_a_signal_ends_what_it_started(self):
+        self.write("crates/zygos/src/main.rt", PROGRAM.replace("$1, %eax", "$2, %eax"))
+        self.write("slow", "")
+        with subprocess.Popen([f"{self.made}/tools/release"], env=self.environment(), stdout=subprocess.DEVNULL,
+                              stderr=subprocess.DEVNULL) as ran:
+            until("rattle has started", lambda: os.path.exists(f"{self.made}/started") and self.read(f"{self.made}/started"))
+            ran.terminate()
+        self.assertEqual(130, ran.returncode)
+        started = self.read(f"{self.made}/started").strip()
+        until("rattle has ended", lambda: not os.path.exists(f"/proc/{started}"))
+        self.assertEqual([], [name for name in os.listdir(self.room) if name.startswith("release.")])
 
     def test_a_program_that_is_not_built_leaves_dist(self):
         self.write("crates/zygos/src/main.rt", "\tno such instruction\n")
