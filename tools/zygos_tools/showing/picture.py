@@ -21,7 +21,6 @@ both` writes it. The pictures of several are one below the other. Each has four 
 With over 64 connections a row is several connections of one home, and with over 32 shards a bar is several shards; the
 picture says so.
 """
-import sys
 from collections import Counter, namedtuple
 
 from zygos_tools.cli import ends
