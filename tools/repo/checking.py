@@ -47,6 +47,7 @@ TESTS = (
     (r"tools/zygos_tools/showing/", "test_show test_top test_picture"),
     (r"tools/zygos_tools/(cli|files|protocol|trying)/", "test_tools test_show"),
     (r"tools/(build|release)|tools/repo/|zygos$", "test_build test_wrapper"),
+    (r"tools/(build|release)|tools/repo/.*\.sh|zygos$|Makefile$|VERSION$|dist/", "test_dist"),
     (r"bench/figures\.json|bench/\w+\.py", "test_figures"),
 )
 # what the lines of a crate can break in the whole repository
