@@ -40,6 +40,11 @@ exec sleep 600
 NOTING = """#!/usr/bin/env bash
 printf '%s %s\\n' "$*" "${PWD##*/}" >>"$made/order"
 """
+# one that rejects each wrong body, unless there is a file `accepts`
+REJECTING = """#!/usr/bin/env bash
+echo "$*: $(find . -name '*.edit') beside $(paste -s -d ' ' crates.txt)"
+[ ! -e "$made/accepts" ]
+"""
 SUM = """#!/usr/bin/env bash
 [ $# = 0 ] || echo summed >>"$made/order"
 PATH=${PATH#*:} exec sha256sum "$@"
@@ -120,6 +125,43 @@ def in_repository(part):
     carried_out.__name__ = part.__name__
     carried_out.__module__ = part.__module__
     return carried_out
+
+
+# ---- wrong bodies
+
+
+@in_repository
+def wrong_bodies(one):
+    """tests/try-wrong tries the edits of crates that changed, in a copy with the crates below; --verify names such crates."""
+    one.furnish()
+    for name in ("try-wrong", "checks.py", "forked.py", "zygos_tools.py"):
+        os.makedirs(one.path("tests"), exist_ok=True)
+        shutil.copy2(os.path.join(TOP, "tests", name), one.path(f"tests/{name}"))
+    one.write("bin/rt", REJECTING, 0o755)
+    one.write("crates/low/src/lib.rt", "low\n")
+    one.write("crates/high/src/lib.rt", "one + 1\n")
+    one.write("tests/wrong/high/adds_two.edit", "file: src/lib.rt\nold: + 1\nnew: + 2\n")
+    changed = "tests/try-wrong: high changed since its wrong bodies were tried: tests/try-wrong high"
+    tried = "== high: 1|must-fail high: ./crates/high/must-fail/adds_two.edit beside low: std high: low"
+
+    def says(name, wanted, words=""):
+        script = f"PATH=$made/bin:$PATH; \"$made/tests/try-wrong\" {words} 2>&1"
+        same(name, wanted, one.shell(script, "").replace("\n", "|"))
+
+    says("a crate that was never tried", f"{changed}|0 passed, 1 failed, 0 skipped", "--verify")
+    one.write("accepts", "")
+    says("a wrong body that is accepted", f"{tried}|0 passed, 1 failed, 0 skipped")
+    os.remove(one.path("accepts"))
+    says("one that is rejected", f"{tried}|1 passed, 0 failed, 0 skipped")
+    says("it was tried", "1 passed, 0 failed, 0 skipped", "--verify")
+    says("no crate changed", "0 passed, 0 failed, 0 skipped")
+    says("all are tried again", f"{tried}|1 passed, 0 failed, 0 skipped", "--all high")
+    one.write("crates/low/src/lib.rt", "lower\n")
+    says("a crate below does not count", "1 passed, 0 failed, 0 skipped", "--verify")
+    one.write("crates/high/src/lib.rt", "one\n")
+    says("a changed crate, and an edit that does not fit",
+         f"tests/try-wrong: tests/wrong/high/adds_two.edit: src/lib.rt has not once: + 1|{changed}|0 passed, 1 failed, 0 skipped", "--verify")
+    says("a crate without wrong bodies", "tests/try-wrong: low has no wrong body in tests/wrong", "low")
 
 
 # ---- what proofs cost
@@ -355,7 +397,7 @@ def failing(one):
              "zygos_on '' run | tr '|' '\\n' | grep 'NOT PROVED:'")
 
 
-Tests = cases(costs, watched, measured, wrong_words, benches, builds, two_programs)
+Tests = cases(wrong_bodies, costs, watched, measured, wrong_words, benches, builds, two_programs)
 
 if __name__ == "__main__":
     unittest.main()
