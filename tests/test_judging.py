@@ -15,7 +15,8 @@ from thought import USUAL, WIDE, Draw, Memcached, in_sessions
 from zygos_tools.files.formats import (Call, Part, Segment, capture, close, cut_all, journal, pieces, read_capture,
                                        read_journal, replies, replies_file, segment)
 from zygos_tools.judging import mending
-from zygos_tools.judging.judge import Clock, Judge
+from zygos_tools.judging.clock import Clock
+from zygos_tools.judging.judge import Judge
 from zygos_tools.protocol.pace import Pace
 from zygos_tools.repository import TOP
 

@@ -7,14 +7,17 @@ import os
 import pty
 import subprocess
 import tempfile
+from unittest import mock
 
 import moments
 import plain
 from checks import LONGEST, TOP, cases, run, same, written
 from lies import outputs_of, verdict
 from zygos_tools.files.formats import Output, capture, close, pieces, replies, replies_file, segment
+from zygos_tools.judging import clock
+from zygos_tools.judging.clock import Clock
 from zygos_tools.judging.events import Verdict
-from zygos_tools.judging.judge import Clock, Judge
+from zygos_tools.judging.judge import Judge
 
 
 def recorded(steps):
@@ -324,6 +327,28 @@ def at_a_terminal():
     same("the lines", (0, "order found: 1 commands, 1 calls, 1 keys", "not certified: "), (status, shown[0], shown[2][:15]))
 
 
+def hot_keys_hold_nobody_up():
+    """A key that takes long has its share of the time, and all others are judged; the last line counts all kinds."""
+    steps = [(0, *stored(b"a", b"1")), (0, *stored(b"b", b"1")), (0, b"get b\r\n", hit(b"b", b"7")), (0, *stored(b"c", b"1"))]
+    sent, told = recorded(steps)
+    judge = Judge(sent, outputs_of(told), clock=Clock(60), is_first=False)
+    begun = judge.keys.order_of
+
+    def order_of(calls, found=None):
+        while b"a" in calls.names:
+            judge.clock.look()
+        return begun(calls, found)
+
+    judge.keys.order_of = order_of
+    with mock.patch.object(clock, "FIRST", 0.01):
+        judge.clock.seconds = judge.clock.used() + 0.2
+        judge.search()
+    same("what is said of each key", {b"a": "unknown", b"b": "no"}, {fault.keys[0]: fault.word for fault in judge.faults})
+    same("the keys that have an order", [b"c"], sorted(judge.keys.found))
+    status, _ = words("--out", os.devnull, "sent", "told", sent=sent, told=told)
+    same("the status", 1, status)
+
+
 def flags_are_told():
     """A value that was stored with other flags says so."""
     told = judged([(0, *stored(b"a", b"4.17", 5)), (0, b"get a\r\n", hit(b"a", b"4.17"))])[1]
@@ -334,4 +359,4 @@ def flags_are_told():
 Tests = cases(uniques_after_a_restart, uniques_that_do_not_count, a_block_that_is_dropped, batches_that_cannot_be_followed,
               items_in_any_order, lists_of_operators, answers_that_are_left, flushes_with_a_delay, connections_that_are_refused,
               authentications, stores_that_fail, lines_that_may_be_carried_out, commands_of_sessions_that_ended,
-              no_key_is_left, files_that_are_none, at_a_terminal, flags_are_told)
+              no_key_is_left, files_that_are_none, at_a_terminal, flags_are_told, hot_keys_hold_nobody_up)

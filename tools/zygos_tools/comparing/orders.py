@@ -15,7 +15,6 @@ from collections import Counter, deque
 from collections.abc import Iterable, Iterator, Sequence
 from heapq import heappop, heappush
 from itertools import chain, count
-from time import monotonic
 from typing import NamedTuple
 
 from zygos_tools.comparing.arrivals import Arrival, Arrivals, Given, Texts, ends_of
@@ -25,8 +24,9 @@ from zygos_tools.comparing.steps import alike
 from zygos_tools.files.formats import Output
 from zygos_tools.files.inputs import name_of
 from zygos_tools.files.part import Fault
+from zygos_tools.judging.clock import Clock
 from zygos_tools.judging.events import Limited, Verdict
-from zygos_tools.judging.judge import Clock, Judge
+from zygos_tools.judging.judge import Judge
 from zygos_tools.protocol.meaning import line_of
 from zygos_tools.protocol.order_files import Search, connections_of, digest, read_order
 from zygos_tools.protocol.table import is_touching, keys_of
@@ -356,7 +356,7 @@ def judged(arrivals: Arrivals, given: Sequence[Given], texts: Texts, search: Sea
         search.note(f"no order was found: {verdict.why.partition('; ')[0]}")
         return None
     except Verdict:
-        if search.seconds is not None and monotonic() - clock.begun > search.seconds:
+        if search.seconds is not None and clock.used() > search.seconds:
             search.say(f"no order was found in {search.seconds:g} seconds")
         return None
     counts = Counter(one.arrival.connection for one in given)

@@ -29,8 +29,9 @@ from zygos_tools.cli.screen import Screen, say
 from zygos_tools.comparing.apart import stored_by
 from zygos_tools.comparing.arrivals import Arrival, Arrivals, Texts, ends_of, recorded, streams_of, with_answers
 from zygos_tools.files.formats import END, Close, Output, capture_start, close, pieces, segment
+from zygos_tools.judging.clock import Clock
 from zygos_tools.judging.events import Verdict, brief
-from zygos_tools.judging.judge import Clock, Judge
+from zygos_tools.judging.judge import Judge
 from zygos_tools.protocol.answers import MOST_NUMBER, items, meta, number
 from zygos_tools.protocol.meaning import Command, line_of
 from zygos_tools.protocol.table import does, is_there, keys_of

@@ -13,6 +13,7 @@
 | `anew` | where a server must have counted its uniques anew |
 | `search` | an order of the calls on one key, or on a few together |
 | `keys` | the orders of all keys |
+| `clock` | how long each key is searched, and all of them |
 | `orders`, `nearby` | parts of these orders, with states; the calls on a key near to a time |
 | `graph`, `sorting` | one order of all calls, made of those of the keys; circles where there is none |
 | `fitting`, `mending` | fits the orders of the keys in a circle to each other |

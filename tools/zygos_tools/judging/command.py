@@ -23,7 +23,8 @@ CAPTURE, REPLIES  what clients sent and what the server answered, best as `tools
 --except-keys GLOBS  judges all keys except those that match
 --first       stops at the first key without an order; without it, all keys are searched
 --json        prints one line with the verdict and the counts, or with the error of a file, and nothing else
---seconds N   gives up after N seconds (if left out, 600)
+--seconds N   gives up after N seconds of processor time, of which each key has a share (if left out, 600, but less to fit
+              keys to each other)
 --states N    gives up on a key after N of its states (if left out, 200,000)
 --processes N  searches keys in N processes (if left out, as many as there are processors that are not busy)
 
@@ -56,8 +57,9 @@ from zygos_tools.files.outputs import Beside, refuse_full, told_apart
 from zygos_tools.files.part import Fault
 from zygos_tools.judging import sharing
 from zygos_tools.judging.certificate import Certificate
+from zygos_tools.judging.clock import Clock
 from zygos_tools.judging.events import No, Unknown, Verdict, counted
-from zygos_tools.judging.judge import Clock, Judge
+from zygos_tools.judging.judge import Judge
 from zygos_tools.judging.times import ENDS, NONE, SEGMENTS
 from zygos_tools.protocol.order_files import connections_of, digest, order_text
 from zygos_tools.repository import TOP
@@ -73,6 +75,8 @@ NOT_USED = "ends of answers are not used (--times segments): each client is take
 NOT_CLOSED = "commands name keys that are left out too, so no checker is asked"
 NOT_CERTIFIED = "not certified: --check asks the proved program, and --out FILES keeps the files for it"
 REFUSED = "the proved program refuses this order, so there is no verdict; please report it, with the recording"
+# how much processor time the search has
+SECONDS = 600
 # of how many keys without an order something is said
 MOST_FAULTS = 100
 # memory: of the tool itself in MB, and of each command and each byte of the files in bytes; less than so many MB is not
@@ -127,7 +131,7 @@ class Judging:
         self.judge: Judge | None = None
         self.certificate: Certificate | None = None
         self.checked = self.recording = ""
-        self.clock = Clock(given.get("--seconds", 600), self.screen.ticker())
+        self.clock = Clock(given.get("--seconds", SECONDS), self.screen.ticker(), "--seconds" in given)
 
     def say(self, line: str) -> None:
         """Prints a line."""
@@ -196,12 +200,12 @@ class Judging:
     # ---- what is said
 
     def counts(self, faults: list[Verdict]) -> dict[str, int]:
-        """How many keys have an order, have none, or are unknown."""
+        """How many keys have an order, have none, or are unknown, as those are that were not searched."""
         no = {key for fault in faults if isinstance(fault, No) for key in fault.keys}
         unknown = {key for fault in faults if isinstance(fault, Unknown) for key in fault.keys} - no
         total = len(self.judge.keys.names) if self.judge and hasattr(self.judge, "keys") else 0
         done = len(self.judge.keys.found.keys() - no - unknown) if total and self.judge else 0
-        return {"keys": total, "ordered": done, "without": len(no), "unknown": len(unknown)}
+        return {"keys": total, "ordered": done, "without": len(no), "unknown": max(0, total - done - len(no))}
 
     def refuse(self, faults: list[Verdict]) -> None:
         """Prints a no or an unknown."""

@@ -1,15 +1,15 @@
 """Looks for an order of all calls of a recording, step by step."""
 from __future__ import annotations
 
-import time
 from array import array
 from collections.abc import Callable, Iterable, Iterator
 
 from zygos_tools.files.formats import Output
 from zygos_tools.judging import pairing, sharing, times
 from zygos_tools.judging.certificate import Certificate
+from zygos_tools.judging.clock import Clock, Late, search
 from zygos_tools.judging.doubts import Doubts, leave_out_entering
-from zygos_tools.judging.events import No, Unknown, Verdict, brief, counted
+from zygos_tools.judging.events import No, Unknown, Verdict
 from zygos_tools.judging.graph import Graph
 from zygos_tools.judging.keys import Keys
 from zygos_tools.judging.mending import MOST_TURNS, Mending, keys_in
@@ -18,32 +18,6 @@ from zygos_tools.judging.reading import Recording
 from zygos_tools.judging.seeing import Seeing
 from zygos_tools.judging.sorting import Sorting
 from zygos_tools.judging.table import DROPPED, HAS_UNIQUE
-
-
-class Clock:
-    """How long the search has taken; after `seconds` it is given up. `show` is called about once a second."""
-
-    def __init__(self, seconds: float | None = None, show: Callable[[str], None] | None = None):
-        self.begun, self.seconds, self.show = time.monotonic(), seconds, show
-        self.shown, self.what = self.begun, "reading"
-
-    def set(self, what: str) -> None:
-        """What is done now."""
-        self.what = what
-        self.look()
-
-    def no_limit(self) -> None:
-        """From here on nothing is given up."""
-        self.seconds = None
-
-    def look(self) -> None:
-        """Gives up where the time has passed."""
-        now = time.monotonic()
-        if self.seconds is not None and now - self.begun > self.seconds:
-            raise Unknown(f"{self.what}; given up after {counted(self.seconds, 'second')}; give --seconds more")
-        if self.show and now - self.shown >= 1:
-            self.shown = now
-            self.show(f"{now - self.begun:.0f} s: {self.what}")
 
 
 class Unfitted(Unknown):
@@ -112,22 +86,24 @@ class Judge:
     def search(self, processes: int = 1) -> None:
         """Finds the orders of all keys; those that have none are among the faults."""
         if processes > 1:
-            sharing.search(self.keys, self.clock, processes, self.faults)
+            sharing.search_in(processes, self.keys, self.clock, self.faults)
             if self.is_first and self.faults:
                 raise self.worst()
             return
-        names = self.keys.names
-        for at, key in enumerate(names):
-            self.clock.set(f"key {brief(key)}, {at + 1:,} of {len(names):,}")
-            try:
-                self.keys.search([key])
-            except Verdict as verdict:
-                self.faults.append(verdict)
-                if self.is_first:
-                    raise
+        search(self.keys, self.keys.names, self.clock, self.faults, self.is_first)
 
     def merge(self) -> None:
         """Makes one order of those of all keys, in that of the uniques if there is such a one."""
+        seconds = self.clock.for_fitting()
+        with self.clock.share(seconds):
+            try:
+                self.merge_once()
+            except Late as late:
+                raise Unfitted(f"{late.why}: not in {seconds or 0:.0f} seconds; give --seconds more") from None
+        self.check_times()
+
+    def merge_once(self) -> None:
+        """The same, if there is time for it."""
         try:
             self.merge_all()
         except Unfitted:
@@ -135,7 +111,6 @@ class Judge:
                 raise
             self.is_numbered = False
             self.merge_all()
-        self.check_times()
 
     def merge_all(self) -> None:
         """Makes one order of those of all keys, and mends these where they do not fit."""

@@ -5,8 +5,9 @@ import os
 import pickle
 import selectors
 import signal
-from typing import IO, Protocol
+from typing import IO
 
+from zygos_tools.judging.clock import Clock, search
 from zygos_tools.judging.events import Unknown, Verdict, counted
 from zygos_tools.judging.keys import Keys
 from zygos_tools.judging.orders import Order
@@ -18,16 +19,6 @@ MOST_PROCESSES = 16
 # what a process finds: the orders, the items at first, the keys whose uniques need not rise, and what is said of keys
 # without an order
 Found = tuple[dict[bytes, Order], "dict[bytes, tuple[int, bytes] | None]", "set[bytes]", list[Verdict]]
-
-
-class Clock(Protocol):
-    """What the search needs of a clock."""
-
-    def set(self, what: str) -> None:
-        """What is done now."""
-
-    def look(self) -> None:
-        """Looks at the time."""
 
 
 def free_processors(calls: int) -> int:
@@ -50,12 +41,12 @@ def shares_of(keys: Keys, count: int) -> list[list[bytes]]:
     return shares
 
 
-def search(keys: Keys, clock: Clock, count: int, faults: list[Verdict]) -> None:
-    """Looks for the orders of all keys."""
+def search_in(count: int, keys: Keys, clock: Clock, faults: list[Verdict]) -> None:
+    """Looks for the orders of all keys in so many processes."""
     children: dict[int, IO[bytes]] = {}
     try:
         for share in shares_of(keys, count):
-            begin(keys, share, children)
+            begin(keys, share, clock, children)
         gather(keys, clock, children, faults)
     except BaseException:
         for child in children:
@@ -67,8 +58,9 @@ def search(keys: Keys, clock: Clock, count: int, faults: list[Verdict]) -> None:
             os.waitpid(child, 0)
 
 
-def begin(keys: Keys, share: list[bytes], children: dict[int, IO[bytes]]) -> None:
+def begin(keys: Keys, share: list[bytes], clock: Clock, children: dict[int, IO[bytes]]) -> None:
     """Begins a process for a share."""
+    left = clock.left()
     read, write = os.pipe()
     child = os.fork()
     if child:
@@ -79,20 +71,20 @@ def begin(keys: Keys, share: list[bytes], children: dict[int, IO[bytes]]) -> Non
         os.close(read)
         signal.signal(signal.SIGINT, signal.SIG_DFL)
         with open(write, "wb") as file:
-            pickle.dump(searched(keys, share), file)
+            clock.go_on_in(left)
+            pickle.dump(searched(keys, share, clock), file)
         os._exit(0)
     finally:
         os._exit(1)
 
 
-def searched(keys: Keys, share: list[bytes]) -> Found:
+def searched(keys: Keys, share: list[bytes], clock: Clock) -> Found:
     """What is found of some keys."""
     faults: list[Verdict] = []
-    for key in share:
-        try:
-            keys.search([key])
-        except Verdict as verdict:
-            faults.append(verdict)
+    try:
+        search(keys, share, clock, faults)
+    except Unknown as late:
+        faults.append(late)
     return keys.found, keys.first, keys.falling, faults
 
 
