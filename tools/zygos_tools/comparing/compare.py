@@ -35,7 +35,7 @@ from collections import Counter
 from collections.abc import Callable, Iterable, Iterator, Mapping, Sequence
 
 from zygos_tools.cli import ends
-from zygos_tools.cli.screen import Screen
+from zygos_tools.cli.screen import Screen, as_called
 from zygos_tools.comparing import causes
 from zygos_tools.comparing import steps
 from zygos_tools.comparing.apart import Callers
@@ -291,7 +291,7 @@ class Comparison:
             if key == (ALONE,):
                 print("  out of step from here by one answer; those after it are compared in step again")
             elif key[0] in NAMED:
-                print("  why: " + " or ".join(NAMED[cause] for cause in key))
+                print(as_called("  why: " + " or ".join(NAMED[cause] for cause in key)))
 
     def end(self) -> bool:
         """What is printed; gives whether there is no difference."""
@@ -306,7 +306,7 @@ class Comparison:
             return True
         self.total()
         for line in self.lines():
-            print(line)
+            print(as_called(line))
         return False
 
     def other_traffic(self) -> str | None:

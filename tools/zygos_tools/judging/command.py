@@ -50,7 +50,7 @@ from fnmatch import fnmatchcase
 from typing import IO, Any
 
 from zygos_tools.cli import ends
-from zygos_tools.cli.screen import Screen
+from zygos_tools.cli.screen import Screen, as_called
 from zygos_tools.files.formats import Output, shown
 from zygos_tools.files.inputs import capture_alone, outputs_in
 from zygos_tools.files.outputs import Beside, refuse_full, told_apart
@@ -137,7 +137,7 @@ class Judging:
         """Prints a line."""
         self.screen.clear()
         if not self.is_json:
-            print(line, file=sys.stderr if self.to_output else sys.stdout)
+            print(as_called(line), file=sys.stderr if self.to_output else sys.stdout)
 
     # ---- the search
 
