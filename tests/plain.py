@@ -150,12 +150,12 @@ def parts_of(text):
     return found
 
 
-def answer(text, shards=16):
-    """What `check` answers: the status, standard output and standard error."""
+def answer(text, shards=16, program="zygos"):
+    """What `check` answers: the status, standard output and standard error; in lines with this name of a program."""
     try:
         capture, journal, replies = parts_of(text)
     except Fault as fault:
-        return 3, b"", f"zygos: {fault}\n".encode()
+        return 3, b"", f"{program}: {fault}\n".encode()
     line = verdict(Given(shards, streams_of(capture), journal.entries, journal.holds, replies.outputs))
     return int(line != "yes"), f"{line}\n".encode(), b""
 

@@ -130,7 +130,7 @@ def recording_of(text):
 
 def answer(text, shards=16):
     """What `linear` answers: the status, standard output and standard error."""
-    checked = plain.answer(text, shards)
+    checked = plain.answer(text, shards, "linear")
     if checked[1] != b"yes\n":
         return checked
     line = recording_of(text).line()

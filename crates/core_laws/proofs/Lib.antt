@@ -6,4 +6,5 @@ pub mod ControlLemmas
 pub mod RestTokenLemmas
 pub mod BlockLemmas
 pub mod HomeLemmas
+pub mod RoundLemmas
 pub mod ServedReceivedLemmas

@@ -4,3 +4,4 @@ pub mod OnePlace
 pub mod OneStep
 pub mod Done
 pub mod Homes
+pub mod Round

@@ -3,8 +3,8 @@
 
 use std::process::ExitCode;
 use zy_base::NoMemory;
+use zy_shell::{StdSink, StdSource, without_memory, words};
 use zygos_linear::{serve_linear, status};
-use zygos_run::{StdSink, StdSource, without_memory, words};
 
 fn main(rt: HostRuntime) -> ExitCode {
     let alloc = rt.alloc();
@@ -20,6 +20,6 @@ fn main(rt: HostRuntime) -> ExitCode {
             drop(words);
             ExitCode::from(status(&answer))
         }
-        Err(NoMemory) => without_memory(rt.stderr()),
+        Err(NoMemory) => without_memory(rt.stderr(), b"linear"),
     }
 }

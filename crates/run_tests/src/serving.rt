@@ -6,7 +6,7 @@ use std::process::Abort;
 use std::sync::Wait;
 use std::thread::Threads;
 use zy_base::{Blob, CallNumbers, MemSink, MemSource};
-use zygos_run::{Answer, serve, status};
+use zygos_run::{Answer, Failure, serve, status};
 
 // The number of a call that no run makes.
 const NEVER: u64 = 1_000_000;
@@ -108,7 +108,11 @@ impl Given {
         Given::new(rt, alloc, words, capture, failing, false)
     }
 
-    fn serve<R: Threads + Wait + Sync>(&mut self, rt: &R, alloc: Global) -> Answer {
+    fn serve<R: Threads + Wait + Sync>(
+        &mut self,
+        rt: &R,
+        alloc: Global,
+    ) -> Result<Answer, Failure> {
         serve(
             rt,
             alloc,
@@ -152,10 +156,10 @@ impl Given {
 }
 
 // Checks whether this answer has a journal, and the gate was passed as often as its holds say.
-fn is_told_by(gate: &Watch, answer: &Answer) -> bool {
+fn is_told_by(gate: &Watch, answer: &Result<Answer, Failure>) -> bool {
     match answer {
-        Answer::Served(journal) => gate.is_told_by(journal.holds()),
-        Answer::Tested(journal, _) => gate.is_told_by(journal.holds()),
+        Ok(Answer::Served(journal)) => gate.is_told_by(journal.holds()),
+        Ok(Answer::Tested(journal, _)) => gate.is_told_by(journal.holds()),
         _ => false,
     }
 }

@@ -3,7 +3,7 @@ use crate::sure::must;
 use std::io;
 use std::io::{Cursor, ErrorKind, Write};
 use zy_base::{Sink, Source};
-use zygos_run::{StdSink, StdSource};
+use zy_shell::{StdSink, StdSource};
 
 // Checks whether a reader's bytes are given, the number for which there is room.
 fn is_read() -> bool {

@@ -1,2 +1,4 @@
+pub mod DealLemmas
+pub mod CoreLemmas
+pub mod AloneLemmas
 pub mod GroupLemmas
-pub mod RestLemmas

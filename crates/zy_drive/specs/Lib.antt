@@ -1,5 +1,7 @@
+pub mod Round
 pub mod Drive
-pub mod Resters
+pub mod Deal
+pub mod Group
 pub mod CallUp
 pub mod Seat
 pub mod Same

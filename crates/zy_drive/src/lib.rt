@@ -1,19 +1,15 @@
-//! Driving groups of cores on many threads, while the caller feeds them.
+//! Driving cores: rounds of turns on one thread, and groups of cores on many threads.
 #![tactic(auto)]
 
-mod caller;
-mod first_group;
+mod driven;
+mod feeding;
 mod handed_back;
-mod lent;
-mod resters;
-mod room;
-mod scoped;
-mod seat;
-mod seats;
-mod tending;
+mod ordered;
+mod round;
+mod rounds;
 mod threads;
 
-pub use first_group::FirstGroup;
+pub use driven::Driven;
 pub use handed_back::take_back;
-pub use resters::rest_of;
-pub use threads::{drive, drive_groups};
+pub use ordered::drive_ordered;
+pub use threads::{FirstGroup, drive, drive_groups, rest_of};

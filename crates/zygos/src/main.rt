@@ -5,7 +5,8 @@ use std::io::BufWriter;
 use std::mem;
 use std::process::ExitCode;
 use zy_base::{NoMemory, Ungated};
-use zygos_run::{StdSink, StdSource, serve, status, without_memory, words};
+use zy_shell::{StdSink, StdSource, without_memory, words};
+use zygos_run::{serve, status};
 
 // The size of the buffer of standard output; longer pieces are written at once.
 const BUFFER: usize = 65_536;
@@ -16,7 +17,7 @@ fn main(rt: HostRuntime) -> ExitCode {
         Ok(words) => {
             let Ok(output) = BufWriter::with_capacity(alloc, BUFFER, rt.stdout()) else {
                 drop(words);
-                return without_memory(rt.stderr());
+                return without_memory(rt.stderr(), b"zygos");
             };
             let answer = serve(
                 &rt,
@@ -32,6 +33,6 @@ fn main(rt: HostRuntime) -> ExitCode {
             mem::forget(answer);
             ExitCode::from(status)
         }
-        Err(NoMemory) => without_memory(rt.stderr()),
+        Err(NoMemory) => without_memory(rt.stderr(), b"zygos"),
     }
 }

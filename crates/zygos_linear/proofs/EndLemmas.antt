@@ -1,39 +1,42 @@
--- An input with an error is rejected for it.
-use Rattle.std.proofs.Common.{◌≡◌, ℕ, List, refl, ap, inl, inr}
-use Rattle.std.specs.Prelude.{Option, None, Some}
+-- What follows from how the call ends: of invalid arguments, and of an input that is good or has an error.
+use Rattle.std.proofs.Common.{◌≡◌, ℕ, refl, ap, inl, inr}
+use Rattle.std.specs.Prelude.{Option, None, Some, Result, Ok, Err}
 use Rattle.zy_input.specs.declared.stop.Refusal.{Refusal}
-use Rattle.zy_input.specs.Parts.{HasPartFault}
-use Rattle.zy_read.proofs.SourceLemmas.{told_all}
-use Rattle.zy_read.specs.Seen.{Seen, NoneRose}
-use Rattle.zygos_run.specs.Served.{IsToldBad}
-use Rattle.zygos_run.proofs.EndLemmas.{PartsHaveNone, PartsHaveOne}
-use Rattle.zygos_linear.specs.declared.answer.Answer.{Answer}
-use Rattle.zygos_linear.specs.declared.answer.Answer.TheVariants.{Judged, Usage, Refused, ReadFault, WriteFault, OutOfMemory}
+use Rattle.zy_read.specs.Seen.{Seen, NoneRose, WasWritten}
+use Rattle.zy_shell.specs.declared.failure.Failure.{Failure}
+use Rattle.zy_shell.specs.declared.failure.Failure.TheVariants.{Usage, Refused}
+use Rattle.zy_shell.specs.Asked.{IsToldGood, IsToldBad}
+use Rattle.zy_shell.specs.Asked.Asked.{Invalid}
+use Rattle.zy_shell.specs.Failure.{IsThisOr}
+use Rattle.zy_shell.specs.Input.Input.{CheckInput}
+use Rattle.zy_shell.proofs.InputLemmas.{PartsHaveNone, PartsHaveOne}
+use Rattle.zy_shell.proofs.FailureLemmas.{invalid_fails, good_fails, bad_fails, not_of_bad}
 use Rattle.zygos_linear.specs.declared.finding.Finding.{Finding}
 use Rattle.zygos_linear.specs.Finding.{HasFinding, OfRecording}
-use Rattle.zygos_linear.specs.Ends.{check_with, HasCause, IsThisOr}
+use Rattle.zygos_linear.specs.Ends.{check_with, HasCause, JudgesPart, IsJudgedOr}
+use Rattle.zygos_linear.specs.Lines.{finding_line}
 
-module _ (call : Seen) (text : List ℕ) (refusal : Refusal) (is_told : call.source.before ≡ Some text) (bad : HasPartFault text refusal) where
-  -- nothing is found of it
-  not_judged : PartsHaveNone → (shards : ℕ) (finding : Finding) → HasCause (Some shards) call (Judged finding) → ⊥
-  not_judged parts shards finding has =
-      let all = told_all call.source.before call.source.after has.0 (λ bytes. OfRecording shards bytes (λ g r count. HasFinding g r count finding)) has.1.0 has.1.1 has.2.0 in
-      let of_text : OfRecording shards text (λ g r count. HasFinding g r count finding) = rw is_told at all in
-      parts text of_text.streams of_text.journal of_text.outputs refusal of_text.parts bad
+-- what is asked is a check, if the arguments are valid
+pub invalid_with : (shards : Option ℕ) → check_with shards ≡ Invalid → shards ≡ None
+invalid_with None invalid = refl
+invalid_with (Some shards) invalid = absurd (cc)
 
-  refused_told : PartsHaveNone → PartsHaveOne → (shards : ℕ) (answer : Answer) → NoneRose call → HasCause (Some shards) call answer → IsThisOr (Refused refusal) answer
-  refused_told parts one shards (Judged finding) none ends = absurd (not_judged parts shards finding ends)
-  refused_told parts one shards Usage none ends = absurd (cc)
-  refused_told parts one shards (Refused other) none ends =
-      let cause = ends.1 in
-      let is : HasPartFault text other = rw is_told at cause in
-      inl (ap Refused (one text other refusal is bad))
-  refused_told parts one shards ReadFault none ends = absurd (none.0 ends.1)
-  refused_told parts one shards WriteFault none ends = absurd (none.1 ends.1)
-  refused_told parts one shards OutOfMemory none ends = inr refl
+pub unlawful_for : (call : Seen) (answer : Result Finding Failure) → HasCause None call answer → IsThisOr Usage answer
+unlawful_for call (Ok finding) ends = absurd ends
+unlawful_for call (Err failure) ends = invalid_fails Finding call (JudgesPart None call) (λ part. part.1) failure ends
 
-pub refused_for : (shards : Option ℕ) (call : Seen) (answer : Answer) (reported : Option (List ℕ)) (refusal : Refusal)
-    → PartsHaveNone → PartsHaveOne → call.source.before ≡ reported → IsToldBad (check_with shards) reported refusal → NoneRose call → HasCause shards call answer → IsThisOr (Refused refusal) answer
-refused_for shards call answer None refusal parts one is bad none ends = absurd bad
-refused_for None call answer (Some text) refusal parts one is bad none ends = absurd bad
-refused_for (Some shards) call answer (Some text) refusal parts one is bad none ends = refused_told call text refusal is bad parts one shards answer none ends
+pub judged_for : (shards : Option ℕ) (call : Seen) (answer : Result Finding Failure) → IsToldGood (check_with shards) call.source.before → NoneRose call → HasCause shards call answer → IsJudgedOr answer
+judged_for shards call (Ok finding) good none ends = inl (finding, refl)
+judged_for shards call (Err failure) good none ends = inr (ap (λ f. Err f) (good_fails (check_with shards) call (JudgesPart shards call) failure good none ends))
+
+-- nothing is found of an input with an error
+not_judged : PartsHaveNone → (shards : Option ℕ) (call : Seen) (refusal : Refusal) (finding : Finding) → IsToldBad (check_with shards) call.source.before refusal → HasCause shards call (Ok finding) → ⊥
+not_judged parts None call refusal finding bad has = bad
+not_judged parts (Some shards) call refusal finding bad has =
+    not_of_bad call.source (λ bytes. OfRecording shards bytes (λ g r count. HasFinding g r count finding) × WasWritten call.sink (finding_line finding)) CheckInput refusal has bad
+    (λ bytes of fault. parts bytes of.0.streams of.0.journal of.0.outputs refusal of.0.parts fault)
+
+pub refused_for : (shards : Option ℕ) (call : Seen) (answer : Result Finding Failure) (refusal : Refusal)
+    → PartsHaveNone → PartsHaveOne → IsToldBad (check_with shards) call.source.before refusal → NoneRose call → HasCause shards call answer → IsThisOr (Refused refusal) answer
+refused_for shards call (Ok finding) refusal parts one bad none ends = absurd (not_judged parts shards call refusal finding bad ends)
+refused_for shards call (Err failure) refusal parts one bad none ends = bad_fails Finding one (check_with shards) call (JudgesPart shards call) failure refusal bad none ends

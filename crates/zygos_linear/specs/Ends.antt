@@ -1,20 +1,22 @@
 -- How the top call ends: what each answer says of the arguments and of what the call saw.
-use Rattle.std.specs.Prelude.{◌≡◌, ◌⊎◌, ℕ, List, Option, None, ⊤, option_map, IsSomeAnd}
-use Rattle.zy_command_line.specs.declared.request.Request.{Request}
-use Rattle.zy_command_line.specs.declared.request.Request.TheVariants.{Check}
+use Rattle.std.specs.Prelude.{◌≡◌, ◌⊎◌, ℕ, List, Option, None, Some, Result, Ok, Err, IsSomeAnd}
 use Rattle.zy_check.specs.Given.{Given}
-use Rattle.zy_read.specs.Seen.{Seen, HasRisen, WasWritten, TakesPart, OfGiven}
+use Rattle.zy_read.specs.Seen.{Seen, WasWritten, TakesPart, OfGiven}
 use Rattle.zy_times.specs.Times.{Recording}
-use Rattle.zygos_run.specs.Ends.{IsFaultOf, ReadsInput}
-use Rattle.zygos_linear.specs.declared.answer.Answer.{Answer}
-use Rattle.zygos_linear.specs.declared.answer.Answer.TheVariants.{Judged, Usage, Refused, ReadFault, WriteFault, OutOfMemory}
+use Rattle.zy_shell.specs.declared.failure.Failure.{Failure}
+use Rattle.zy_shell.specs.declared.failure.Failure.TheVariants.{OutOfMemory}
+use Rattle.zy_shell.specs.Asked.{Asked}
+use Rattle.zy_shell.specs.Asked.Asked.{Invalid, Reading}
+use Rattle.zy_shell.specs.Failure.{HasFailed}
+use Rattle.zy_shell.specs.Input.Input.{CheckInput}
 use Rattle.zygos_linear.specs.declared.finding.Finding.{Finding}
 use Rattle.zygos_linear.specs.Finding.{HasFinding, OfRecording}
 use Rattle.zygos_linear.specs.Lines.{finding_line}
 
--- the request of `zygos check` with this number of shards
-abbrev pub check_with : Option ℕ → Option Request
-check_with shards = option_map Check shards
+-- a check with this number of shards is requested, if the arguments are valid
+abbrev pub check_with : Option ℕ → Asked
+check_with None = Invalid
+check_with (Some shards) = Reading CheckInput
 
 -- the arguments request a number of shards; `Holds` holds of the recording in the input, whose bytes `Of` selects, and
 -- `Writes` holds
@@ -31,20 +33,10 @@ abbrev pub JudgesPart : Option ℕ → Seen → Type 0
 JudgesPart shards call = (finding : Finding) × JudgesAs shards (OfGiven call.source) (TakesPart call.sink) finding
 
 -- each answer has its cause
-abbrev pub HasCause : Option ℕ → Seen → Answer → Type 0
-HasCause shards call (Judged finding) = JudgesAs shards (OfGiven call.source) (WasWritten call.sink) finding
-HasCause shards call Usage = shards ≡ None
-HasCause shards call (Refused refusal) = IsFaultOf (check_with shards) call.source.before refusal
-HasCause shards call ReadFault = ReadsInput (check_with shards) × HasRisen call.source
-HasCause shards call WriteFault = JudgesPart shards call × HasRisen call.sink
-HasCause shards call OutOfMemory = ⊤
-
--- ---- answers that must come
-
--- the answer is this one, unless memory ran out
-abbrev pub IsThisOr : Answer → Answer → Type 0
-IsThisOr expected answer = (answer ≡ expected) ⊎ (answer ≡ OutOfMemory)
+abbrev pub HasCause : Option ℕ → Seen → Result Finding Failure → Type 0
+HasCause shards call (Ok finding) = JudgesAs shards (OfGiven call.source) (WasWritten call.sink) finding
+HasCause shards call (Err failure) = HasFailed (check_with shards) call (JudgesPart shards call) failure
 
 -- the answer is a finding, unless memory ran out
-abbrev pub IsJudgedOr : Answer → Type 0
-IsJudgedOr answer = ((finding : Finding) × (answer ≡ Judged finding)) ⊎ (answer ≡ OutOfMemory)
+abbrev pub IsJudgedOr : Result Finding Failure → Type 0
+IsJudgedOr answer = ((finding : Finding) × (answer ≡ Ok finding)) ⊎ (answer ≡ Err OutOfMemory)

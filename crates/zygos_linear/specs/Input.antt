@@ -7,8 +7,8 @@ use Rattle.zy_read.specs.declared.stop.Stop.{Stop}
 use Rattle.zy_read.specs.Seen.{Side, OfGiven}
 use Rattle.zy_times.specs.declared.times.Times.{Times}
 use Rattle.zy_times.specs.Line.{TimesHold}
-use Rattle.zygos_run.specs.Checks.{StopsAs}
-use Rattle.zygos_run.specs.Input.Input.{CheckInput}
+use Rattle.zy_shell.specs.Input.Input.{CheckInput}
+use Rattle.zy_shell.specs.Stops.{StopsAs}
 use Rattle.zygos_linear.specs.declared.finding.Finding.{Finding}
 use Rattle.zygos_linear.specs.Finding.{HasFinding, OfRecording}
 

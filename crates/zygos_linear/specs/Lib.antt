@@ -1,5 +1,5 @@
 pub mod Finding
-pub mod Answers
+pub mod ExitStatus
 pub mod Lines
 pub mod Ends
 pub mod Input

@@ -1,14 +1,14 @@
 -- The lines: of a finding on standard output, and of an answer on standard error.
-use Rattle.std.specs.Prelude.{ℕ, List, codes}
+use Rattle.std.specs.Prelude.{ℕ, List, codes, Result}
 use Rattle.zy_check.specs.declared.verdict.Verdict.TheVariants.{No}
 use Rattle.zy_times.specs.declared.timing.Timing.{Timing}
 use Rattle.zy_times.specs.declared.timing.Timing.TheVariants.{InTime, EarlyEnd, OutOfTime}
-use Rattle.zygos_run.specs.Lines.{line_with, line_with_two, verdict_line, answer_line}
-use Rattle.zygos_linear.specs.declared.answer.Answer.{Answer}
-use Rattle.zygos_linear.specs.declared.answer.Answer.TheVariants.{Usage}
+use Rattle.zy_shell.specs.declared.failure.Failure.{Failure}
+use Rattle.zy_shell.specs.Line.{line_with, line_with_two}
+use Rattle.zy_shell.specs.FailureLine.{said_line}
+use Rattle.zy_shell.specs.VerdictLine.{verdict_line}
 use Rattle.zygos_linear.specs.declared.finding.Finding.{Finding}
 use Rattle.zygos_linear.specs.declared.finding.Finding.TheVariants.{NoRun, Run}
-use Rattle.zygos_linear.specs.Answers.{answer_of_check}
 
 -- ---- standard output
 
@@ -25,7 +25,6 @@ finding_line (Run timing) = timing_line timing
 
 -- ---- standard error
 
--- the line of an answer: for invalid arguments one of its own, otherwise that of `zygos check`
-abbrev pub line_for : Answer → List ℕ
-line_for Usage = codes "linear: usage: linear [--shards N]\n"
-line_for answer = answer_line (answer_of_check answer)
+-- the line of an answer, if it is a failure
+abbrev pub line_for : Result Finding Failure → List ℕ
+line_for answer = said_line (codes "linear") (codes "[--shards N]") answer

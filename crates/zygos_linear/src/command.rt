@@ -2,17 +2,17 @@
 ghost use Rattle.std.specs.Prelude.{◌≡◌, ◌≤◌, None};
 ghost use Rattle.zy_command_line.specs.Request.{shards_asked};
 ghost use Rattle.zy_read.specs.Seen.{side, both_sides};
-ghost use Rattle.zygos_run.specs.Ends.{LeavesSink};
-ghost use Rattle.zygos_run.specs.Finish.{FinishesOnce};
-ghost use Rattle.zygos_linear.specs.Answers.{answer_of_check};
+ghost use Rattle.zy_shell.specs.Failure.{LeavesSink};
+ghost use Rattle.zy_shell.specs.Finish.{FinishesOnce};
 ghost use Rattle.zygos_linear.specs.Ends.{HasCause};
 
-use crate::answer::Answer;
+use crate::finding::Finding;
 use crate::input::judge_input;
 use std::alloc::Global;
 use zy_base::{Blob, Sink, Source};
 use zy_command_line::laws::requests_are_in_their_ranges;
 use zy_command_line::shards_asked;
+use zy_shell::Failure;
 
 /// Judges the input, on the number of shards that the arguments request.
 pub(crate) fn carry_out<S: Source, K: Sink>(
@@ -20,20 +20,19 @@ pub(crate) fn carry_out<S: Source, K: Sink>(
     words: &[Blob],
     source: &mut S,
     sink: &mut K,
-) -> Answer
+) -> Result<Finding, Failure>
     ensures reads { S.faults source.old ≤ S.faults source.new }
     ensures writes { K.faults sink.old ≤ K.faults sink.new }
     ensures ends { HasCause (shards_asked words.now)
         (both_sides (side S.rest S.faults source.old source.new) (side K.holds K.faults sink.old sink.new)) result }
-    ensures sink_kept { LeavesSink (answer_of_check result) → sink.new ≡ sink.old }
-    ensures finished { FinishesOnce (answer_of_check result) (K.finishes sink.old) (K.finishes sink.new)
-        (K.is_finished sink.new) }
+    ensures sink_kept { LeavesSink result → sink.new ≡ sink.old }
+    ensures finished { FinishesOnce result (K.finishes sink.old) (K.finishes sink.new) (K.is_finished sink.new) }
     ensures source_kept { shards_asked words.now ≡ None → source.new ≡ source.old }
 {
     requests_are_in_their_ranges();
     match shards_asked(alloc, words) {
         Ok(Some(shards)) => judge_input(alloc, shards, source, sink),
-        Ok(None) => Answer::Usage,
-        Err(_) => Answer::OutOfMemory,
+        Ok(None) => Err(Failure::Usage),
+        Err(_) => Err(Failure::OutOfMemory),
     }
 }

@@ -2,17 +2,17 @@
 ghost use Rattle.std.specs.Prelude.{◌≡◌, ◌≤◌, Some};
 ghost use Rattle.zy_command_line.specs.Range.{AreShards};
 ghost use Rattle.zy_read.specs.Seen.{side, both_sides};
-ghost use Rattle.zygos_run.specs.Ends.{LeavesSink};
-ghost use Rattle.zygos_run.specs.Finish.{FinishesOnce};
-ghost use Rattle.zygos_linear.specs.Answers.{answer_of_check};
+ghost use Rattle.zy_shell.specs.Failure.{LeavesSink};
+ghost use Rattle.zy_shell.specs.Finish.{FinishesOnce};
 ghost use Rattle.zygos_linear.specs.Ends.{HasCause};
 
-use crate::answer::Answer;
+use crate::finding::Finding;
 use crate::judging::find;
 use crate::writing::write_finding;
 use std::alloc::Global;
 use zy_base::{Failed, Sink, Source};
 use zy_input::Stop;
+use zy_shell::Failure;
 
 /// Reads a capture, a journal and a replies file, and writes the line of what is found of them.
 pub(crate) fn judge_input<S: Source, K: Sink>(
@@ -20,23 +20,22 @@ pub(crate) fn judge_input<S: Source, K: Sink>(
     shards: u32,
     source: &mut S,
     sink: &mut K,
-) -> Answer
+) -> Result<Finding, Failure>
     requires shards { AreShards shards }
     ensures reads { S.faults source.old ≤ S.faults source.new }
     ensures writes { K.faults sink.old ≤ K.faults sink.new }
     ensures ends { HasCause (Some shards)
         (both_sides (side S.rest S.faults source.old source.new) (side K.holds K.faults sink.old sink.new)) result }
-    ensures sink_kept { LeavesSink (answer_of_check result) → sink.new ≡ sink.old }
-    ensures finished { FinishesOnce (answer_of_check result) (K.finishes sink.old) (K.finishes sink.new)
-        (K.is_finished sink.new) }
+    ensures sink_kept { LeavesSink result → sink.new ≡ sink.old }
+    ensures finished { FinishesOnce result (K.finishes sink.old) (K.finishes sink.new) (K.is_finished sink.new) }
 {
     match find(alloc, shards, source) {
         Ok(finding) => match write_finding(sink, finding) {
-            Ok(()) => Answer::Judged(finding),
-            Err(Failed) => Answer::WriteFault,
+            Ok(()) => Ok(finding),
+            Err(Failed) => Err(Failure::WriteFault),
         },
-        Err(Stop::Refused(refusal)) => Answer::Refused(refusal),
-        Err(Stop::ReadFault) => Answer::ReadFault,
-        Err(Stop::NoMemory) => Answer::OutOfMemory,
+        Err(Stop::Refused(refusal)) => Err(Failure::Refused(refusal)),
+        Err(Stop::ReadFault) => Err(Failure::ReadFault),
+        Err(Stop::NoMemory) => Err(Failure::OutOfMemory),
     }
 }

@@ -2,18 +2,17 @@
 //! out.
 #![tactic(auto)]
 
-mod answer;
 mod command;
+mod exit_status;
 mod finding;
 mod input;
 mod judging;
-mod saying;
 mod serving;
 mod writing;
 
-pub use answer::{Answer, status};
+pub use exit_status::status;
 pub use finding::Finding;
 pub use serving::serve_linear;
 pub use zy_check::Cause;
-pub use zy_input::Refusal;
+pub use zy_shell::{Failure, Refusal};
 pub use zy_times::Timing;

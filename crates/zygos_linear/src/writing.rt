@@ -5,8 +5,8 @@ ghost use Rattle.zygos_linear.specs.Lines.{finding_line, timing_line};
 use crate::finding::Finding;
 use zy_base::{Failed, Sink};
 use zy_check::Verdict;
+use zy_shell::{finish_written, write_number, write_two, write_verdict};
 use zy_times::Timing;
-use zygos_run::{finish_written, write_number, write_two, write_verdict};
 
 /// Writes the line of a finding, and finishes.
 pub(crate) fn write_finding<K: Sink>(sink: &mut K, finding: Finding) -> Result<(), Failed>

@@ -1,12 +1,12 @@
 -- How the top call ends: what each answer says of the request and of what the call saw.
-use Rattle.std.specs.Prelude.{◌≡◌, ℕ, List, [], Option, None, Some, ⊤, IsSome, IsNone, IsSomeAnd}
-use Rattle.zy_input.specs.declared.stop.Refusal.{Refusal}
+use Rattle.std.specs.Prelude.{ℕ, List, [], Option, None, Some, Result, Ok, Err, IsSomeAnd}
 use Rattle.zy_command_line.specs.declared.request.Request.{Request}
-use Rattle.zy_read.specs.Seen.{Seen, HasRisen, WasWritten, TakesPart, OfGiven}
+use Rattle.zy_read.specs.Seen.{Seen, WasWritten, TakesPart, OfGiven}
+use Rattle.zy_shell.specs.declared.failure.Failure.{Failure}
+use Rattle.zy_shell.specs.Failure.{HasFailed}
+use Rattle.zy_shell.specs.Input.{Input}
 use Rattle.zygos_run.specs.declared.answer.Answer.{Answer}
-use Rattle.zygos_run.specs.declared.answer.Answer.TheVariants.{Served, Checked, Made, Tested, Usage, Refused, ReadFault, WriteFault, OutOfMemory}
-use Rattle.zygos_run.specs.Input.{Input, IsRefusedFor}
-use Rattle.zygos_run.specs.Task.{Task, task_of, input_of}
+use Rattle.zygos_run.specs.Task.{Task, task_of, input_asked}
 
 -- ---- what was executed
 
@@ -28,14 +28,6 @@ CarriesOut request answer Of Writes =
 
 -- ---- the answers, one by one
 
--- the answers of a command that was executed
-abbrev pub IsSuccess : Answer → Type 0
-IsSuccess (Served journal) = ⊤
-IsSuccess (Checked verdict) = ⊤
-IsSuccess Made = ⊤
-IsSuccess (Tested journal numbers) = ⊤
-IsSuccess answer = ⊥
-
 -- the command that has this answer was requested and executed on the bytes that the source gave, if it reads any,
 -- and all of its text was written
 abbrev pub DoneHolds : Option Request → Seen → Answer → Type 0
@@ -48,38 +40,9 @@ HasPart request call =
     OfTask request (λ task. (found : task.Found)
     × OfInput task.reads (OfGiven call.source) (λ bytes. task.Does bytes found (TakesPart call.sink)))
 
--- the request reads an input that may have this fault, and the bytes have it if they are reported
-abbrev pub IsFaultOf : Option Request → Option (List ℕ) → Refusal → Type 0
-IsFaultOf request reported refusal =
-    IsSomeAnd (input_of request) (λ input. IsRefusedFor input reported refusal)
-
--- the request reads a source
-abbrev pub ReadsInput : Option Request → Type 0
-ReadsInput request = IsSome (input_of request)
-
--- the request reads nothing: the words are invalid, or they ask for traffic, or for a test run
-abbrev pub ReadsNothing : Option Request → Type 0
-ReadsNothing request = IsNone (input_of request)
-
 -- ---- all answers
 
 -- each answer has its cause
-abbrev pub Ends : Option Request → Seen → Answer → Type 0
-Ends request call (Served journal) = DoneHolds request call (Served journal)
-Ends request call (Checked verdict) = DoneHolds request call (Checked verdict)
-Ends request call Made = DoneHolds request call Made
-Ends request call (Tested journal numbers) = DoneHolds request call (Tested journal numbers)
-Ends request call Usage = request ≡ None
-Ends request call (Refused refusal) = IsFaultOf request call.source.before refusal
-Ends request call ReadFault = ReadsInput request × HasRisen call.source
-Ends request call WriteFault = HasPart request call × HasRisen call.sink
-Ends request call OutOfMemory = ⊤
-
--- the answers after which the sink is as it was
-abbrev pub LeavesSink : Answer → Type 0
-LeavesSink (Served journal) = ⊥
-LeavesSink (Checked verdict) = ⊥
-LeavesSink Made = ⊥
-LeavesSink (Tested journal numbers) = ⊥
-LeavesSink WriteFault = ⊥
-LeavesSink answer = ⊤
+abbrev pub Ends : Option Request → Seen → Result Answer Failure → Type 0
+Ends request call (Ok answer) = DoneHolds request call answer
+Ends request call (Err failure) = HasFailed (input_asked request) call (HasPart request call) failure

@@ -1,12 +1,9 @@
 pub mod Answers
 pub mod Lines
-pub mod Said
 pub mod Checked
 pub mod Recorded
 pub mod Reported
-pub mod Input
 pub mod Task
 pub mod Ends
 pub mod Served
 pub mod Checks
-pub mod Finish

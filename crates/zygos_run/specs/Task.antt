@@ -7,14 +7,17 @@ use Rattle.zy_command_line.specs.declared.request.Request.{Request}
 use Rattle.zy_command_line.specs.declared.request.Request.TheVariants.{Run, Check, Gen, Pcap, Report, SelfTest}
 use Rattle.zy_serving.specs.Headline.{IsWritten}
 use Rattle.zy_self.specs.Tested.{IsTested, traffic_bytes}
+use Rattle.zy_shell.specs.Asked.{Asked}
+use Rattle.zy_shell.specs.Asked.Asked.{Invalid, Nothing, Reading}
+use Rattle.zy_shell.specs.Input.{Input}
+use Rattle.zy_shell.specs.Input.Input.{CaptureInput, CheckInput, PacketsInput, JournalInput}
+use Rattle.zy_shell.specs.VerdictLine.{verdict_line}
 use Rattle.zygos_run.specs.declared.answer.Answer.{Answer}
 use Rattle.zygos_run.specs.declared.answer.Answer.TheVariants.{Served, Checked, Made, Tested}
-use Rattle.zygos_run.specs.Lines.{verdict_line, summary_line}
+use Rattle.zygos_run.specs.Lines.{summary_line}
 use Rattle.zygos_run.specs.Checked.{IsChecked}
 use Rattle.zygos_run.specs.Recorded.{IsOfRecordedPackets}
 use Rattle.zygos_run.specs.Reported.{IsReported}
-use Rattle.zygos_run.specs.Input.{Input}
-use Rattle.zygos_run.specs.Input.Input.{CaptureInput, CheckInput, PacketsInput, JournalInput}
 
 -- ---- what an answer has
 
@@ -90,7 +93,12 @@ task_of Report = record {
   Does = λ bytes found Writes. IsReported bytes Writes;
 }
 
--- what is read, if the words are valid and their command reads anything
-abbrev pub input_of : Option Request → Option Input
-input_of None = None
-input_of (Some request) = (task_of request).reads
+-- what valid arguments request, if their command reads this
+abbrev pub reads_this : Option Input → Asked
+reads_this None = Nothing
+reads_this (Some input) = Reading input
+
+-- what the arguments request to be read
+abbrev pub input_asked : Option Request → Asked
+input_asked None = Invalid
+input_asked (Some request) = reads_this (task_of request).reads

@@ -3,11 +3,11 @@ ghost use Rattle.std.specs.Prelude.{◌≡◌};
 ghost use Rattle.zygos_run.specs.Answers.{status_of};
 
 use zy_check::Verdict;
-use zy_input::Refusal;
 use zy_journal::Journal;
 use zy_run::Summary;
+use zy_shell::Failure;
 
-/// How the top call ended.
+/// What a command answers that was executed.
 #[derive(Drop)]
 pub enum Answer {
     /// `run`: the capture was read to its end, its commands were executed, and all was written.
@@ -21,30 +21,16 @@ pub enum Answer {
     Made,
     /// `self`: the capture was made, served and checked, and the line of these numbers was written.
     Tested(Journal, Summary),
-    /// The words are invalid. Nothing was read or written.
-    Usage,
-    /// The input has this fault. Nothing was written.
-    Refused(Refusal),
-    /// Reading failed. Nothing was written.
-    ReadFault,
-    /// Writing failed. A prefix of the output was written.
-    WriteFault,
-    /// An allocation failed. Nothing was written.
-    OutOfMemory,
 }
 
 /// Returns the exit status of an answer.
-pub fn status(answer: &Answer) -> u8
+pub fn status(answer: &Result<Answer, Failure>) -> u8
     ensures value { result ≡ status_of answer.now }
 {
     match answer {
-        Answer::Served(_) | Answer::Made | Answer::Tested(_, _) => 0,
-        Answer::Checked(Verdict::Yes) => 0,
-        Answer::Checked(Verdict::No(_)) => 1,
-        Answer::Usage => 2,
-        Answer::Refused(_) => 3,
-        Answer::ReadFault => 4,
-        Answer::WriteFault => 5,
-        Answer::OutOfMemory => 6,
+        Ok(Answer::Served(_) | Answer::Made | Answer::Tested(_, _)) => 0,
+        Ok(Answer::Checked(Verdict::Yes)) => 0,
+        Ok(Answer::Checked(Verdict::No(_))) => 1,
+        Err(failure) => failure.status(),
     }
 }

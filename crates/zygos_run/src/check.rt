@@ -4,18 +4,18 @@ ghost use Rattle.zy_base.specs.Outside.{WritesLast};
 ghost use Rattle.zy_command_line.specs.Range.{AreShards};
 ghost use Rattle.zy_command_line.specs.declared.request.Request.TheVariants as Requests;
 ghost use Rattle.zy_read.specs.Seen.{side, both_sides};
-ghost use Rattle.zygos_run.specs.Finish.{FinishesOnce};
-ghost use Rattle.zygos_run.specs.Ends.{Ends, LeavesSink};
+ghost use Rattle.zy_shell.specs.Failure.{LeavesSink};
+ghost use Rattle.zy_shell.specs.Finish.{FinishesOnce};
+ghost use Rattle.zygos_run.specs.Ends.{Ends};
 ghost use Rattle.zygos_run.specs.Checks.{ChecksTo};
-ghost use Rattle.zygos_run.specs.Lines.{verdict_line};
+ghost use Rattle.zy_shell.specs.VerdictLine.{verdict_line};
 
 use crate::answer::Answer;
-use crate::lines::write_verdict;
-use crate::writing::finish_written;
 use std::alloc::Global;
 use zy_base::{Failed, Sink, Source};
 use zy_check::{Verdict, check};
 use zy_input::{Stop, read_parts};
+use zy_shell::{Failure, finish_written, write_verdict};
 
 /// Reads a capture, a journal and a replies file, and writes the line of the verdict on them.
 pub(crate) fn check_input<S: Source, K: Sink>(
@@ -23,7 +23,7 @@ pub(crate) fn check_input<S: Source, K: Sink>(
     shards: u32,
     source: &mut S,
     sink: &mut K,
-) -> Answer
+) -> Result<Answer, Failure>
     requires shards { AreShards shards }
     ensures reads { S.faults source.old ≤ S.faults source.new }
     ensures writes { K.faults sink.old ≤ K.faults sink.new }
@@ -34,12 +34,12 @@ pub(crate) fn check_input<S: Source, K: Sink>(
 {
     match check_parts(alloc, shards, source) {
         Ok(verdict) => match write_line(sink, verdict) {
-            Ok(()) => Answer::Checked(verdict),
-            Err(Failed) => Answer::WriteFault,
+            Ok(()) => Ok(Answer::Checked(verdict)),
+            Err(Failed) => Err(Failure::WriteFault),
         },
-        Err(Stop::Refused(refusal)) => Answer::Refused(refusal),
-        Err(Stop::ReadFault) => Answer::ReadFault,
-        Err(Stop::NoMemory) => Answer::OutOfMemory,
+        Err(Stop::Refused(refusal)) => Err(Failure::Refused(refusal)),
+        Err(Stop::ReadFault) => Err(Failure::ReadFault),
+        Err(Stop::NoMemory) => Err(Failure::OutOfMemory),
     }
 }
 

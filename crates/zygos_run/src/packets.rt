@@ -6,8 +6,9 @@ ghost use Rattle.zy_command_line.specs.declared.request.Request.TheVariants as R
 ghost use Rattle.zy_pcap.specs.Made.{capture_of};
 ghost use Rattle.zy_read.specs.Seen.{side, both_sides, OfGiven};
 ghost use Rattle.zy_input.specs.Parts.{HasReadPackets};
-ghost use Rattle.zygos_run.specs.Finish.{FinishesOnce};
-ghost use Rattle.zygos_run.specs.Ends.{Ends, LeavesSink};
+ghost use Rattle.zy_shell.specs.Failure.{LeavesSink};
+ghost use Rattle.zy_shell.specs.Finish.{FinishesOnce};
+ghost use Rattle.zygos_run.specs.Ends.{Ends};
 ghost use Rattle.zygos_run.specs.Recorded.{IsOfRecordedPackets};
 
 use crate::answer::Answer;
@@ -15,6 +16,7 @@ use std::alloc::Global;
 use zy_base::{Failed, Sink, Source};
 use zy_input::{Stop, read_packets};
 use zy_pcap::{Flows, the_capture_of_a_file_is_good, write_flows};
+use zy_shell::Failure;
 
 /// Reads recorded packets, and writes the capture of those to a port.
 pub(crate) fn make_packets<S: Source, K: Sink>(
@@ -22,7 +24,7 @@ pub(crate) fn make_packets<S: Source, K: Sink>(
     port: u16,
     source: &mut S,
     sink: &mut K,
-) -> Answer
+) -> Result<Answer, Failure>
     requires port { IsPort port }
     ensures reads { S.faults source.old ≤ S.faults source.new }
     ensures writes { K.faults sink.old ≤ K.faults sink.new }
@@ -36,13 +38,13 @@ pub(crate) fn make_packets<S: Source, K: Sink>(
             let written = write_capture(sink, &flows);
             drop(flows);
             match written {
-                Ok(()) => Answer::Made,
-                Err(Failed) => Answer::WriteFault,
+                Ok(()) => Ok(Answer::Made),
+                Err(Failed) => Err(Failure::WriteFault),
             }
         }
-        Err(Stop::Refused(refusal)) => Answer::Refused(refusal),
-        Err(Stop::ReadFault) => Answer::ReadFault,
-        Err(Stop::NoMemory) => Answer::OutOfMemory,
+        Err(Stop::Refused(refusal)) => Err(Failure::Refused(refusal)),
+        Err(Stop::ReadFault) => Err(Failure::ReadFault),
+        Err(Stop::NoMemory) => Err(Failure::OutOfMemory),
     }
 }
 

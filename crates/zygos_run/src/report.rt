@@ -2,24 +2,25 @@
 ghost use Rattle.std.specs.Prelude.{◌≡◌, ◌≤◌, Some};
 ghost use Rattle.zy_command_line.specs.declared.request.Request.TheVariants as Requests;
 ghost use Rattle.zy_read.specs.Seen.{side, both_sides};
-ghost use Rattle.zygos_run.specs.Finish.{FinishesOnce};
-ghost use Rattle.zygos_run.specs.Ends.{Ends, LeavesSink};
+ghost use Rattle.zy_shell.specs.Failure.{LeavesSink};
+ghost use Rattle.zy_shell.specs.Finish.{FinishesOnce};
+ghost use Rattle.zygos_run.specs.Ends.{Ends};
 ghost use Rattle.zygos_run.specs.Checks.{ReportsTo};
 
 use crate::answer::Answer;
-use crate::writing::write_last;
 use std::alloc::Global;
 use zy_base::{Blob, Failed, NoMemory, Sink, Source};
 use zy_input::{Stop, read_journal};
 use zy_journal_reader::a_journal_is_good_exactly_where_it_is_a_spelling;
 use zy_report::report;
+use zy_shell::{Failure, write_last};
 
 /// Reads a journal, and writes the report on it.
 pub(crate) fn report_journal<S: Source, K: Sink>(
     alloc: Global,
     source: &mut S,
     sink: &mut K,
-) -> Answer
+) -> Result<Answer, Failure>
     ensures reads { S.faults source.old ≤ S.faults source.new }
     ensures writes { K.faults sink.old ≤ K.faults sink.new }
     ensures ends { Ends (Some Requests.Report)
@@ -32,13 +33,13 @@ pub(crate) fn report_journal<S: Source, K: Sink>(
             let written = write_last(sink, table.bytes());
             drop(table);
             match written {
-                Ok(()) => Answer::Made,
-                Err(Failed) => Answer::WriteFault,
+                Ok(()) => Ok(Answer::Made),
+                Err(Failed) => Err(Failure::WriteFault),
             }
         }
-        Err(Stop::Refused(refusal)) => Answer::Refused(refusal),
-        Err(Stop::ReadFault) => Answer::ReadFault,
-        Err(Stop::NoMemory) => Answer::OutOfMemory,
+        Err(Stop::Refused(refusal)) => Err(Failure::Refused(refusal)),
+        Err(Stop::ReadFault) => Err(Failure::ReadFault),
+        Err(Stop::NoMemory) => Err(Failure::OutOfMemory),
     }
 }
 

@@ -7,12 +7,12 @@ ghost use Rattle.zy_journal.specs.Journal.{IsJournal};
 ghost use Rattle.zy_command_line.specs.Range.{IsRunnable};
 ghost use Rattle.zy_command_line.specs.declared.request.Request.TheVariants as Requests;
 ghost use Rattle.zy_read.specs.Seen.{side, both_sides};
-ghost use Rattle.zygos_run.specs.Finish.{FinishesOnce};
-ghost use Rattle.zygos_run.specs.Ends.{Ends, LeavesSink};
+ghost use Rattle.zy_shell.specs.Failure.{LeavesSink};
+ghost use Rattle.zy_shell.specs.Finish.{FinishesOnce};
+ghost use Rattle.zygos_run.specs.Ends.{Ends};
 ghost use Rattle.zy_serving.specs.Headline.{front, written};
 
 use crate::answer::Answer;
-use crate::writing::finish_written;
 use std::alloc::Global;
 use std::sync::Wait;
 use std::thread::Threads;
@@ -21,9 +21,9 @@ use zy_capture::{Outputs, write_replies};
 use zy_command_line::{Out, Run};
 use zy_feed::Stop;
 use zy_finish::Finished;
-use zy_input::Refusal;
 use zy_journal::{Journal, write_journal};
 use zy_serving::serve_capture;
+use zy_shell::{Failure, Refusal, finish_written};
 
 /// Serves a capture, and writes the replies, and the journal if it is requested.
 pub(crate) fn run_capture<R: Threads + Wait + Sync, S: Source, K: Sink, G: Gate + Sync>(
@@ -34,7 +34,7 @@ pub(crate) fn run_capture<R: Threads + Wait + Sync, S: Source, K: Sink, G: Gate 
     source: &mut S,
     sink: &mut K,
     gate: &G,
-) -> Answer
+) -> Result<Answer, Failure>
     requires runnable { IsRunnable run }
     ensures reads { S.faults source.old ≤ S.faults source.new }
     ensures writes { K.faults sink.old ≤ K.faults sink.new }
@@ -45,12 +45,12 @@ pub(crate) fn run_capture<R: Threads + Wait + Sync, S: Source, K: Sink, G: Gate 
 {
     match serve_capture(rt, alloc, run, source, gate) {
         Ok(done) => match write_all(sink, out, &done) {
-            Ok(()) => Answer::Served(done.journal),
-            Err(Failed) => Answer::WriteFault,
+            Ok(()) => Ok(Answer::Served(done.journal)),
+            Err(Failed) => Err(Failure::WriteFault),
         },
-        Err(Stop::Refused(fault)) => Answer::Refused(Refusal::Capture(fault)),
-        Err(Stop::ReadFault) => Answer::ReadFault,
-        Err(Stop::NoMemory) => Answer::OutOfMemory,
+        Err(Stop::Refused(fault)) => Err(Failure::Refused(Refusal::Capture(fault))),
+        Err(Stop::ReadFault) => Err(Failure::ReadFault),
+        Err(Stop::NoMemory) => Err(Failure::OutOfMemory),
     }
 }
 

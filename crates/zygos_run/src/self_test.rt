@@ -4,13 +4,13 @@ ghost use Rattle.zy_base.specs.Outside.{WritesLast};
 ghost use Rattle.zy_command_line.specs.Range.{IsMakeable, IsRunnable};
 ghost use Rattle.zy_command_line.specs.declared.request.Request.TheVariants as Requests;
 ghost use Rattle.zy_read.specs.Seen.{Side, side, both_sides};
-ghost use Rattle.zygos_run.specs.Finish.{FinishesOnce};
-ghost use Rattle.zygos_run.specs.Ends.{Ends, LeavesSink};
+ghost use Rattle.zy_shell.specs.Failure.{LeavesSink};
+ghost use Rattle.zy_shell.specs.Finish.{FinishesOnce};
+ghost use Rattle.zygos_run.specs.Ends.{Ends};
 ghost use Rattle.zygos_run.specs.Lines.{summary_line};
 
 use crate::answer::Answer;
-use crate::lines::write_summary;
-use crate::writing::finish_written;
+use crate::summary::write_summary;
 use std::alloc::Global;
 use std::sync::Wait;
 use std::thread::Threads;
@@ -18,6 +18,7 @@ use zy_base::{Failed, Gate, NoMemory, Sink};
 use zy_command_line::{Run, Traffic};
 use zy_run::Summary;
 use zy_self::run_test;
+use zy_shell::{Failure, finish_written};
 
 /// Serves generated traffic, checks the result, and writes the line of its numbers.
 pub(crate) fn test_traffic<R: Threads + Wait + Sync, K: Sink, G: Gate + Sync>(
@@ -27,7 +28,7 @@ pub(crate) fn test_traffic<R: Threads + Wait + Sync, K: Sink, G: Gate + Sync>(
     run: Run,
     sink: &mut K,
     gate: &G,
-) -> Answer
+) -> Result<Answer, Failure>
     requires makeable { IsMakeable traffic }
     requires runnable { IsRunnable run }
     ensures writes { K.faults sink.old ≤ K.faults sink.new }
@@ -37,10 +38,10 @@ pub(crate) fn test_traffic<R: Threads + Wait + Sync, K: Sink, G: Gate + Sync>(
     ensures finished { FinishesOnce result (K.finishes sink.old) (K.finishes sink.new) (K.is_finished sink.new) }
 {
     match run_test(rt, alloc, traffic, run, gate) {
-        Err(NoMemory) => Answer::OutOfMemory,
+        Err(NoMemory) => Err(Failure::OutOfMemory),
         Ok((journal, summary)) => match write_line(sink, &summary) {
-            Ok(()) => Answer::Tested(journal, summary),
-            Err(Failed) => Answer::WriteFault,
+            Ok(()) => Ok(Answer::Tested(journal, summary)),
+            Err(Failed) => Err(Failure::WriteFault),
         },
     }
 }

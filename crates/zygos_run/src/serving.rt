@@ -1,24 +1,26 @@
 //! The top call.
-ghost use Rattle.std.specs.Prelude.{◌≡◌, ◌≤◌, None};
+ghost use Rattle.std.specs.Prelude.{◌≡◌, ◌≤◌, None, Err, IfOk};
 ghost use Rattle.zy_base.specs.Outside.{Rose};
 ghost use Rattle.zy_command_line.specs.Request.{request_of};
-ghost use Rattle.zygos_run.specs.Lines.{answer_line};
 ghost use Rattle.zy_read.specs.Seen.{side, both_sides, NoneRose};
-ghost use Rattle.zygos_run.specs.Ends.{IsSuccess, DoneHolds, HasPart};
-ghost use Rattle.zygos_run.specs.Ends.{IsFaultOf, ReadsInput, ReadsNothing, LeavesSink};
-ghost use Rattle.zygos_run.specs.Served.{HeadlineHolds, IsToldGood, IsToldBad};
-ghost use Rattle.zygos_run.specs.Served.{IsDoneOr, IsRefusedOr, IsUsageOr};
-ghost use Rattle.zygos_run.specs.Finish.{FinishesOnce};
-ghost use Rattle.zygos_run.specs.Said.{Said};
+ghost use Rattle.zy_shell.specs.declared.failure.Failure.TheVariants.{Usage, Refused, ReadFault, WriteFault};
+ghost use Rattle.zy_shell.specs.Asked.{IsFaultOf, ReadsInput, ReadsNothing, IsToldGood, IsToldBad};
+ghost use Rattle.zy_shell.specs.Failure.{LeavesSink, IsThisOr};
+ghost use Rattle.zy_shell.specs.Finish.{FinishesOnce};
+ghost use Rattle.zy_shell.specs.Said.{Said};
+ghost use Rattle.zygos_run.specs.Ends.{DoneHolds, HasPart};
+ghost use Rattle.zygos_run.specs.Lines.{answer_line};
+ghost use Rattle.zygos_run.specs.Served.{HeadlineHolds, IsDoneOr};
+ghost use Rattle.zygos_run.specs.Task.{input_asked};
 
 use crate::answer::Answer;
 use crate::command::carry_out;
-use crate::saying::say;
 use std::alloc::Global;
 use std::sync::Wait;
 use std::thread::Threads;
 use zy_base::{Blob, Gate, Sink, Source};
 use zy_input::{parts_have_no_fault, there_is_one_part_fault};
+use zy_shell::{Failure, say};
 
 /// Executes the command that the words ask for.
 ///
@@ -32,8 +34,8 @@ use zy_input::{parts_have_no_fault, there_is_one_part_fault};
 /// of the source, and writes a table of what its entries count, by shard. The sink is finished
 /// once, after the last write.
 ///
-/// The line of an answer that is no success goes to `says`; a failure there changes nothing. `gate`
-/// is passed once for each command, when it begins. The answer may always be `OutOfMemory`, but
+/// The line of a failure goes to `says`; a failure there changes nothing. `gate`
+/// is passed once for each command, when it begins. The answer may always be `Err(OutOfMemory)`, but
 /// only before the first byte is written.
 pub fn serve<R: Threads + Wait + Sync, S: Source, K: Sink, E: Sink, G: Gate + Sync>(
     rt: &R,
@@ -43,35 +45,35 @@ pub fn serve<R: Threads + Wait + Sync, S: Source, K: Sink, E: Sink, G: Gate + Sy
     sink: &mut K,
     says: &mut E,
     gate: &G,
-) -> Answer
+) -> Result<Answer, Failure>
     // The headline: what was done, for the bytes that the source reported, and for those that it gave.
-    ensures headline { IsSuccess result → HeadlineHolds (request_of words.now)
-        (both_sides (side S.rest S.faults source.old source.new) (side K.holds K.faults sink.old sink.new)) result }
-    ensures done { IsSuccess result → DoneHolds (request_of words.now)
-        (both_sides (side S.rest S.faults source.old source.new) (side K.holds K.faults sink.old sink.new)) result }
+    ensures headline { IfOk result (λ answer. HeadlineHolds (request_of words.now)
+        (both_sides (side S.rest S.faults source.old source.new) (side K.holds K.faults sink.old sink.new)) answer) }
+    ensures done { IfOk result (λ answer. DoneHolds (request_of words.now)
+        (both_sides (side S.rest S.faults source.old source.new) (side K.holds K.faults sink.old sink.new)) answer) }
 
     // The other answers, each with its cause.
-    ensures usage { result ≡ Answer.Usage → request_of words.now ≡ None }
-    ensures unlawful { request_of words.now ≡ None → IsUsageOr result }
-    ensures refused { (r : _) → result ≡ Answer.Refused r
-        → IsFaultOf (request_of words.now) (S.rest source.old) r }
-    ensures read_fault { result ≡ Answer.ReadFault
-        → ReadsInput (request_of words.now) × Rose (S.faults source.old) (S.faults source.new) }
-    ensures write_fault { result ≡ Answer.WriteFault → Rose (K.faults sink.old) (K.faults sink.new) }
-    ensures write_part { result ≡ Answer.WriteFault → HasPart (request_of words.now)
+    ensures usage { result ≡ Err Usage → request_of words.now ≡ None }
+    ensures unlawful { request_of words.now ≡ None → IsThisOr Usage result }
+    ensures refused { (r : _) → result ≡ Err (Refused r)
+        → IsFaultOf (input_asked (request_of words.now)) (S.rest source.old) r }
+    ensures read_fault { result ≡ Err ReadFault
+        → ReadsInput (input_asked (request_of words.now)) × Rose (S.faults source.old) (S.faults source.new) }
+    ensures write_fault { result ≡ Err WriteFault → Rose (K.faults sink.old) (K.faults sink.new) }
+    ensures write_part { result ≡ Err WriteFault → HasPart (request_of words.now)
         (both_sides (side S.rest S.faults source.old source.new) (side K.holds K.faults sink.old sink.new)) }
 
     // When the answer must come, unless memory runs out.
-    ensures complete { IsToldGood (request_of words.now) (S.rest source.old)
+    ensures complete { IsToldGood (input_asked (request_of words.now)) (S.rest source.old)
         → NoneRose (both_sides (side S.rest S.faults source.old source.new) (side K.holds K.faults sink.old sink.new))
         → IsDoneOr (request_of words.now) result }
-    ensures refuses { (r : _) → IsToldBad (request_of words.now) (S.rest source.old) r
+    ensures refuses { (r : _) → IsToldBad (input_asked (request_of words.now)) (S.rest source.old) r
         → NoneRose (both_sides (side S.rest S.faults source.old source.new) (side K.holds K.faults sink.old sink.new))
-        → IsRefusedOr r result }
+        → IsThisOr (Refused r) result }
 
     // What stays.
     ensures sink_kept { LeavesSink result → sink.new ≡ sink.old }
-    ensures source_kept { ReadsNothing (request_of words.now) → source.new ≡ source.old }
+    ensures source_kept { ReadsNothing (input_asked (request_of words.now)) → source.new ≡ source.old }
     ensures reads { S.faults source.old ≤ S.faults source.new }
     ensures writes { K.faults sink.old ≤ K.faults sink.new }
 
@@ -85,6 +87,11 @@ pub fn serve<R: Threads + Wait + Sync, S: Source, K: Sink, E: Sink, G: Gate + Sy
     parts_have_no_fault();
     there_is_one_part_fault();
     let answer = carry_out(rt, alloc, words, source, sink, gate);
-    say(says, &answer);
+    say(
+        says,
+        b"zygos",
+        b"run|check|gen|self|pcap|report [options]",
+        &answer,
+    );
     answer
 }

@@ -1,4 +1,0 @@
-pub mod CoreLemmas
-pub mod TurnLemmas
-pub mod AloneLemmas
-pub mod OrderLemmas

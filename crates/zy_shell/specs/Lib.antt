@@ -1,0 +1,10 @@
+pub mod Line
+pub mod VerdictLine
+pub mod Input
+pub mod Asked
+pub mod Failure
+pub mod FaultLine
+pub mod FailureLine
+pub mod Said
+pub mod Finish
+pub mod Stops
