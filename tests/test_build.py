@@ -358,24 +358,25 @@ def answers_before_proofs(one):
 
 @in_repository
 def two_programs(one):
-    """When ./zygos builds zygos and linear: whichever of them is not built, with the other."""
+    """./zygos builds zygos or linear, with the crates that it needs, and no other."""
     one.furnish()
     for name in ("times", "linear"):
         one.write(f"crates/{name}/src/{'main' if name == 'linear' else 'lib'}.rt", "")
     one.write("crates.txt", "low: std\nhigh: low\ntimes: low\n# program\nzygos: high low\nlinear: times low\n# laws\nhigh_laws: high\n")
     one.write("tools/repo/shares.txt", "low 30\nhigh 30\ntimes 30\nlinear 30\nzygos 30\n")
     linear, zygos = "linear: times low times: low", "zygos: high low high: low low: std"
-    both = f"ci in a copy|crates: {zygos} {linear}|"
-    alone = "linear: low is proved, 1 of 3: elapsed|--shards=2|summed|summed|summed|ci in a copy|crates: linear: times low times: low low: std|"
-    one.says("both are proved together", f"linear: low is proved, 1 of 5: elapsed|--shards=2|summed|summed|{both}",
-             "zygos linear --shards=2 | tr '\\n' '|'")
+    alone = "linear: low is proved, 1 of 3: elapsed|"
+    copied = f"ci in a copy|crates: {linear} low: std|"
+    one.says("linear is proved with its crates", f"{alone}--shards=2|summed|{copied}", "zygos linear --shards=2 | tr '\\n' '|'")
+    one.says("zygos with its own", f"{LOW}report|summed|ci in a copy|crates: {zygos}|", "zygos report | tr '\\n' '|'")
     one.says("then both start at once", "report|--shards=3|", "{ zygos report; zygos linear --shards=3; } | tr '\\n' '|'")
     one.shell('rm "$made"/out/*.built')
-    one.says("and so if zygos is built first", f"{LOW.replace('3', '5')}summed|summed|{both}", "zygos build | tr '\\n' '|'")
+    one.says("a build proves one after the other", f"{LOW}{alone}summed|ci in a copy|crates: {zygos}|summed|{copied}",
+             "zygos build | tr '\\n' '|'")
     one.says("both start at once again", "report|--shards=3|", "{ zygos report; zygos linear --shards=3; } | tr '\\n' '|'")
     one.write("crates/times/src/new.rt", "")
     one.says("a crate that only linear uses is no cause to prove zygos", "check|summed|", "zygos check | tr '\\n' '|'")
-    one.says("but to prove linear", alone, "zygos linear --shards=2 | tr '\\n' '|'")
+    one.says("but to prove linear", f"{alone}--shards=2|summed|summed|summed|{copied}", "zygos linear --shards=2 | tr '\\n' '|'")
     one.says("with --keep each is proved in its folder", "all check in zygos|run in zygos|all check in linear|run in linear|",
              "zygos build --keep | sed '/summed/d' | tr '\\n' '|'")
     one.write("crates/times/src/new.rt", "//! another")
