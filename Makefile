@@ -9,7 +9,7 @@ CFLAGS ?= -O2
 PREFIX ?= /usr/local
 OUT ?= out/bin
 
-PROGRAMS := $(shell tools/build --programs)
+PROGRAMS := $(patsubst dist/%.built,%,$(wildcard dist/*.built))
 TOOLS := capture compare inline judge lie load packets part picture play record show top warm
 PAGES := README.md LICENSE NOTICE docs examples
 
@@ -23,6 +23,7 @@ TESTS := test_tools test_odd test_show test_top test_picture test_compare test_s
 	test_play test_packets
 
 all: $(PROGRAMS:%=$(OUT)/%)
+	@[ -n '$(PROGRAMS)' ] || { echo 'dist/ has no programs; tools/release makes them' >&2; exit 1; }
 
 # dist/ must be of this source
 $(OUT)/%: dist/%.s dist/%.built dist/rt.c
@@ -31,7 +32,7 @@ $(OUT)/%: dist/%.s dist/%.built dist/rt.c
 	$(CC) $(CFLAGS) $(LDFLAGS) -o $@ dist/$*.s dist/rt.c
 
 check: all
-	tests/gate 'tools/test --program $(OUT)/zygos $(TESTS)' 'tests/dist --at $(OUT)'
+	tests/gate 'tools/test --program $(OUT)/zygos $(TESTS)' 'tests/dist --at $(OUT) $(PROGRAMS)'
 
 install: all
 	install -d '$(BIN)' '$(LIB)/bin' '$(LIB)/tools/repo' '$(MAN)' '$(DOC)'

@@ -245,6 +245,11 @@ class Compared(Dist):
         status, said = self.confirm()
         self.assertEqual((1, "zygos: dist/ is not of this source: crates/low/src/lib.rt has changed since"), (status, said.split(";")[0]))
 
+    def test_a_program_of_dist_is_not_compared_with_itself(self):
+        self.run_it("zygos", "check", has_rt=False)
+        self.assertEqual((3, "zygos: not compared with what dist/ gives, as it was itself taken from there; ./zygos build proves it\n"),
+                         self.confirm())
+
     def test_another_kit_is_left_out(self):
         sums = self.read(f"{self.made}/dist/zygos.built")
         self.write("dist/zygos.built", sums.replace("kit-1", "kit-0"))

@@ -6,5 +6,4 @@ pub mod ControlLemmas
 pub mod RestTokenLemmas
 pub mod BlockLemmas
 pub mod HomeLemmas
-pub mod RoundLemmas
 pub mod ServedReceivedLemmas

@@ -4,4 +4,3 @@ pub mod OnePlace
 pub mod OneStep
 pub mod Done
 pub mod Homes
-pub mod Round

@@ -10,9 +10,10 @@ use std::sync::Wait;
 use std::thread::Threads;
 use zy_base::{Blob, CallNumbers, MemSource};
 use zy_core::{Cores, Running, Shared};
-use zy_drive::{Driven, FirstGroup, drive_groups};
+use zy_drive::{FirstGroup, drive_groups};
 use zy_feed::{CaptureFeeder, Inlets, Intake};
 use zy_park::Bells;
+use zy_rounds::Driven;
 use zy_rx::{Fed, Feeder, Outlet};
 use zy_setup::make_run;
 

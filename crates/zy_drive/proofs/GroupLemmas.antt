@@ -8,11 +8,11 @@ use Rattle.zy_core.specs.declared.logical_core.Core.{Core}
 use Rattle.zy_core.specs.Share.{Sharing}
 use Rattle.zy_core.specs.Core.{Cored, Identity, identity_of, Fits}
 use Rattle.zy_core.specs.Cores.{identities, EachFits, EachSettled}
-use Rattle.zy_drive.specs.Deal.{lists_of, Deals, gathered, Each, EachOfAll}
-use Rattle.zy_drive.specs.declared.threads.seat.Seat.{Seat}
+use Rattle.zy_deal.specs.Deal.{lists_of, Deals, gathered, Each, EachOfAll}
+use Rattle.zy_drive.specs.declared.seat.Seat.{Seat}
 use Rattle.zy_drive.specs.Seat.{seat_identities, all_of_seats, all_of_groups, AllFit, AllSettled}
 use Rattle.zy_core.proofs.ListLemmas.{get_map, map_get}
-use Rattle.zy_drive.proofs.DealLemmas.{dealt_each, gathers_same, gathered_each}
+use Rattle.zy_deal.proofs.DealLemmas.{dealt_each, gathers_same, gathered_each}
 
 -- ---- what stays
 
@@ -97,3 +97,12 @@ fit_rest s (g ∷ gs) hs rest all = subst (λ (l : List (Vec Core Global)). AllF
 pub none_left : (bs all : List (List Identity)) (gs : List (Vec Core Global)) → length gs ≡ 0 → bs ++ all_of_groups gs ≡ all → bs ≡ all
 none_left bs all [] none is = sym (append-nil bs) ∙ is
 none_left bs all (g ∷ gs) none is = absurd (omega arith)
+
+-- ---- members that were changed
+
+-- members of which one measure is now what another one was
+pub related_map : {X Y : Type 0} (f g : X → Y) (xs ys : List X) → length xs ≡ length ys → ((i : ℕ) (x y : X) → slice_get xs i ≡ Some x → slice_get ys i ≡ Some y → g y ≡ f x) → map g ys ≡ map f xs
+related_map f g [] [] len each = refl
+related_map f g [] (y ∷ ys) len each = absurd (omega arith)
+related_map f g (x ∷ xs) [] len each = absurd (omega arith)
+related_map f g (x ∷ xs) (y ∷ ys) len each = λ i. each 0 x y refl refl i ∷ related_map f g xs ys (omega arith) (λ j z w. each (suc j) z w) i

@@ -1,4 +1,2 @@
-pub mod DealLemmas
-pub mod CoreLemmas
-pub mod AloneLemmas
 pub mod GroupLemmas
+pub mod RestLemmas

@@ -1,8 +1,7 @@
--- How the cores that rest are called up. No public clause cites this module.
-use Rattle.std.specs.Prelude.{◌≡◌, ℕ, ◌==◌, if◌then◌else◌, Bool, true, false, List, Some, slice_get}
+-- How the caller calls up the cores that rest. No public clause cites this module.
+use Rattle.std.specs.Prelude.{◌≡◌, ℕ, ◌==◌, if◌then◌else◌, Bool, true, false}
 use Rattle.zy_control.specs.Pass.{Held, seeing_sleepers}
-use Rattle.zy_park.specs.Pass.{Passed, Rooted, ringing_each, ringing_each_from}
-use Rattle.zy_core.specs.Core.{Cored, stepped}
+use Rattle.zy_park.specs.Pass.{Rooted, ringing_each_from}
 
 -- what the pass has seen of sleepers
 abbrev pub sleepers_of : Held → ℕ
@@ -17,11 +16,3 @@ abbrev pub RingsIf : Bool → Held → Held → Rooted → Rooted → Type 0
 RingsIf true watch watch' root root' =
     (watch' ≡ seeing_sleepers (sleepers_of watch') watch) × (root' ≡ rung_from (sleepers_of watch') root)
 RingsIf false watch watch' root root' = (watch' ≡ watch) × (root' ≡ root)
-
--- the first core loaded sleepers, and its pass at the bells then rang each core whose bit was 1
-pub record CallsUp (before after : List Cored) (pass pass' : Passed) : Type 0 where
-  pub core : Cored
-  pub sleepers : ℕ
-  pub first : slice_get before 0 ≡ Some core
-  pub loaded : slice_get after 0 ≡ Some (stepped (seeing_sleepers sleepers core.control) core)
-  pub rung : pass' ≡ ringing_each sleepers pass

@@ -1,7 +1,5 @@
-pub mod Round
 pub mod Drive
-pub mod Deal
-pub mod Group
+pub mod Resters
 pub mod CallUp
 pub mod Seat
 pub mod Same

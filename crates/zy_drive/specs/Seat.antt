@@ -1,16 +1,17 @@
 -- Where groups of cores are while threads drive them. No public clause cites this module.
-use Rattle.std.specs.Prelude.{List, [], ◌∷◌, map, Bool, true, false, ◌&&◌, ◌||◌, not, Vec, ⊤}
-use Rattle.zy_drive.specs.declared.feeding.Step.{Step}
-use Rattle.zy_drive.specs.declared.threads.tending.Next.{Next}
-use Rattle.zy_drive.specs.declared.threads.tending.Next.TheVariants.{Made, Broken, Stopped}
+use Rattle.std.specs.Prelude.{ℕ, ◌+◌, nat_lt, List, [], ◌∷◌, map, Bool, true, false, ◌&&◌, ◌||◌, not, if◌then◌else◌, Vec, ⊤}
+use Rattle.zy_rounds.specs.declared.feeding.Step.{Step}
+use Rattle.zy_drive.specs.declared.tending.Next.{Next}
+use Rattle.zy_drive.specs.declared.tending.Next.TheVariants.{Made, Broken, Stopped}
 use Rattle.std.specs.declared.alloc.Global.{Global}
 use Rattle.zy_core.specs.declared.logical_core.Core.{Core}
-use Rattle.zy_drive.specs.declared.threads.seat.Seat.{Seat}
-use Rattle.zy_drive.specs.declared.threads.seat.Seat.TheVariants.{Away, Here}
+use Rattle.zy_drive.specs.declared.seat.Seat.{Seat}
+use Rattle.zy_drive.specs.declared.seat.Seat.TheVariants.{Away, Here}
 use Rattle.zy_core.specs.Share.{Sharing}
 use Rattle.zy_core.specs.Core.{Identity}
 use Rattle.zy_core.specs.Cores.{identities, EachFits, EachSettled}
-use Rattle.zy_drive.specs.Group.{have_all_blocks}
+use Rattle.zy_rounds.specs.Turns.{turns_of, next_turn}
+use Rattle.zy_rounds.specs.Counting.{have_all_blocks}
 
 -- what stays of the cores of a seat
 abbrev pub seat_identities : Seat → List Identity
@@ -55,8 +56,22 @@ are_done_here [] = true
 are_done_here (Away handle ∷ seats) = are_done_here seats
 are_done_here (Here group ∷ seats) = group.done && are_done_here seats
 
+-- how many turns each core has taken that is with the caller in this seat
+abbrev pub turns_here : Seat → List ℕ
+turns_here (Away handle) = []
+turns_here (Here group) = turns_of group.cores
+
+-- how many it will have taken after a round of the caller's cores: one more, unless its group is done
+abbrev pub turns_due : Seat → List ℕ
+turns_due (Away handle) = []
+turns_due (Here group) = if group.done then turns_of group.cores else map next_turn (turns_of group.cores)
+
 -- a fact about a step of the feeder, if stop was 0 and the feeder is not broken
 abbrev pub IfMade : Next → (Step → Type 0) → Type 0
 IfMade (Made step) P = P step
 IfMade Broken P = ⊤
 IfMade Stopped P = ⊤
+
+-- how many items were offered in a row since the caller's cores took a turn: 0 if they are to take one
+abbrev pub items_after : ℕ → Bool → ℕ
+items_after items offered = if offered && nat_lt items 64 then items + 1 else 0

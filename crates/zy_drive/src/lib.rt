@@ -1,15 +1,19 @@
-//! Driving cores: rounds of turns on one thread, and groups of cores on many threads.
+//! Driving groups of cores on many threads, while the caller feeds them.
 #![tactic(auto)]
 
-mod driven;
-mod feeding;
+mod caller;
+mod first_group;
 mod handed_back;
-mod ordered;
-mod round;
-mod rounds;
+mod lent;
+mod resters;
+mod room;
+mod scoped;
+mod seat;
+mod seats;
+mod tending;
 mod threads;
 
-pub use driven::Driven;
+pub use first_group::FirstGroup;
 pub use handed_back::take_back;
-pub use ordered::drive_ordered;
-pub use threads::{FirstGroup, drive, drive_groups, rest_of};
+pub use resters::rest_of;
+pub use threads::{drive, drive_groups};

@@ -1,45 +1,28 @@
 //! Cores on threads, fed by the caller.
 ghost use Rattle.std.specs.Prelude.{◌≡◌, ◌↔◌, ◌≤◌, true, length, vec_len, vec_capacity, IfOk};
-ghost use Rattle.zy_drive.specs.Deal.{gathered, lists_of, AreEmpty, HaveRoom};
+ghost use Rattle.zy_deal.specs.Deal.{gathered, lists_of, AreEmpty, HaveRoom};
 ghost use Rattle.zy_core.specs.Cores.{identities, AreCores, EachSettled};
-ghost use Rattle.zy_drive.specs.Drive.{returned_cores, IsSettledRun, IsBrokenRun};
+ghost use Rattle.zy_rounds.specs.Driven.{returned_cores, IsSettledRun, IsBrokenRun};
 ghost use Rattle.zy_park.specs.Pass.{GaveNone};
 ghost use Rattle.zy_rx.specs.Feed.{rings_of};
 
-mod alone;
-mod caller;
-mod dealing;
-mod driving;
-mod group;
-mod lent;
-mod patience;
-mod resters;
-mod resting;
-mod room;
-mod scoped;
-mod seat;
-mod seats;
-mod tending;
-
-use crate::driven::Driven;
+use crate::first_group::FirstGroup;
 use crate::handed_back::take_back;
-use crate::threads::dealing::{collect, deal};
-use crate::threads::driving::Driving;
-pub use crate::threads::driving::FirstGroup;
-use crate::threads::lent::Lent;
-use crate::threads::resters::Resters;
-pub use crate::threads::resters::rest_of;
-use crate::threads::room::Room;
-use crate::threads::scoped::{Ran, in_scope};
-use crate::threads::seat::Seat;
-use crate::threads::tending::How;
+use crate::lent::Lent;
+use crate::resters::{Resters, rest_of};
+use crate::room::Room;
+use crate::scoped::{Ran, in_scope};
+use crate::seat::Seat;
+use crate::tending::How;
 use std::alloc::Global;
 use std::sync::Wait;
 use std::sync::atomic::AtomicU64;
 use std::thread::Threads;
 use zy_base::{Gate, NoMemory};
 use zy_core::{Core, Cores, Shared};
+use zy_deal::{collect, deal};
 use zy_park::{BellRoot, Bells};
+use zy_rounds::{Driven, Driving};
 use zy_rx::Feeder;
 
 /// Drives the cores on `threads` threads while the caller feeds them: thread `t` has the cores `i`
@@ -131,9 +114,9 @@ pub fn drive_groups<R: Threads + Wait + Sync, F: Feeder, G: Gate + Sync>(
     };
     deal(items, &mut room.groups);
     let leave = AtomicU64::new(0);
-    let driving = Driving::new(rt, shared, bells, gate, &leave);
+    let driving = Driving::new(rt, shared, bells, gate);
     let lent = Lent { feeder };
-    let (lent, ran) = in_scope(&driving, first, room, resters, root, lent);
+    let (lent, ran) = in_scope(&driving, first, &leave, room, resters, root, lent);
     let Lent { feeder } = lent;
     take_back(feeder);
     let Ran {

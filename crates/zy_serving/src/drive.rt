@@ -1,13 +1,14 @@
 //! Driving the cores of a run while its capture is fed.
-ghost use Rattle.std.specs.Prelude.{◌≡◌, ◌⊎◌, ◌≤◌, ◌<◌, length, Some, IfOk, IfErr};
+ghost use Rattle.std.specs.Prelude.{◌≡◌, ◌⊎◌, ◌≤◌, ◌<◌, length, Some, IfOk, IfErr, IsOk};
 ghost use Rattle.zy_read.specs.declared.stop.Stop.TheVariants as Stops;
 ghost use Rattle.zy_feed.specs.Reads.{HasBegun, StopsIntakeBy};
 ghost use Rattle.zy_feed.specs.Feeding.{HasFedAll};
 ghost use Rattle.zy_rx.specs.Feed.{rings_of, sent_by};
 ghost use Rattle.zy_command_line.specs.Range.{IsRunnable};
 ghost use Rattle.zy_core.specs.Cores.{AreCores, AreInlets, EachSettled, identities};
-ghost use Rattle.zy_drive.specs.Drive.{idle_turns_before_rest, IsSettledRun, IsBrokenRun};
-ghost use Rattle.zy_drive.specs.Drive.{returned_cores};
+ghost use Rattle.zy_rounds.specs.Driven.{returned_cores, IsSettledRun, IsBrokenRun};
+ghost use Rattle.zy_drive.specs.Drive.{idle_turns_before_rest};
+ghost use Rattle.zy_serving.specs.Stopping.{stop_after};
 ghost use Rattle.zy_core.specs.Running.{rings_in, IsSameRun};
 ghost use Rattle.zy_feed.specs.declared.intake.Header.{Header};
 ghost use Rattle.zy_setup.specs.New.{AreUnusedRings};
@@ -19,12 +20,13 @@ use std::thread::Threads;
 use zy_base::{Gate, NoMemory, Source};
 use zy_command_line::Run;
 use zy_core::{Cores, Running, Shared};
-use zy_drive::{Driven, FirstGroup, drive_groups, drive_ordered, rest_of, take_back};
+use zy_drive::{FirstGroup, drive_groups, rest_of, take_back};
 use zy_feed::{
     CaptureFeeder, Inlets, Intake, Stop, a_broken_feeder_has_its_cause,
     a_feeder_that_ended_has_offered_the_capture,
 };
 use zy_park::Bells;
+use zy_rounds::{Driven, drive_ordered};
 use zy_rx::Feeder;
 
 /// Feeds the capture to the cores, and drives them until all are settled.
@@ -93,6 +95,9 @@ pub(crate) fn drive_capture<R: Threads + Wait + Sync, S: Source, G: Gate + Sync>
 // stopped for `stop`, if it did.
 fn settled_cores(driven: Driven, stop: Option<Stop>) -> Result<Cores, (Cores, Stop)>
     ensures ok { IfOk result (λ cores. IsSettledRun driven × (returned_cores driven ≡ cores)) }
+    ensures succeeds { IsSettledRun driven → IsOk result }
+    ensures returned { IfErr result (λ e. e.0 ≡ returned_cores driven) }
+    ensures cause { IfErr result (λ e. e.1 ≡ stop_after driven stop) }
     ensures err { IfErr result (λ e. (stop ≡ Some e.1) ⊎ (e.1 ≡ Stops.NoMemory)) }
 {
     match driven {

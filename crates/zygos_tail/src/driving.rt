@@ -14,8 +14,9 @@ use std::thread::Threads;
 use std::time::Clock;
 use zy_base::NoMemory;
 use zy_core::{Cores, Running};
-use zy_drive::{Driven, drive};
+use zy_drive::drive;
 use zy_park::Bells;
+use zy_rounds::Driven;
 use zy_setup::make_run;
 
 /// Serves the requests of a load on a thread for each core, with these service times, and prints

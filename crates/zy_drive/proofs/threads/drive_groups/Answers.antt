@@ -1,7 +1,7 @@
 use Rattle.std.proofs.Common.{◌≡◌, ◌∙◌, List, length, ap, sym, subst, arith, rules}
 use Rattle.zy_core.specs.Core.{Cored}
 use Rattle.zy_core.specs.Cores.{identities, EachFits}
-use Rattle.zy_drive.specs.Drive.{returned_cores}
+use Rattle.zy_rounds.specs.Driven.{returned_cores}
 use Rattle.zy_drive.specs.Seat.{all_of_groups, AllFit}
 use Rattle.zy_drive.proofs.GroupLemmas.{dealt_fit, gather_same, gather_settled}
 use Rattle.zy_drive.proofs.threads.drive_groups.Goals as goal

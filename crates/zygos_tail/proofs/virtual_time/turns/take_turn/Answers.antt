@@ -1,5 +1,5 @@
 use Rattle.std.proofs.Common.{refl}
-use Rattle.zy_drive.proofs.CoreLemmas.{fits_there, same_there}
+use Rattle.zy_rounds.proofs.CoreLemmas.{fits_there, same_there}
 use Rattle.zygos_tail.proofs.virtual_time.turns.take_turn.Goals as goal
 
 pub timed_turn-requires : goal.timed_turn-requires

@@ -1,0 +1,6 @@
+//! Dealing items to groups in turn, and gathering them again in their order.
+#![tactic(auto)]
+
+mod dealing;
+
+pub use dealing::{collect, deal, empty_groups};

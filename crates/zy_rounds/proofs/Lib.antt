@@ -1,0 +1,4 @@
+pub mod CoreLemmas
+pub mod TurnLemmas
+pub mod AloneLemmas
+pub mod OrderLemmas

@@ -1,0 +1,9 @@
+pub mod Same
+pub mod Order
+pub mod Round
+pub mod Turns
+pub mod Counting
+pub mod Naps
+pub mod Group
+pub mod Resting
+pub mod Driven
