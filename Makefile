@@ -20,7 +20,7 @@ DOC := $(DESTDIR)$(PREFIX)/share/doc/zygos
 
 # the tests of the tools need Python alone; they leave out what needs a memcached or tcpdump, where there is none
 TESTS := test_tools test_odd test_show test_top test_picture test_compare test_shared test_judging test_orders test_record \
-	test_play test_packets
+	test_play test_packets test_trying
 
 all: $(PROGRAMS:%=$(OUT)/%)
 	@[ -n '$(PROGRAMS)' ] || { echo 'dist/ has no programs; tools/release makes them' >&2; exit 1; }

@@ -12,7 +12,7 @@ usage: tools/load [--clients N] [--commands N] [--keys N] [--in-flight N] [--see
 --kinds KINDS  what clients send (default 'get get get get get get get mget mget set set add delete')
 
 PLACE is HOST:PORT, [HOST]:PORT, or a Unix socket: a path with a slash, or unix:PATH. If nobody listens there yet, the
-clients wait up to ten seconds. Each sends one command, or up to --in-flight, and waits for the answers. Some keys are
+clients wait for half a minute. Each sends one command, or up to --in-flight, and waits for the answers. Some keys are
 used much more often than others. A last line says how many clients and commands there were.
 
 The kinds are names of commands, separated by spaces. Each client chooses at random among them, so a name given twice
@@ -47,7 +47,7 @@ OPTIONS = {**dict.fromkeys(("--clients", "--commands", "--keys", "--in-flight"),
            "--kinds": KINDS_OF}
 SHOWN = re.compile(rb"VALUE ([^ ]+) [0-9]+ [0-9]+ ([0-9]+)\r\n")
 # the seconds in which a server may begin to listen, and after how many the clients look again
-PATIENCE, PAUSE = 10, 0.05
+PATIENCE, PAUSE = 30, 0.05
 PIECE = 65536
 
 

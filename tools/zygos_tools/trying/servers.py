@@ -65,7 +65,7 @@ class Stale(Server):
 
     def __init__(self, seed: int) -> None:
         super().__init__(seed)
-        self.copies: deque[dict[bytes, Item]] = deque([{}], CHANGES + 1)
+        self.copies: deque[dict[bytes, Item]] = deque([{}], CHANGES)
 
     async def reply(self, call: Call) -> Reply:
         if call.name == "get" and self.happens(0.1):
