@@ -31,12 +31,12 @@ use Rattle.mc_answers.proofs.ReplyLemmas.{reply_shaped, set_shaped}
 
 -- ---- lists
 
-by_index : {X : Type 0} (P : X → Type 0) (xs : List X) → AllByRecursion P xs → All P xs
+pub by_index : {X : Type 0} (P : X → Type 0) (xs : List X) → AllByRecursion P xs → All P xs
 by_index P [] each k d low = absurd (omega arith)
 by_index P (x ∷ xs) each zero d low = each.0
 by_index P (x ∷ xs) each (suc k) d low = by_index P xs each.1 k d (omega arith)
 
-by_recursion : {X : Type 0} (P : X → Type 0) (xs : List X) → All P xs → AllByRecursion P xs
+pub by_recursion : {X : Type 0} (P : X → Type 0) (xs : List X) → All P xs → AllByRecursion P xs
 by_recursion P [] each = tt
 by_recursion P (x ∷ xs) each = (each 0 x (omega arith), by_recursion P xs (λ k d low. each (suc k) d (omega arith)))
 

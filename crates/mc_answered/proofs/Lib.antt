@@ -1,0 +1,6 @@
+pub mod ReadingLemmas
+pub mod HeadingLemmas
+pub mod TextLemmas
+pub mod ReplyLemmas
+pub mod FoundLemmas
+pub mod CountLemmas

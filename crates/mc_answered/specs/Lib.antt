@@ -1,0 +1,4 @@
+pub mod Reading
+pub mod Halved
+pub mod Replies
+pub mod With
