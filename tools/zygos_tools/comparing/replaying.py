@@ -7,7 +7,8 @@ from __future__ import annotations
 
 from zygos_tools.protocol.answers import items, meta
 from zygos_tools.protocol.meaning import Command, line_of, words_of
-from zygos_tools.protocol.model import Item, Shard, calls, shard_of, text_of
+from zygos_tools.protocol.model import Shard, calls, shard_of, text_of
+from zygos_tools.protocol.rules import Item
 from zygos_tools.protocol.table import KINDS, kind_of
 from zygos_tools.protocol.uniques import with_unique
 

@@ -4,10 +4,10 @@ The server is a memcached: a number that became shorter keeps its length, with s
 """
 from __future__ import annotations
 
-import re
 from enum import Enum
 from typing import Final, NamedTuple, Union
 
+from zygos_tools.protocol import rules
 from zygos_tools.protocol.answers import first_word, items, meta
 from zygos_tools.protocol.meaning import Command
 from zygos_tools.protocol.table import COUNTING, JOINING, SAME, classic_word, does
@@ -32,7 +32,10 @@ UNKNOWN: Final = Mark.UNKNOWN
 WRONG: Final = Mark.WRONG
 # what is known of a key: its item, None where it has none
 Known = Union[Item, Mark, None]
-NUMBER = re.compile(rb"([0-9]{1,20}) *")
+# a unique that no command gives; the first words of answers, by replies
+NO_UNIQUE = -1
+WORDS = {"stored": b"STORED", "not stored": b"NOT_STORED", "exists": b"EXISTS", "not found": b"NOT_FOUND",
+         "deleted": b"DELETED", "no number": b"CLIENT_ERROR", "too large": b"SERVER_ERROR"}
 
 
 def shown(command: Command, answer: bytes) -> dict[bytes, Known]:
@@ -83,46 +86,21 @@ class Seen:
 
     def made(self, item: Item | None) -> tuple[bytes, Known]:
         """What a server with this item answers, and the item after it."""
-        name, command = self.name, self.command
-        if name == "delete":
-            return (b"DELETED", None) if item else (b"NOT_FOUND", None)
-        if name in COUNTING:
-            return self.counted(item)
-        if name == "cas":
-            return self.exchanged(item)
-        if name in JOINING:
-            if not item:
-                return b"NOT_STORED", None
-            piece = command.value or b""
-            value = item.value + piece if name == "append" else piece + item.value
-            return b"STORED", Item(item.flags, value)
-        if name in ("add", "replace") and bool(item) == (name == "add"):
-            return b"NOT_STORED", item
-        return b"STORED", self.stored()
+        command, numbers = self.command, self.command.numbers
+        if self.name == "cas" and item and item.unique is None and self.word != b"EXISTS":
+            return b"STORED", self.stored()  # the unique may be the one that is given
+        old = rules.Item(item.flags, item.value, NO_UNIQUE if item.unique is None else item.unique) if item else None
+        given = numbers.get("amount" if self.name in COUNTING else "unique", 0)
+        done = rules.step(self.name, old, numbers.get("flags", 0), command.value or b"", given, is_padded=True)
+        word = b"%d" % done.number if done.reply == "number" else WORDS[done.reply]
+        if done.left is old:
+            return word, item
+        is_its_own = self.name not in JOINING and self.name not in COUNTING
+        return word, self.stored() if done.left and is_its_own else Item(*done.left[:2]) if done.left else None
 
     def stored(self) -> Item | Mark:
         """The item that the command stores."""
         return Item(self.command.numbers["flags"], self.command.value) if self.command.value is not None else UNKNOWN
-
-    def exchanged(self, item: Item | None) -> tuple[bytes, Known]:
-        """The same of a `cas`."""
-        if not item:
-            return b"NOT_FOUND", None
-        is_same = item.unique == self.command.numbers["unique"]
-        if is_same or item.unique is None and self.word != b"EXISTS":
-            return b"STORED", self.stored()
-        return b"EXISTS", item
-
-    def counted(self, item: Item | None) -> tuple[bytes, Known]:
-        """The same of a command that counts."""
-        if not item:
-            return b"NOT_FOUND", None
-        number = NUMBER.fullmatch(item.value)
-        if not number:
-            return b"CLIENT_ERROR", item
-        old, amount = int(number[1]), self.command.numbers["amount"]
-        new = b"%d" % ((old + amount) % (1 << 64) if self.name == "incr" else max(0, old - amount))
-        return new, Item(item.flags, new.ljust(len(item.value)))
 
     def left(self, key: bytes, item: Known) -> Known:
         """The item of a key after the command, by the answer alone."""

@@ -18,8 +18,9 @@ from zygos_tools.judging.keys import Calls, Keys
 from zygos_tools.judging.needs import ITEM, NUMBER, Needs, Thing, wanted
 from zygos_tools.judging.search import OPEN, GaveUp, Search, Stuck
 from zygos_tools.judging.states import ABSENT, ANYTHING, NOTHING_KNOWN
-from zygos_tools.judging.values import BEGUN, PADDED
+from zygos_tools.judging.values import BEGUN
 from zygos_tools.protocol.meaning import line_of
+from zygos_tools.protocol.rules import PADDED
 from zygos_tools.protocol.table import is_touching
 
 # how many searches are made, how many states each looks at, and how many calls are printed

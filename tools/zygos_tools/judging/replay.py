@@ -20,13 +20,14 @@ from collections import Counter
 from collections.abc import Iterable
 from typing import IO
 
-from zygos_tools.files.formats import CALLS, ENTRY, MOST_VALUE, REPLIES, Reply
+from zygos_tools.files.formats import CALLS, ENTRY, REPLIES, Reply
 from zygos_tools.judging.events import (ADD, APPEND, CAS, DECR, DELETE, FLUSH, GET, INCR, PREPEND, REPLACE, SET,
                                         Unknown, brief, first_line)
 from zygos_tools.judging.seeing import all_items
 from zygos_tools.judging.table import (ANSWERED, DROPPED, HAS_UNIQUE, LOST, METAS, QUIET, REPLACED, V_FAULT, V_GET,
                                        V_GETS, V_MG, V_VERSION, WANT_BITS, WANTS, Table)
 from zygos_tools.protocol.model import text_of
+from zygos_tools.protocol.rules import Item, step
 
 # the codes of calls and of replies
 CODE_OF = {name: bytes([number]) for number, (name, _) in enumerate(CALLS, 1)}
@@ -34,16 +35,12 @@ REPLY_CODE = {name: bytes([number]) for number, (name, _) in enumerate(REPLIES, 
 NAMES = {GET: "get", SET: "set", ADD: "add", REPLACE: "replace", APPEND: "append", PREPEND: "prepend", CAS: "cas",
          INCR: "incr", DECR: "decr", DELETE: "delete", FLUSH: "flush"}
 KIND_CODE = {kind: CODE_OF[name] for kind, name in NAMES.items()}
-DIGITS = re.compile(rb"[0-9]{1,20}")
 # the flags, the unique and the length of the value in a hit
 HIT = struct.Struct(">IQI")
-MOST_NUMBER = 1 << 64
 # how many bytes of the journal are gathered before they are written
 MOST_GATHERED = 1 << 20
 
 MISS, FLUSHED = Reply("miss"), Reply("flushed")
-# an item: its flags, its value and its unique
-Item = tuple[int, bytes, int]
 # a key, how often its item was lost before, and a unique
 Unique = tuple[bytes, int, int]
 
@@ -55,48 +52,17 @@ class Store:
         self.shards, self.stored = shards, [0] * shards
         self.items: list[dict[bytes, Item]] = [{} for _ in range(shards)]
 
-    def put(self, shard: int, key: bytes, flags: int, value: bytes) -> None:
-        """Stores an item with its unique."""
-        self.stored[shard] += 1
-        self.items[shard][key] = flags, value, self.shards * self.stored[shard] + shard
-
     def change(self, kind: int, shard: int, key: bytes, flags: int, value: bytes, given: int) -> tuple[str, int]:
         """Carries out a call that is no `get`. Gives the name of its reply, and the number in it."""
         items = self.items[shard]
         item = items.get(key)
-        if kind == DELETE:
-            return ("deleted" if items.pop(key, None) else "not found"), 0
-        if kind in (INCR, DECR):
-            return self.count(kind, shard, key, item, given)
-        if kind in (APPEND, PREPEND):
-            return self.join(kind, shard, key, item, value), 0
-        if kind == CAS and (not item or item[2] != given):
-            return ("exists" if item else "not found"), 0
-        if kind == ADD and item or kind == REPLACE and not item:
-            return "not stored", 0
-        self.put(shard, key, flags, value)
-        return "stored", 0
-
-    def join(self, kind: int, shard: int, key: bytes, item: Item | None, piece: bytes) -> str:
-        """Appends or prepends a piece."""
-        if not item:
-            return "not stored"
-        value = item[1] + piece if kind == APPEND else piece + item[1]
-        if len(value) > MOST_VALUE:
-            return "too large"
-        self.put(shard, key, item[0], value)
-        return "stored"
-
-    def count(self, kind: int, shard: int, key: bytes, item: Item | None, amount: int) -> tuple[str, int]:
-        """Counts up or down."""
-        if not item:
-            return "not found", 0
-        if not DIGITS.fullmatch(item[1]) or int(item[1]) >= MOST_NUMBER:
-            return "no number", 0
-        old = int(item[1])
-        number = (old + amount) % MOST_NUMBER if kind == INCR else max(0, old - amount)
-        self.put(shard, key, item[0], b"%d" % number)
-        return "number", number
+        reply, left, number = step(NAMES[kind], item, flags, value, given)
+        if left is None:
+            items.pop(key, None)
+        elif left is not item:
+            self.stored[shard] += 1
+            items[key] = Item(left[0], left[1], self.shards * self.stored[shard] + shard)
+        return reply, number
 
     def flush(self, shard: int) -> None:
         """Removes all items of a shard."""

@@ -5,8 +5,8 @@ import re
 
 from zygos_tools.files.formats import MOST_VALUE
 from zygos_tools.judging.events import APPEND, INCR, Event
+from zygos_tools.protocol.rules import PADDED, counted, joined
 
-PADDED = re.compile(rb"([0-9]{1,20}) *")
 # what memcached counts: spaces may come before it, and what comes after the first space or NUL does not matter
 BEGUN = re.compile(rb"[ \t\n\v\f\r]*\+?0*([0-9]{1,20})(?:[ \t\n\v\f\r\0].*)?", re.DOTALL)
 
@@ -46,7 +46,7 @@ class Values:
         if key not in self.joins:
             flags, old = self.pairs[item]
             piece = event.value or b""
-            value = old + piece if event.kind == APPEND else piece + old
+            value = joined("append" if event.kind == APPEND else "prepend", old, piece)
             self.joins[key] = None if len(value) > MOST_VALUE else self.number(flags, value)
         return self.joins[key]
 
@@ -63,7 +63,7 @@ class Values:
         if old is None:
             return None
         flags, value = self.pairs[item]
-        number = (old + amount) % (1 << 64) if event.kind == INCR else max(0, old - amount)
+        number = counted("incr" if event.kind == INCR else "decr", old, amount)
         digits = b"%d" % number
         left = [self.number(flags, digits)]
         if len(digits) < len(value):

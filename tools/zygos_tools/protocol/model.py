@@ -1,16 +1,17 @@
 """The profile, plainly: the commands of a stream, the calls of a command, the replies of a shard, and the texts.
 
-It is written from the tables of docs/PROFILE.md, and takes its time. The commands are in meaning.py.
+It is written from the tables of docs/PROFILE.md, and takes its time. The commands are in meaning.py, and what calls do
+to items is in rules.py.
 """
 from __future__ import annotations
 
 import functools
-import re
 from collections.abc import Callable, Iterable
-from typing import Any, NamedTuple
+from typing import Any
 
-from zygos_tools.files.formats import GETS, MOST_VALUE, SETS, Call, Reply
+from zygos_tools.files.formats import GETS, SETS, Call, Reply
 from zygos_tools.protocol.meaning import LETTERS, TOO_LARGE, Command
+from zygos_tools.protocol.rules import Item, step
 
 # the texts of replies
 TEXTS = {
@@ -27,14 +28,6 @@ CODES = {"stored": b"HD", "deleted": b"HD", "hit": b"HD", "not stored": b"NS", "
 HIDDEN = {"mg": ["miss"], "ms": ["stored"], "md": ["deleted", "not found"]}
 
 Made = list[tuple[Call, Reply]]
-
-
-class Item(NamedTuple):
-    """An item of a shard."""
-
-    flags: int
-    value: bytes
-    unique: int
 
 
 # ---- calls
@@ -91,11 +84,6 @@ class Shard:
         self.items: dict[bytes, Item] = {}
         self.made: Made = []
 
-    def store(self, key: bytes, flags: int, value: bytes) -> Reply:
-        self.stored += 1
-        self.items[key] = Item(flags, value, self.shards * self.stored + self.number)
-        return Reply("stored")
-
     def reply(self, call: Call) -> Reply:
         """Makes a call, and gives its reply."""
         reply = tally(self.made) if call.name == "tally" else self.answer(call)
@@ -104,39 +92,20 @@ class Shard:
 
     def answer(self, call: Call) -> Reply:
         """Makes a call other than a tally."""
-        item = self.items.get(call.key)
-        if call.name == "get":
-            return Reply("hit", item.flags, item.unique, item.value) if item else Reply("miss")
-        if call.name in ("append", "prepend"):
-            return self.join(item, call)
-        if call.name in ("incr", "decr"):
-            return self.count(item, call)
-        if call.name == "delete":
-            return Reply("deleted" if self.items.pop(call.key, None) else "not found")
         if call.name == "flush":
             self.items = {}
             return Reply("flushed")
-        if call.name == "cas" and (not item or item.unique != call.unique):
-            return Reply("exists" if item else "not found")
-        if call.name == "add" and item or call.name == "replace" and not item:
-            return Reply("not stored")
-        return self.store(call.key, call.flags, call.value)
-
-    def join(self, item: Item | None, call: Call) -> Reply:
-        if not item:
-            return Reply("not stored")
-        value = item.value + call.value if call.name == "append" else call.value + item.value
-        return Reply("too large") if len(value) > MOST_VALUE else self.store(call.key, item.flags, value)
-
-    def count(self, item: Item | None, call: Call) -> Reply:
-        if not item:
-            return Reply("not found")
-        if not re.fullmatch(b"[0-9]{1,20}", item.value) or int(item.value) >= 1 << 64:
-            return Reply("no number")
-        old = int(item.value)
-        number = (old + call.number) % (1 << 64) if call.name == "incr" else max(0, old - call.number)
-        self.store(call.key, item.flags, b"%d" % number)
-        return Reply("number", number=number)
+        item = self.items.get(call.key)
+        given = call.number if call.name in ("incr", "decr") else call.unique
+        done = step(call.name, item, call.flags, call.value, given)
+        if done.left is None:
+            self.items.pop(call.key, None)
+        elif done.left is not item:
+            self.stored += 1
+            self.items[call.key] = Item(done.left[0], done.left[1], self.shards * self.stored + self.number)
+        if done.reply == "hit" and item:
+            return Reply("hit", item.flags, item.unique, item.value)
+        return Reply("number", number=done.number) if done.reply == "number" else Reply(done.reply)
 
 
 def keys_after(made: Made) -> set[bytes]:

@@ -12,7 +12,8 @@ from collections.abc import Iterable
 
 from zygos_tools.files.formats import Call, Reply
 from zygos_tools.protocol.meaning import Command, Framer
-from zygos_tools.protocol.model import Item, Shard, calls, text_of
+from zygos_tools.protocol.model import Shard, calls, text_of
+from zygos_tools.protocol.rules import Item
 
 # by how many changes the copy of a replica is late, and after how many a deleted item comes back
 CHANGES = 20
