@@ -17,7 +17,7 @@ SOME, MOST_JOINED, MUCH = 2, 50, 8
 # how many turns there are; how many choices may be wrong, and how many states are looked at
 MOST_TURNS, MOST_CHOICES, MOST_STATES = 60, 300, 20000
 # how many calls are fitted at a time, with little effort and with more
-FEW_CALLS, MANY_CALLS = 300, 900
+FEW_CALLS, MANY_CALLS = 300, 3000
 # how many calls keys have at most that are searched together
 MOST_TOGETHER = 2000
 # how many keys are named
