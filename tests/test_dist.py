@@ -199,6 +199,7 @@ class Taken(Dist):
 
     def test_a_file_of_no_program_changes_nothing(self):
         self.write("crates/low_laws/src/lib.rt", "// another\n")
+        self.write("crates.txt", "# base\nlow: std\n# program\nzygos: low\n# laws\nlow_laws: low\nmore_laws: low\n")
         self.assertEqual(1, self.run_it("zygos", "run", has_rt=False)[0])
 
     def test_a_compiler_is_needed(self):

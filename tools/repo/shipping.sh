@@ -4,14 +4,16 @@
 # shipped PROGRAM WORD: one of the sums of dist/
 shipped() { sed -n "s/^$2 //p" "$top/dist/$1.built" 2>/dev/null; }
 
-# first_changed PROGRAM: the first file of its crates that is not as the commit with its sums has it, if git knows
+# first_changed PROGRAM: the first file of its crates that is not as the commit with its sums has it, or else crates.txt, if git
+# knows
 first_changed() {
     local commit folders
     commit=$(git -C "$top" log -1 --format=%H -- "dist/$1.built" 2>/dev/null) && [ -n "$commit" ] || return 0
     mapfile -t folders < <(plan "$1" | sed 's|^|crates/|')
     {
-        git -C "$top" diff --name-only "$commit" -- crates.txt "${folders[@]}"
+        git -C "$top" diff --name-only "$commit" -- "${folders[@]}"
         git -C "$top" ls-files --others --exclude-standard -- "${folders[@]}"
+        git -C "$top" diff --name-only "$commit" -- crates.txt
     } 2>/dev/null | grep -E '^crates[.]txt$|[.](rt|antt)$' | head -n 1
 }
 

@@ -26,11 +26,17 @@ plan() {
 # sum_of FILE
 sum_of() { sha256sum <"$1" | cut -d ' ' -f 1; }
 
-# source_sum PROGRAM: one checksum of all that it is built from
+# listed: the lines of crates.txt of the crates whose names come on standard input
+listed() { sed 's/.*/^&[ :]/' | grep -f - "$top/crates.txt"; }
+
+# source_sum PROGRAM: one checksum of all that it is built from: the files of its crates, and their lines of crates.txt
 source_sum() {
-    (cd "$top" && plan "$1" | sed 's|^|crates/|' | sort |
-        xargs -I {} find {} -name out -prune -o -type f \( -name '*.rt' -o -name '*.antt' \) -print0 |
-        LC_ALL=C sort -z | xargs -0 sha256sum crates.txt | sha256sum | cut -d ' ' -f 1)
+    (cd "$top" && {
+        plan "$1" | listed
+        plan "$1" | sed 's|^|crates/|' | sort |
+            xargs -I {} find {} -name out -prune -o -type f \( -name '*.rt' -o -name '*.antt' \) -print0 |
+            LC_ALL=C sort -z | xargs -0 sha256sum
+    } | sha256sum | cut -d ' ' -f 1)
 }
 
 # is_older_than FILE: whether no source is newer than a file, by the time of the last change of any kind, since a copy may keep
@@ -47,7 +53,7 @@ copy_crates() {
     local one
     mkdir -p "$1/crates" && cp "$top/HANDLES" "$1" || return
     while read -r one; do
-        sed -n "/^${one}[ :]/p" "$top/crates.txt" >>"$1/crates.txt"
+        listed <<<"$one" >>"$1/crates.txt"
         mkdir "$1/crates/$one"
         (cd "$top/crates/$one" && find . -mindepth 1 -maxdepth 1 ! -name out ! -name must-fail -exec cp -R {} "$1/crates/$one" \;)
     done
