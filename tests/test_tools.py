@@ -62,7 +62,7 @@ def wrong_words():
         ("--first takes a number of 1 or more, not 0", "show", "--first", "0"),
         ("--connection takes a number from 0 to 4095, not 4096", "show", "--connection", "4096"),
         ("two files are compared; --help says more", "compare", "-"),
-        ("a capture and a replies file are judged; --help says more", "judge", "-"),
+        ("judge takes [options] CAPTURE REPLIES; --help has the options", "judge", "-"),
         ("--shards takes a number from 1 to 256, not 0", "judge", "--shards", "0", "a", "b"),
         ("--times takes ends, segments or none, not all", "judge", "--times", "all", "a", "b"),
         ("--except takes the names of commands, joined by commas, not a b", "compare", "--except", "a b", "a", "b"),

@@ -339,7 +339,7 @@ def main(words: list[str]) -> None:
     ends.tell_failures_apart()
     given, names = ends.options(words, OPTIONS)
     if len(names) != 2 or names.count("-") > 1:
-        ends.stop("a capture and a replies file are judged; --help says more", 2)
+        ends.stop("judge takes [options] CAPTURE REPLIES; --help has the options", 2)
     gc.disable()  # what is read stays to the end
     judging = Judging(names, given)
     try:

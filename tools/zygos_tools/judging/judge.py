@@ -99,7 +99,7 @@ class Judge:
             try:
                 self.merge_once()
             except Late as late:
-                raise Unfitted(f"{late.why}: not in {seconds or 0:.0f} seconds; give --seconds more") from None
+                raise Unfitted(f"{late.why}; no common order was found in {seconds or 0:.0f} seconds; give --seconds more") from None
         self.check_times()
 
     def merge_once(self) -> None:
@@ -120,8 +120,7 @@ class Judge:
         while not sorting.run(self.clock.look):
             circles = sorting.circles(self.clock.look)
             if mending.turns == MOST_TURNS:
-                raise Unfitted(f"{keys_in(circles, self.table)}: their orders were not fitted to each other in"
-                               f" {MOST_TURNS} turns")
+                raise Unfitted(f"{keys_in(circles, self.table)}: no common order of these was found in {MOST_TURNS} attempts")
             self.clock.set(f"one order of all, {len(sorting.order) / sorting.due:.0%}:"
                            f" {keys_in(circles, self.table)} are fitted to each other")
             mending.turn(circles, sorting.high, stores.in_order() if stores else ())

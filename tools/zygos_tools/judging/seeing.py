@@ -11,7 +11,7 @@ from typing import NamedTuple
 
 from zygos_tools.files.formats import shown
 from zygos_tools.judging.events import (ADD, APPEND, CAS, DECR, DELETE, GET, INCR, PREPEND, REPLACE, SET, No, Unknown,
-                                        Verdict)
+                                        Verdict, first_line)
 from zygos_tools.judging.reading import Recording, keys_left_out
 from zygos_tools.judging.table import (ANSWERED, DROPPED, HAS_FLAGS, HAS_UNIQUE, HAS_VALUE, LOST, QUIET, V_DECR,
                                        V_FAULT, V_FLUSH, V_GET, V_GETS, V_INCR, V_MD, V_MN, V_MS, V_VERBOSITY,
@@ -145,9 +145,10 @@ class Seeing:
 
     # ---- answers that are none
 
-    def refuse(self, one: int, why: str) -> None:
+    def refuse(self, one: int, why: str | None = None) -> None:
         """An answer that no run gives; after a line that is outside the profile nothing is sure in its session."""
         table, recording = self.table, self.recording
+        why = why or self.why_not(one)
         session, answer = (table.connection[one], table.session[one]), table.answer(one)
         is_error = answer is not None and FAULT.match(answer)
         odd, outside = recording.odd.get(session), recording.outside.get(session)
@@ -159,6 +160,17 @@ class Seeing:
         since = min([table.number[one], *([odd.since] if odd else []), *([] if outside is None else [outside])])
         asked = recording.of_connection[session[0]]
         recording.lose(asked[since:] if odd or outside is not None else [one])
+
+    def why_not(self, one: int) -> str:
+        """What is said of an answer that its command cannot have."""
+        table, answer = self.table, self.table.answer(one) or b""
+        name, line = VERBS[table.verb[one]], first_line(answer)
+        if not FAULT.match(answer):
+            return f"{line or 'an empty line'} is no answer to {name}"
+        calls = table.calls_of(one)
+        keys = sorted({shown(table.keys[table.key[call]]) for call in calls if table.key[call] >= 0})
+        advice = f"; --except-keys '{' '.join(keys)}' leaves it out" if keys else ""
+        return f"{line} answers a {name} that has no error{advice}"
 
     def expect(self, one: int, verb: int) -> None:
         """The answer to a command without a call."""
@@ -174,7 +186,7 @@ class Seeing:
                 table.state[one] |= DROPPED
                 self.recording.notes["faulty ms left out"] += 1
         elif not (answer.startswith(b"VERSION ") if verb == V_VERSION else answer == MUTE[verb]):
-            self.refuse(one, f"no run answers {VERBS[verb]} so")
+            self.refuse(one)
 
     def leave_out(self, one: int) -> None:
         """A command that the profile leaves out did something that is not known."""
@@ -198,7 +210,7 @@ class Seeing:
         if not self.table.state[one] & ANSWERED:
             return
         if self.table.answer(one) != b"OK\r\n":
-            self.refuse(one, "no run answers flush_all so")
+            self.refuse(one)
             return
         for call in self.table.calls_of(one):
             self.table.want[call] = WANT_OF["flushed"]
@@ -217,7 +229,7 @@ class Seeing:
         if verb in (V_MS, V_MD):
             want = self.meta_want(verb, kind, line, want)
         if want is None:
-            self.refuse(one, f"no run answers {VERBS[verb]} so")
+            self.refuse(one)
             return
         table.want[call] = want
 
@@ -244,11 +256,11 @@ class Seeing:
         if text[rest:end].rstrip(b"\r\n") != b"END":
             if self.is_failed(one, verb):
                 return
-            self.refuse(one, f"no run answers {VERBS[verb]} so")
+            self.refuse(one)
             return
         shows_unique = verb == V_GETS
         if any(shows_unique == (item.unique is None) for item in items):
-            self.refuse(one, f"no run answers {VERBS[verb]} so")
+            self.refuse(one)
             return
         if not self.match(range(first, last), items):
             self.refuse(one, "an item of a key that was not asked for there")
@@ -312,7 +324,7 @@ class Seeing:
         marks = answered.marks
         is_wrong = b"f" in marks and answered.flags is None or b"c" in marks and answered.unique is None
         if answered.code not in (b"HD", b"VA", b"TOUCHED") or is_wrong:
-            self.refuse(one, f"no run answers {VERBS[table.verb[one]]} so")
+            self.refuse(one)
             return
         at = table.answer_at[one] + line_end(answer, 0) if answered.value is not None else None
         self.show(call, answered.flags, len(answered.value or b""), answered.unique, at)

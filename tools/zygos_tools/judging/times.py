@@ -61,9 +61,10 @@ def set_starts(recording: Recording, asked: array[int], starts: array[int]) -> N
 
 
 def tail_of(recording: Recording, asked: array[int]) -> Iterator[int]:
-    """The last commands of a session, as far as they have no end."""
+    """The last commands of a session, as far as they have neither an answer nor an end."""
+    table = recording.table
     for one in reversed(asked):
-        if recording.table.end[one] < FOREVER:
+        if table.end[one] < FOREVER or table.state[one] & ANSWERED:
             break
         yield one
 
