@@ -116,7 +116,8 @@ class Reason:
             elsewhere = self.elsewhere(lost)
             why = "what this one answers is stored under other keys alone" if elsewhere else \
                 f"no command stores what this one answers, and the store began empty{self.advice()}"
-            return self.no(why, [lost.told(self.has_flags()), *elsewhere, *self.with_other_flags(lost)], [lost])
+            flags = list(self.with_other_flags(lost))
+            return self.no(why, [lost.told(bool(flags)), *elsewhere, *flags], [lost])
         if not self.shrink():
             came = ", from an empty store" if self.is_known else ""
             return self.no(f"no order of the {len(self.all)} calls explains their answers{came}{self.advice()}",
@@ -191,10 +192,6 @@ class Reason:
         if store is None:
             return []
         return [f"  stored only under {shown(store.key or b'')}, by {store.told().lstrip()}"]
-
-    def has_flags(self) -> bool:
-        """Whether the items of these keys have several flags."""
-        return len({event.flags for event in self.all if event.flags is not None}) > 1
 
     def with_other_flags(self, event: Event) -> Iterator[str]:
         """A line about the value that a call saw, if it is stored with other flags alone."""
@@ -321,7 +318,7 @@ class Reason:
         lines: list[str] = []
         origins = Origins(self, sure[:MOST_PRINTED])
         for event in sure[:MOST_PRINTED]:
-            lines += [event.told(self.has_flags()), *origins.lines(event)]
+            lines += [event.told(any(self.with_other_flags(event))), *origins.lines(event)]
         if len(sure) > MOST_PRINTED:
             lines.append(f"  and {len(sure) - MOST_PRINTED} more")
         if len(self.events) > len(sure):
