@@ -17,8 +17,11 @@ connection 1, and so on. FILE - is standard input, which can be named once.
 A text file has lines that end in \\n only, which memcached and zygos accept; the blocks of storage commands must end
 in \\r\\n.
 """
+from __future__ import annotations
+
 import re
 import sys
+from collections.abc import Iterator
 
 from zygos_tools.cli import ends
 from zygos_tools.files import inputs
@@ -26,12 +29,13 @@ from zygos_tools.files.formats import MOST_CONNECTIONS, MOST_SEGMENT, capture, c
 from zygos_tools.files.part import Fault
 
 MARK = re.compile(rb"^@([0-9]{1,9})( close)?\r?\n?$")
-OPTIONS = {"--marks": None, "--cut": ends.number(1, MOST_SEGMENT)}
+OPTIONS: dict[str, ends.Option | None] = {"--marks": None, "--cut": ends.number(1, MOST_SEGMENT)}
 
 
-def marked(name, text, first):
+def marked(name: str, text: bytes, first: int) -> Iterator[tuple[int, bytes | None]]:
     """Yields (connection, bytes) for what is sent and (connection, None) for a close, in order."""
-    connection, sent = first, []
+    connection = first
+    sent: list[bytes] = []
     for number, line in enumerate(re.findall(rb"[^\n]*\n|[^\n]+", text), 1):
         mark = MARK.match(line)
         if not mark:
@@ -48,7 +52,7 @@ def marked(name, text, first):
         yield connection, b"".join(sent)
 
 
-def records(marks, files):
+def records(marks: bool, files: list[str]) -> Iterator[tuple[int, bytes | None]]:
     for number, name in enumerate(files):
         text = inputs.read(name)
         if marks:
@@ -57,7 +61,7 @@ def records(marks, files):
             yield number, text
 
 
-def main(words):
+def main(words: list[str]) -> None:
     given, files = ends.options(words, OPTIONS)
     if len(files) > MOST_CONNECTIONS:
         ends.stop(f"{len(files)} files, and a capture has at most {MOST_CONNECTIONS} connections: with --marks a file"
@@ -65,7 +69,7 @@ def main(words):
     sent = list(records("--marks" in given, files or ["-"]))
     count = max([len(files), 1] + [connection + 1 for connection, _ in sent])
     version = 2 if any(text is None for _, text in sent) else 1
-    made = []
+    made: list[bytes] = []
     for connection, text in sent:
         made += [close(connection)] if text is None else pieces(connection, text, given.get("--cut", MOST_SEGMENT))
     sys.stdout.buffer.write(capture(count, made, version))

@@ -7,6 +7,8 @@ usage: tools/part capture|journal|replies [FILE] > PART
 FILE is standard input if it is left out or -. The whole input is read. If it has none of these parts, two of them, or
 an error, the status is 1; at an error the part is written up to it.
 """
+from __future__ import annotations
+
 import sys
 
 from zygos_tools.cli import ends
@@ -18,7 +20,7 @@ HINTS = {"capture": "; tools/record and tools/packets write one", "journal": "; 
          "replies": "; `zygos run` writes one"}
 
 
-def main(words):
+def main(words: list[str]) -> None:
     _, names = ends.options(words, {})
     if not names or names[0] not in FORMATS.values() or len(names) > 2:
         ends.stop("which part is cut out: capture, journal or replies; --help says more", 2)

@@ -21,12 +21,16 @@ both` writes it. The pictures of several are one below the other. Each has four 
 With over 64 connections a row is several connections of one home, and with over 32 shards a bar is several shards; the
 picture says so.
 """
-from collections import Counter, namedtuple
+from __future__ import annotations
+
+from collections import Counter
+from collections.abc import Iterable, Sequence
+from typing import NamedTuple
 
 from zygos_tools.cli import ends
 from zygos_tools.cli.screen import say
 from zygos_tools.files import inputs
-from zygos_tools.files.formats import GETS, MOST_CORES, MOST_HOLD, SETS, Entry, journal_records
+from zygos_tools.files.formats import GETS, MOST_CORES, MOST_HOLD, SETS, Entry, Hold, journal_records
 from zygos_tools.files.part import Fault
 from zygos_tools.showing.svg import Drawing
 
@@ -34,17 +38,24 @@ MOST_ROWS, MOST_BARS, GROUPS = 64, 32, 128
 BLUE, ORANGE, GREEN, GRAY, HOME = "#2a6cab", "#d1701e", "#3f8f4f", "#8a8a8a", "#111111"
 WIDTH, LEFT, RIGHT, TOP = 980, 96, 560, 90
 
-Row = namedtuple("Row", "home connections")
+
+class Row(NamedTuple):
+    """Some connections of one home, which is None where it is not known."""
+
+    home: int | None
+    connections: list[int]
 
 
 class Run:
     """What is counted of a run as its journal is read; `cores` is None where their number is not given."""
 
-    def __init__(self, records, cores):
-        self.calls, self.done, connections = Counter(), Counter(), set()
+    def __init__(self, records: Iterable[Entry | Hold], cores: int | None) -> None:
+        self.calls: Counter[tuple[int, str, str]] = Counter()
+        self.done: Counter[Hold] = Counter()
+        connections: set[int] = set()
         for record in records:
             connections.add(record.connection)
-            if record.__class__ is Entry:
+            if isinstance(record, Entry):
                 self.calls[record.shard, record.call.name, record.reply.name] += 1
             else:
                 self.done[record] += 1
@@ -54,25 +65,25 @@ class Run:
             raise Fault(f"core {self.seen - 1} has holds, so there were more than {cores} cores")
         self.given, self.cores = cores, cores or max(1, self.seen)
 
-    def home(self, connection):
+    def home(self, connection: int) -> int | None:
         """The home core of a connection; None where it is not known."""
         return connection % GROUPS % self.cores if self.given else None
 
-    def holds(self):
+    def holds(self) -> int:
         return sum(self.done.values())
 
-    def commands(self, stolen=False):
+    def commands(self, stolen: bool = False) -> int:
         return sum(times * hold.count for hold, times in self.done.items()
                    if not stolen or hold.core != self.home(hold.connection))
 
-    def by_core(self):
+    def by_core(self) -> Counter[tuple[int, int]]:
         """How many commands of each connection each core carried out."""
-        found = Counter()
+        found: Counter[tuple[int, int]] = Counter()
         for hold, times in self.done.items():
             found[hold.connection, hold.core] += times * hold.count
         return found
 
-    def stolen(self):
+    def stolen(self) -> list[list[int]]:
         """Of each core its holds and its commands, and how many of them it stole."""
         found = [[0, 0, 0, 0] for _ in range(self.cores)]
         for hold, times in self.done.items():
@@ -81,14 +92,14 @@ class Run:
                 of_core[at] += times * number
         return found
 
-    def hold_sizes(self):
+    def hold_sizes(self) -> list[int]:
         """How many holds had each number of commands, from 1 on."""
         found = [0] * MOST_HOLD
         for hold, times in self.done.items():
             found[hold.count - 1] += times
         return found
 
-    def counts(self):
+    def counts(self) -> list[list[int]]:
         """Of each shard its calls that get and that store, and its hits and misses."""
         found = [[0, 0, 0, 0] for _ in range(max((shard for shard, _, _ in self.calls), default=0) + 1)]
         for (shard, call, reply), times in self.calls.items():
@@ -97,21 +108,21 @@ class Run:
                 found[shard][at] += times * one
         return found
 
-    def rows(self):
+    def rows(self) -> tuple[int, list[Row]]:
         """The connections in the order of their homes; beyond the most rows, several of one home in a row."""
-        homes = {}
+        homes: dict[int | None, list[int]] = {}
         for one in self.connections:
             homes.setdefault(self.home(one), []).append(one)
         size = next(size for size in range(1, 1 << 13)
                     if sum(-(-len(some) // size) for some in homes.values()) <= MOST_ROWS)
-        return size, [Row(core, some[at : at + size]) for core, some in sorted(homes.items())
+        return size, [Row(core, some[at : at + size]) for core, some in sorted(homes.items(), key=lambda home: home[0] or 0)
                       for at in range(0, len(some), size)]
 
 
 # ---- drawing
 
 
-def legend(drawing, x, y, names):
+def legend(drawing: Drawing, x: float, y: float, names: Iterable[tuple[str, str]]) -> None:
     """Draws a row of colours, each with its meaning."""
     for color, name in names:
         drawing.box(x, y - 9, 10, 10, color)
@@ -119,39 +130,39 @@ def legend(drawing, x, y, names):
         x += 24 + 6.5 * len(name)
 
 
-def svg(drawings):
+def svg(drawings: Iterable[tuple[Drawing, float]]) -> str:
     """The picture of drawings, each with its height, one below the other."""
-    whole, height = Drawing(), 0
+    whole, height = Drawing(), 0.0
     for drawing, tall in drawings:
         whole.group(height, drawing)
         height += tall
     return whole.document(WIDTH, height)
 
 
-def number(value):
+def number(value: int) -> str:
     return f"{value:,}"
 
 
-def counted(count, noun):
+def counted(count: int, noun: str) -> str:
     return f"{number(count)} {noun}" + ("" if count == 1 else "s")
 
 
-def share(part, whole):
+def share(part: int, whole: int) -> float:
     return 100 * part / whole if whole else 0
 
 
-def spaced(count, room, least):
+def spaced(count: int, room: float, least: float) -> int:
     """Every how many of `count` labels are written, so that each has `least` of the room."""
     return next(step for step in (1, 2, 4, 5, 8, 10, 16, 20, 32, 50, 64, 128, 256) if room / count * step >= least)
 
 
-def shade(part):
+def shade(part: float) -> str:
     """A blue, the darker the greater its part of 1."""
     start, end = (226, 236, 246), (22, 74, 130)
     return "#" + "".join(f"{round(a + (b - a) * part):02x}" for a, b in zip(start, end))
 
 
-def names(connections):
+def names(connections: Sequence[int]) -> str:
     """Numbers of connections or shards, which may be several apart."""
     first, last = connections[0], connections[-1]
     if len(connections) < 3:
@@ -159,7 +170,7 @@ def names(connections):
     return f"{first}-{last}" if last - first == len(connections) - 1 else f"{first}, {connections[1]} .. {last}"
 
 
-def grid(drawing, run, width):
+def grid(drawing: Drawing, run: Run, width: float) -> float:
     """Connections by cores, shaded by commands; gives the height."""
     size, rows = run.rows()
     drawing.text(16, TOP - 20, "Commands of each connection, by core", size=13)
@@ -172,7 +183,7 @@ def grid(drawing, run, width):
     tall, wide = min(26, max(9, 520 / len(rows))), width / run.cores
     by_core = run.by_core()
     done = [[sum(by_core[one, core] for one in row.connections) for core in range(run.cores)] for row in rows]
-    most = max(map(max, done)) or 1
+    most = max(count for counts in done for count in counts) or 1
     for at, row in enumerate(rows):
         y = TOP + 16 + at * tall
         if at % spaced(len(rows), tall * len(rows), 11) == 0:
@@ -197,7 +208,8 @@ def grid(drawing, run, width):
     return bottom + 30 - TOP
 
 
-def bars(drawing, y, title, groups, colors, labels, marks, unit=""):
+def bars(drawing: Drawing, y: float, title: str, groups: Sequence[Sequence[float]], colors: Sequence[str],
+         labels: Sequence[str], marks: Sequence[int], unit: str = "") -> float:
     """A chart of bars: groups of values, from 0 to the last mark, a color for each of a group, and labels of groups."""
     x, width, height = RIGHT + 44, WIDTH - RIGHT - 60, 110
     drawing.text(RIGHT, y, title, size=13)
@@ -220,13 +232,13 @@ def bars(drawing, y, title, groups, colors, labels, marks, unit=""):
     return base
 
 
-def marks(value):
+def marks(value: int) -> list[int]:
     """The marks of an axis: up to five multiples of 1, 2 or 5 times a power of ten, from 0 to this value or past it."""
-    step = next(first * 10**power for power in range(20) for first in (1, 2, 5) if 4 * first * 10**power >= value)
+    step: int = next(first * 10**power for power in range(20) for first in (1, 2, 5) if 4 * first * 10**power >= value)
     return list(range(0, max(1, -(-value // step)) * step + 1, step))
 
 
-def stolen_chart(drawing, run, y):
+def stolen_chart(drawing: Drawing, run: Run, y: float) -> float:
     found = run.stolen()
     groups = [(share(of[1], of[0]), share(of[3], of[2])) for of in found]
     base = bars(drawing, y, "Stolen of what each core carried out", groups, (BLUE, ORANGE),
@@ -236,7 +248,7 @@ def stolen_chart(drawing, run, y):
     return base + 54
 
 
-def holds_chart(drawing, run, y):
+def holds_chart(drawing: Drawing, run: Run, y: float) -> float:
     found = run.hold_sizes()
     base = bars(drawing, y, "Holds by their number of commands", [(count,) for count in found], (BLUE,),
                 list(map(str, range(1, MOST_HOLD + 1))), marks(max(found)))
@@ -244,18 +256,18 @@ def holds_chart(drawing, run, y):
     return base + 54
 
 
-def shards_chart(drawing, run, y):
+def shards_chart(drawing: Drawing, run: Run, y: float) -> float:
     found = run.counts()
     size = -(-len(found) // MOST_BARS)
     groups = [[sum(column) for column in zip(*found[at : at + size])] for at in range(0, len(found), size)]
     labels = [names(range(at, min(at + size, len(found)))) for at in range(0, len(found), size)]
-    base = bars(drawing, y, "Calls by shard", groups, (BLUE, ORANGE, GREEN, GRAY), labels, marks(max(map(max, groups))))
+    base = bars(drawing, y, "Calls by shard", groups, (BLUE, ORANGE, GREEN, GRAY), labels, marks(max(count for group in groups for count in group)))
     legend(drawing, RIGHT + 44, y + 20, ((BLUE, "gets"), (ORANGE, "sets"), (GREEN, "hits"), (GRAY, "misses")))
     drawing.text(WIDTH - 16, base + 27, "shard" if size == 1 else f"a bar for up to {size} shards", "end", 10)
     return base + 34
 
 
-def drawn(run):
+def drawn(run: Run) -> tuple[Drawing, float]:
     """The drawing of a run, and its height."""
     drawing = Drawing()
     commands, stolen, cores = run.commands(), "", f"; cores not given: {number(run.seen)} seen"
@@ -268,15 +280,15 @@ def drawn(run):
     drawing.text(16, 24, f"A run of {counted(len(run.connections), 'connection')}{cores}", size=17)
     drawing.text(16, 43, ", ".join(counted(*one) for one in counts) + stolen)
     left = grid(drawing, run, RIGHT - LEFT - 40)
-    y = TOP - 20
+    y: float = TOP - 20
     for chart in charts:
         y = chart(drawing, run, y)
     return drawing, max(TOP + left, y) + 20
 
 
-def run_of(name, cores):
+def run_of(name: str, cores: int | None) -> Run:
     """The run of an input, a journal that a replies file may follow."""
-    found = None
+    found: Run | None = None
     for part in inputs.parts(name):
         if part.name != ("replies" if found else "journal"):
             raise part.fault("not expected here: one journal is drawn, which `zygos run --out both` writes")
@@ -289,6 +301,6 @@ def run_of(name, cores):
     return found
 
 
-def main(words):
+def main(words: list[str]) -> None:
     given, files = ends.options(words, {"--cores": ends.number(1, MOST_CORES)})
     print(svg([drawn(run_of(name, given.get("--cores"))) for name in files or ["-"]]))

@@ -19,24 +19,29 @@ stream is on a line of its own, without its \\r\\n; if the \\r is missing, `(no 
 A file with an error is printed up to it. The error is reported as `zygos` does, with its offset in its part, and the
 status is 1. Memory does not grow with the file, only with its longest line.
 """
+from __future__ import annotations
+
 import re
 import sys
 from collections import Counter
+from collections.abc import Iterator
 
 from zygos_tools.cli import ends
 from zygos_tools.files import formats
 from zygos_tools.files import inputs
+from zygos_tools.files.part import Part
 from zygos_tools.protocol.answers import answers
 from zygos_tools.protocol.meaning import Framer
 
 LONE, NO_RETURN = re.compile(rb"(?<=[^\r\n])\n"), rb"  (no \r)"
 PLAIN, KEPT = formats.PRINTED + b"\n", formats.PRINTED + b"\r\n"
 LARGE = 1 << 20
-OPTIONS = {"--connection": ends.number(0, formats.MOST_CONNECTIONS - 1), "--key": ("a key", lambda word: word or None),
+OPTIONS: dict[str, ends.Option | None] = {
+           "--connection": ends.number(0, formats.MOST_CONNECTIONS - 1), "--key": ("a key", lambda word: word or None),
            "--answers": None, "--first": ends.number(1)}
 
 
-def lines(text):
+def lines(text: bytes) -> bytes:
     """The lines of some text, to be printed; the usual end of a line is left out."""
     if not text:
         return b""
@@ -46,7 +51,7 @@ def lines(text):
     return b"  " + usual[:-2] if usual[-3:] == b"\n  " else b"  " + usual + NO_RETURN + b"\n"
 
 
-def odd_lines(text):
+def odd_lines(text: bytes) -> bytes:
     """The same of any text; `lines` has a shorter way for what is printable, with the usual ends."""
     text = formats.shown_bytes(text if text[-1] == 10 else text + b"\n", KEPT)
     text = LONE.sub(lambda _: NO_RETURN + b"\n", text).replace(b"\r\n", b"\n").replace(b"\r", b"\\x0d")
@@ -56,34 +61,35 @@ def odd_lines(text):
 class Shown:
     """What is printed: records that are chosen, up to the last of the first ones."""
 
-    def __init__(self, connection=None, key=None, first=None, is_numbered=False):
+    def __init__(self, connection: int | None = None, key: bytes | None = None, first: int | None = None,
+                 is_numbered: bool = False) -> None:
         self.connection, self.key, self.left, self.is_numbered = connection, key, first, is_numbered
         self.write = sys.stdout.buffer.write
 
-    def count(self):
+    def count(self) -> None:
         """A record was printed; after the last one the tool ends."""
         if self.left is not None:
             self.left -= 1
             if not self.left:
                 ends.end(0)
 
-    def text(self, head, text):
+    def text(self, head: bytes, text: bytes) -> None:
         self.write(b"%s: %d bytes\n%s" % (head, len(text), lines(text)))
         self.count()
 
     # ---- captures
 
-    def capture(self, part):
+    def capture(self, part: Part) -> None:
         version, count = formats.capture_head(part)
         self.write(b"capture, version %d, connections %d\n" % (version, count))
-        records = formats.capture_records(part, version, count)
+        records: Iterator[formats.Record] = formats.capture_records(part, version, count)
         if self.key is not None:
             self.commands(records)
             return
         if self.connection is not None:
             records = (record for record in records if record.connection == self.connection)
         for record in records:
-            if record.__class__ is formats.Segment:
+            if isinstance(record, formats.Segment):
                 connection, text = record
                 self.write(b"connection %d: %d bytes\n%s" % (connection, len(text), lines(text)))
             else:
@@ -91,9 +97,10 @@ class Shown:
             if self.left:
                 self.count()
 
-    def commands(self, records):
+    def commands(self, records: Iterator[formats.Record]) -> None:
         """The commands that name the key."""
-        framers, numbers = {}, Counter()
+        framers: dict[int, Framer] = {}
+        numbers: Counter[int] = Counter()
         for place, record in enumerate(records):
             connection = record.connection
             if self.connection not in (None, connection):
@@ -108,7 +115,7 @@ class Shown:
 
     # ---- replies files
 
-    def replies(self, part):
+    def replies(self, part: Part) -> None:
         version = formats.replies_version(part)
         self.write(b"replies, version %d\n" % version)
         for connection, session, length in formats.replies_heads(part, version):
@@ -116,7 +123,7 @@ class Shown:
                 head = b"connection %d" % connection + (b" session %d" % session if version == 2 else b"")
                 self.output(part, head, length)
 
-    def output(self, part, head, length):
+    def output(self, part: Part, head: bytes, length: int) -> None:
         if self.is_numbered:
             self.write(b"%s: %d bytes\n" % (head, length))
             for number, text in enumerate(answers(part.take(length))):
@@ -127,7 +134,7 @@ class Shown:
             self.text(head, part.take(length))
             return
         self.write(b"%s: %d bytes\n" % (head, length))
-        left = []
+        left: list[bytes] = []
         for piece in part.pieces(length):
             end = piece.rfind(b"\n") + 1
             if end:
@@ -139,7 +146,7 @@ class Shown:
 
     # ---- journals
 
-    def journal(self, part):
+    def journal(self, part: Part) -> None:
         self.write(b"journal\n")
         for record in formats.journal_records(part):
             if self.connection not in (None, record.connection):
@@ -152,13 +159,13 @@ class Shown:
                            f"{formats.told(call)} -> {formats.told(reply)}\n".encode())
                 self.count()
 
-    def hold(self, record):
+    def hold(self, record: formats.Hold) -> None:
         if self.key is None:
             self.write(b"  hold of connection %d by core %d: %d commands\n" % record)
             self.count()
 
 
-def main(words):
+def main(words: list[str]) -> None:
     given, files = ends.options(words, OPTIONS)
     key = given.get("--key")
     key = formats.bytes_of(key) if key else None

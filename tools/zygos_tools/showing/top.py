@@ -16,19 +16,26 @@ word too. A block after a rejected line is read as lines.
 Sizes are those of values that are stored, and in a journal of those that are found. Memory grows with the number of
 different keys, not with the file.
 """
+from __future__ import annotations
+
 import heapq
 from collections import Counter
+from collections.abc import Callable, Iterable, Mapping, Sequence
+from typing import TypeVar
 
 from zygos_tools.cli import ends
 from zygos_tools.files import formats
 from zygos_tools.files import inputs
-from zygos_tools.files.part import Fault
+from zygos_tools.files.part import Fault, Part
 from zygos_tools.protocol.answers import name_of
-from zygos_tools.protocol.meaning import Framer, line_of
+from zygos_tools.protocol.meaning import Command, Framer, line_of
 from zygos_tools.protocol.table import does
 
 GROUPS = 128
-OPTIONS = {"--first": ends.number(1), "--cores": ends.number(1, formats.MOST_CORES)}
+# what has a count, and what says it
+Named = TypeVar("Named", int, str, bytes)
+Counted = TypeVar("Counted")
+OPTIONS: dict[str, ends.Option | None] = {"--first": ends.number(1), "--cores": ends.number(1, formats.MOST_CORES)}
 
 
 class Key:
@@ -36,33 +43,37 @@ class Key:
 
     __slots__ = "calls", "gets", "hits", "stores", "largest"
 
-    def __init__(self):
+    def __init__(self) -> None:
         self.calls = self.gets = self.hits = self.stores = self.largest = 0
 
 
 class Counts:
     """What is counted of a capture or a journal: how often it has a name, a key, a size of values, and so on."""
 
-    def __init__(self):
-        self.names, self.keys, self.hits = Counter(), {}, 0
-        self.stored, self.found = Counter(), Counter()  # by the number of binary digits of a size
-        self.connections, self.done = Counter(), Counter()  # commands by connection, and by the core that did them
-        self.faults = Counter()  # faulty lines, by their first words
+    def __init__(self) -> None:
+        self.names: Counter[str] = Counter()
+        self.keys: dict[bytes, Key] = {}
+        self.hits = 0
+        self.stored: Counter[int] = Counter()  # by the number of binary digits of a size
+        self.found: Counter[int] = Counter()
+        self.connections: Counter[int] = Counter()  # commands by connection, and by the core that did them
+        self.done: Counter[int] = Counter()
+        self.faults: Counter[str] = Counter()  # faulty lines, by their first words
 
-    def key(self, key):
+    def key(self, key: bytes) -> Key:
         row = self.keys.get(key)
         if row is None:
             row = self.keys[key] = Key()
         row.calls += 1
         return row
 
-    def store(self, row, size):
+    def store(self, row: Key, size: int) -> None:
         self.stored[size.bit_length()] += 1
         row.stores += 1
         row.largest = max(row.largest, size)
 
-    def capture(self, part):
-        framers = {}
+    def capture(self, part: Part) -> None:
+        framers: dict[int, Framer] = {}
         for record in formats.capture_records(part, *formats.capture_head(part)):
             connection = record.connection
             if isinstance(record, formats.Close):
@@ -74,7 +85,7 @@ class Counts:
                 self.connections[connection] += 1
                 self.command(command, frame)
 
-    def command(self, command, frame):
+    def command(self, command: Command, frame: bytes) -> None:
         self.names[command.verb] += 1
         if command.verb == "fault":
             self.faults[name_of(line_of(frame))] += 1
@@ -85,7 +96,7 @@ class Counts:
             elif does(command) == "get":
                 row.gets += 1
 
-    def journal(self, part):
+    def journal(self, part: Part) -> None:
         for record in formats.journal_records(part):
             if isinstance(record, formats.Entry):
                 self.entry(record.call, record.reply)
@@ -93,7 +104,7 @@ class Counts:
                 self.connections[record.connection] += record.count
                 self.done[record.core] += record.count
 
-    def entry(self, call, reply):
+    def entry(self, call: formats.Call, reply: formats.Reply) -> None:
         self.names[call.name] += 1
         if call.key is None:
             return
@@ -113,11 +124,11 @@ class Counts:
 # ---- what is printed
 
 
-def share(count, of):
+def share(count: int, of: int) -> str:
     return f"{100 * count / of:.1f} %" if of else "-"
 
 
-def table(title, heads, rows):
+def table(title: str, heads: list[str], rows: Iterable[Sequence[object]]) -> None:
     """Prints a table; all columns but the last are right-aligned."""
     print(f"\n{title}")
     lines = [heads, *[[str(cell) for cell in row] for row in rows]]
@@ -126,22 +137,22 @@ def table(title, heads, rows):
         print("  ".join(["", *(cell.rjust(width) for cell, width in zip(line[:-1], widths)), line[-1]]))
 
 
-def most(counts, first, count):
+def most(counts: Mapping[Named, Counted], first: int, count: Callable[[Counted], int]) -> list[tuple[Named, Counted]]:
     """Those with the greatest counts."""
     return heapq.nsmallest(first, counts.items(), key=lambda one: (-count(one[1]), one[0]))
 
 
-def of(first, count):
+def of(first: int, count: int) -> str:
     return f"the first {first} of {count}" if first < count else f"all {count}"
 
 
 class Printed:
     """Prints what was counted; of a journal there are answers."""
 
-    def __init__(self, counts, is_journal, first, cores):
+    def __init__(self, counts: Counts, is_journal: bool, first: int, cores: int | None) -> None:
         self.counts, self.is_journal, self.first, self.cores = counts, is_journal, first, cores
 
-    def all(self):
+    def all(self) -> None:
         counts = self.counts
         commands, calls = sum(counts.connections.values()), sum(counts.names.values())
         what = f"journal: {calls} calls of {commands} commands" if self.is_journal else f"capture: {commands} commands"
@@ -160,8 +171,9 @@ class Printed:
         self.connections(commands)
         self.homes(commands)
 
-    def keys(self):
-        rows, calls = [], sum(row.calls for row in self.counts.keys.values())
+    def keys(self) -> None:
+        rows: list[Sequence[object]] = []
+        calls = sum(row.calls for row in self.counts.keys.values())
         for key, row in most(self.counts.keys, self.first, lambda row: row.calls):
             hits = [share(row.hits, row.gets)] if self.is_journal else []
             counts = row.calls, share(row.calls, calls), row.gets, *hits, row.stores, row.largest
@@ -171,9 +183,9 @@ class Printed:
             table(f"keys, {of(self.first, len(self.counts.keys))}",
                   ["calls", "share", "gets", *hits, "stores", "largest", "key"], rows)
 
-    def sizes(self):
+    def sizes(self) -> None:
         stored, found = self.counts.stored, self.counts.found
-        rows = []
+        rows: list[Sequence[object]] = []
         for digits in sorted({*stored, *found}):
             least, greatest = 1 << digits >> 1, (1 << digits) - 1
             name = f"{least} to {greatest} bytes" if least < greatest else f"{least} byte" + "s" * (least != 1)
@@ -181,21 +193,22 @@ class Printed:
         if rows:
             table("sizes of values", ["stored", *(["found"] if self.is_journal else []), "size"], rows)
 
-    def connections(self, commands):
+    def connections(self, commands: int) -> None:
         found = self.counts.connections
         rows = [[count, share(count, commands), self.home(connection), connection]
                 for connection, count in most(found, self.first, int)]
         if rows:
             table(f"connections, {of(self.first, len(found))}", ["commands", "share", "home", "connection"], rows)
 
-    def home(self, connection):
+    def home(self, connection: int) -> int | str:
         return connection % GROUPS % self.cores if self.cores else "-"
 
-    def homes(self, commands):
+    def homes(self, commands: int) -> None:
         if not self.cores:
             print(f"\nhome cores are left out: --cores is not given, and core {max(self.counts.done)} has commands")
             return
-        homes, connections = Counter(), Counter(map(self.home, self.counts.connections))
+        homes: Counter[int | str] = Counter()
+        connections = Counter(map(self.home, self.counts.connections))
         for connection, count in self.counts.connections.items():
             homes[self.home(connection)] += count
         done = ["done"] if self.is_journal else []
@@ -204,7 +217,7 @@ class Printed:
         table(f"home cores, of {self.cores}", ["commands", "share", *done, "connections", "core"], rows)
 
 
-def cores_of(counts, given, part):
+def cores_of(counts: Counts, given: int | None, part: Part) -> int | None:
     """For how many cores homes are given; None where there were more than the usual number."""
     seen = max(counts.done, default=-1) + 1
     if given and seen > given:
@@ -212,9 +225,10 @@ def cores_of(counts, given, part):
     return given or (4 if seen <= 4 else None)
 
 
-def show(part, first, cores):
+def show(part: Part, first: int, cores: int | None) -> None:
     """Prints what a capture or a journal has, up to its first fault."""
-    counts, fault = Counts(), None
+    counts = Counts()
+    fault: Fault | None = None
     try:
         (counts.journal if part.name == "journal" else counts.capture)(part)
     except Fault as found:
@@ -224,7 +238,7 @@ def show(part, first, cores):
         raise fault
 
 
-def main(words):
+def main(words: list[str]) -> None:
     given, files = ends.options(words, OPTIONS)
     shown = 0
     for name in files or ["-"]:
