@@ -18,6 +18,7 @@ from zygos_tools.judging import clock
 from zygos_tools.judging.clock import Clock
 from zygos_tools.judging.events import Verdict
 from zygos_tools.judging.judge import Judge
+from zygos_tools.protocol.pace import Pace
 
 
 def recorded(steps):
@@ -169,6 +170,8 @@ def lists_of_operators():
                  (0, b"get k\r\n", hit(b"k", b"x"))]
         name = f"{line.split()[0].decode()} left out"
         same(f"{line!r}", ("order found", {name: 1}), judged(steps)[:2])
+        pace = Pace()
+        same(f"{line!r}, as the recorder counts", (1, 1), (pace.sent(line + b"\r\n"), pace.heard(answer)))
     watched = [(0, b"watch mutations\r\n", b"OK\r\n"), (1, *stored(b"k", b"x")), (0, b"", b"ts=1.1 gid=1 type=item_store key=k\r\n"),
                (1, b"get k\r\n", hit(b"k", b"x"))]
     word, _, judge = judged(watched)

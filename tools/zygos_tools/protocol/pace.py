@@ -18,8 +18,8 @@ NAMING = tuple(word for word, kind in BY_WORD.items() if kind.unique)
 CODES = (*META_CODES, *ERRORS)
 # first bytes that are not those of text
 ODD = {0x80: "the binary protocol", 0x16: "TLS"}
-# the first words of lines after which an answer goes on
-LONG = (b"VALUE", b"STAT", b"ITEM")
+# the first words of lines after which an answer goes on, and how others begin
+LONG, KEY = (b"VALUE", b"STAT", b"ITEM", b"PREFIX", b"mg"), b"key="
 # the first words of lines that name a key or may show a unique, and how many words they have where they do neither
 ITEMS = {b"VALUE": 1, b"VA": 2, b"HD": 1}
 # what is kept of a line, in bytes
@@ -161,7 +161,7 @@ class Answers(Lines):
             size = number(words, {b"VALUE": 3, b"VA": 1}[word]) if word in (b"VALUE", b"VA") else None
             if size is not None:
                 self.block, self.word = size + 2, word if word == b"VA" else None
-            elif word not in LONG:
+            elif word not in LONG and not word.startswith(KEY):
                 yield self.answer(word, end)
 
     def answer(self, word: bytes, end: int) -> Answer:
