@@ -18,16 +18,10 @@ WIDE = USUAL + " md quiet touch touchq gat gats stats version verbosity fault"
 class Memcached(Shard):
     """The store, with the answers to commands."""
 
+    pads = True
+
     def __init__(self):
         super().__init__(0, 1)
-
-    def count(self, item, call):
-        if not item or not item.value.rstrip(b" ").isdigit():
-            return super().count(item, call)
-        self.items[call.key] = item._replace(value=item.value.rstrip(b" "))
-        reply, new = super().count(self.items[call.key], call), self.items[call.key]
-        self.items[call.key] = new._replace(value=new.value.ljust(len(item.value)))
-        return reply
 
     def answer_to(self, command, frame, replies):
         """The text that answers a command."""

@@ -77,7 +77,10 @@ def calls(shards: int, command: Command) -> list[tuple[int, Call]]:
 
 
 class Shard:
-    """A shard: its items, how many it stored, and its calls with their replies."""
+    """A shard: its items, how many it stored, and its calls with their replies. One that `pads` is a memcached's, in which
+    a number that becomes shorter keeps its length."""
+
+    pads = False
 
     def __init__(self, number: int, shards: int) -> None:
         self.number, self.shards, self.stored = number, shards, 0
@@ -97,7 +100,7 @@ class Shard:
             return Reply("flushed")
         item = self.items.get(call.key)
         given = call.number if call.name in ("incr", "decr") else call.unique
-        done = step(call.name, item, call.flags, call.value, given)
+        done = step(call.name, item, call.flags, call.value, given, self.pads)
         if done.left is None:
             self.items.pop(call.key, None)
         elif done.left is not item:
