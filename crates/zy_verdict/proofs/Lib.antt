@@ -1,4 +1,4 @@
-mod ListLemmas
-mod NameLemmas
-mod MomentLemmas
-mod CourseLemmas
+pub mod ListLemmas
+pub mod NameLemmas
+pub mod MomentLemmas
+pub mod CourseLemmas

@@ -1,0 +1,6 @@
+pub mod ListLemmas
+pub mod StoreLemmas
+pub mod ChainLemmas
+pub mod ChooseLemmas
+pub mod MakeLemmas
+pub mod TimingLemmas

@@ -1,0 +1,104 @@
+-- The items of a server at a point of an order. No public clause cites this module.
+use Rattle.std.specs.Prelude.{◌≡◌, ℕ, ◌<◌, Bool, true, false, List, [], ◌∷◌, length, Option, None, Some}
+use Rattle.std.specs.List.{slice_get}
+use Rattle.std.specs.Ordering.{nat_cmp}
+use Rattle.std.specs.Cmp.Lexicographic.{slice_cmp}
+use Rattle.std.specs.BTreeMap.{BTreeMap, get}
+use Rattle.std.specs.BTreeSet.{contains}
+use Rattle.mc_allows.specs.declared.said.Said.{Said}
+use Rattle.mc_allows.specs.Allows.{Allows}
+use Rattle.mc_allows.specs.Steps.{KeyStep, made, lost, is_same, AreAllowed, item_after, unique_stored, uniques_with, HaveNewUniques}
+use Rattle.mc_calls.specs.declared.item.Item.{Item}
+use Rattle.mc_calls.specs.Key.{shard_of}
+use Rattle.mc_parse.specs.declared.shard_call.ShardCall.{ShardCall}
+use Rattle.zy_verdict.specs.Entries.{MadeCall, is_at_key, placed_at, AreStepsOf}
+use Rattle.zy_confirm.specs.declared.outcome.After.{After}
+use Rattle.zy_confirm.specs.declared.store.Store.{Store}
+use Rattle.zy_confirm.specs.Choosing.{after_by, unique_given}
+
+-- ---- items
+
+-- the item of a key in a map, if there is a map
+abbrev pub item_on_shard : Option (BTreeMap (List ℕ) Item) → List ℕ → Option Item
+item_on_shard None key = None
+item_on_shard (Some items) key = get (slice_cmp nat_cmp) items key
+
+-- the number of shards
+abbrev pub store_shards : Store → ℕ
+store_shards store = length store.shards.items
+
+-- the item of a key
+abbrev pub held_at : Store → List ℕ → Option Item
+held_at store key = item_on_shard (slice_get store.shards.items (shard_of key (store_shards store))) key
+
+-- the unique was given to an item
+abbrev pub is_used : Store → ℕ → Bool
+is_used store unique = contains nat_cmp store.used unique
+
+-- a store of this many shards without items
+pub record HoldsNothing (shards : ℕ) (store : Store) : Type 0 where
+  pub count : store_shards store ≡ shards
+  pub none : (key : List ℕ) → held_at store key ≡ None
+
+-- ---- one call
+
+-- the call is on the shard of its key, or on one of the shards if it has none
+abbrev pub IsOnItsShard : ℕ → Option (List ℕ) → ℕ → Type 0
+IsOnItsShard shards None shard = shard < shards
+IsOnItsShard shards (Some key) shard = shard ≡ shard_of key shards
+
+-- the unique of an item that was stored was not given before, and is now
+abbrev pub IsNewlyUsed : Store → Store → Option ℕ → Type 0
+IsNewlyUsed before after None = Unit {0}
+IsNewlyUsed before after (Some unique) = (is_used before unique ≡ false) × (is_used after unique ≡ true)
+
+-- a store was changed at one key only, where an item that was stored got this unique
+pub record ChangesAt (before after : Store) (key : List ℕ) (unique : ℕ) (change : After) : Type 0 where
+  pub shards : store_shards after ≡ store_shards before
+  pub here : held_at after key ≡ after_by (held_at before key) unique change
+  pub others : (other : List ℕ) → is_same other key ≡ false → held_at after other ≡ held_at before other
+  pub used : (one : ℕ) → is_used before one ≡ true → is_used after one ≡ true
+  pub fresh : IsNewlyUsed before after (unique_given unique change)
+
+-- the items of one shard were removed
+pub record Clears (before after : Store) (shard : ℕ) : Type 0 where
+  pub shards : store_shards after ≡ store_shards before
+  pub here : (key : List ℕ) → shard_of key (store_shards before) ≡ shard → held_at after key ≡ None
+  pub others : (key : List ℕ) → (shard_of key (store_shards before) ≡ shard → ⊥) → held_at after key ≡ held_at before key
+  pub used : (one : ℕ) → is_used before one ≡ true → is_used after one ≡ true
+
+-- a call that was answered so led from one store to another
+pub record MakesCall (before after : Store) (call : ShardCall) (said : Said) : Type 0 where
+  pub shards : store_shards after ≡ store_shards before
+  pub allowed : (key : List ℕ) → is_at_key (store_shards before) key call ≡ true
+      → Allows (held_at before key) call.call said (held_at after key)
+  pub fresh : (key : List ℕ) → is_at_key (store_shards before) key call ≡ true
+      → IsNewlyUsed before after (unique_stored said (held_at after key))
+  pub others : (key : List ℕ) → is_at_key (store_shards before) key call ≡ false → held_at after key ≡ held_at before key
+  pub used : (unique : ℕ) → is_used before unique ≡ true → is_used after unique ≡ true
+
+-- ---- chains
+
+-- the uniques that were given since the last loss, after these steps
+abbrev pub uniques_after : List ℕ → List KeyStep → List ℕ
+uniques_after before [] = before
+uniques_after before (made name call said after ∷ steps) = uniques_after (uniques_with before (unique_stored said after)) steps
+uniques_after before (lost ∷ steps) = uniques_after [] steps
+
+-- each of these uniques was given
+abbrev pub AreUsed : Store → List ℕ → Type 0
+AreUsed store [] = Unit {0}
+AreUsed store (unique ∷ uniques) = (is_used store unique ≡ true) × AreUsed store uniques
+
+-- the entries at a key are allowed steps from no item to what the store has
+pub record KeyStands (store : Store) (key : List ℕ) (entries : List MadeCall) (steps : List KeyStep) : Type 0 where
+  pub calls : AreStepsOf entries steps
+  pub allowed : AreAllowed false None None steps
+  pub ends : item_after None steps ≡ held_at store key
+  pub new : HaveNewUniques [] steps
+  pub used : AreUsed store (uniques_after [] steps)
+
+-- the same at each key
+abbrev pub StandsAfter : Store → List MadeCall → Type 0
+StandsAfter store entries = (key : List ℕ) → (steps : List KeyStep)
+    × KeyStands store key (placed_at (store_shards store) key entries) steps

@@ -1,0 +1,15 @@
+//! Follows an order of calls that may explain a recording.
+#![tactic(auto)]
+
+mod choosing;
+mod counting;
+mod laws;
+mod making;
+mod outcome;
+mod store;
+mod timing;
+
+pub use laws::an_order_has_chains;
+pub use making::make;
+pub use store::Store;
+pub use timing::{ended_by, is_unended, marks_fit};

@@ -1,0 +1,134 @@
+//! The items of a server at a point of an order.
+ghost use Rattle.std.specs.Prelude.{◌≡◌, ◌<◌, None, true, option_copied, IfOk, OnOk};
+ghost use Rattle.mc_calls.specs.Key.{shard_of};
+ghost use Rattle.zy_confirm.specs.Store.{store_shards, held_at, ChangesAt, Clears, HoldsNothing};
+
+use crate::outcome::After;
+use mc_calls::Item;
+use std::alloc::Global;
+use std::collections::{BTreeMap, BTreeSet};
+use std::mem;
+use zy_base::{Blob, NoMemory};
+
+/// The items of each shard, and the uniques that were given.
+#[derive(Drop)]
+pub struct Store {
+    alloc: Global,
+    shards: Vec<BTreeMap<Blob, Item>>,
+    used: BTreeSet<u64>,
+}
+
+impl Store {
+    /// Begins without items.
+    pub fn new(alloc: Global, shards: u32) -> Result<Store, NoMemory>
+        ensures none { IfOk result (HoldsNothing shards) }
+    {
+        let Ok(mut made) = Vec::with_capacity(alloc, shards as usize) else {
+            return Err(NoMemory);
+        };
+        for _ in 0..shards {
+            made.push_reserved(BTreeMap::new(alloc));
+        }
+        Ok(Store {
+            alloc,
+            shards: made,
+            used: BTreeSet::new(alloc),
+        })
+    }
+
+    // Returns the item of a key, which is on this shard.
+    pub(crate) fn found(&self, shard: u32, key: &Blob) -> Option<&Item>
+        requires within { shard < store_shards self.now }
+        requires own { shard ≡ shard_of key.now (store_shards self.now) }
+        ensures value { option_copied result ≡ held_at self.now key.now }
+    {
+        self.shards[shard as usize].get(key)
+    }
+
+    // Changes what a key has, which is on this shard. Returns whether the unique of an item that is
+    // stored is new.
+    pub(crate) fn change(
+        &mut self,
+        shard: u32,
+        key: &Blob,
+        unique: u64,
+        after: After,
+    ) -> Result<bool, NoMemory>
+        requires within { shard < store_shards self.old }
+        requires own { shard ≡ shard_of key.now (store_shards self.old) }
+        ensures changed { IfOk result (λ new. new ≡ true
+            → ChangesAt self.old self.new key.now unique after) }
+    {
+        match after {
+            After::Same => Ok(true),
+            After::Gone => {
+                self.remove(shard, key);
+                Ok(true)
+            }
+            After::Put { flags, value } => self.put(
+                shard,
+                key,
+                Item {
+                    flags,
+                    value,
+                    unique,
+                },
+            ),
+        }
+    }
+
+    // Puts an item at a key, which is on this shard, if its unique is new.
+    fn put(&mut self, shard: u32, key: &Blob, item: Item) -> Result<bool, NoMemory>
+        requires within { shard < store_shards self.old }
+        requires own { shard ≡ shard_of key.now (store_shards self.old) }
+        ensures changed { IfOk result (λ new. new ≡ true
+            → ChangesAt self.old self.new key.now item.unique (After.Put item.flags item.value)) }
+    {
+        match self.used.insert(item.unique) {
+            Ok(true) => {}
+            Ok(false) => {
+                drop(item);
+                return Ok(false);
+            }
+            Err(_) => {
+                drop(item);
+                return Err(NoMemory);
+            }
+        }
+        let key = match key.copy() {
+            Ok(key) => key,
+            Err(refused) => {
+                drop(item);
+                return Err(refused);
+            }
+        };
+        match self.shards[shard as usize].insert(key, item) {
+            Ok(old) => {
+                drop(old);
+                Ok(true)
+            }
+            Err(refused) => {
+                drop(refused);
+                Err(NoMemory)
+            }
+        }
+    }
+
+    // Removes the item of a key, which is on this shard.
+    fn remove(&mut self, shard: u32, key: &Blob)
+        requires within { shard < store_shards self.old }
+        requires own { shard ≡ shard_of key.now (store_shards self.old) }
+        ensures changed { ChangesAt self.old self.new key.now 0 After.Gone }
+    {
+        drop(self.shards[shard as usize].remove(key));
+    }
+
+    // Removes all items of a shard.
+    pub(crate) fn clear(&mut self, shard: u32)
+        requires within { shard < store_shards self.old }
+        ensures cleared { Clears self.old self.new shard }
+    {
+        let alloc = self.alloc;
+        drop(mem::replace(&mut self.shards[shard as usize], BTreeMap::new(alloc)));
+    }
+}
