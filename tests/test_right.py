@@ -257,6 +257,17 @@ def stores_that_fail():
         same(f"several, {more}", "order found", judged(several, **more)[0])
 
 
+def quiet_stores_that_may_fail():
+    """With noreply nobody is told that a store failed."""
+    large = b"set a 0 0 1040000 noreply\r\n%s\r\n" % bytes(1040000)
+    kept = (0, b"get a\r\n", hit(b"a", b"1"))
+    for after in (kept, GONE):
+        same("a large value", "unknown", judged([ONE, (0, large, b""), after])[0])
+    quiet = (0, b"set a 0 0 1 noreply\r\n2\r\n", b"")
+    same("a small value", "no", judged([ONE, quiet, kept])[0])
+    same("a small value, with --may-forget", "unknown", judged([ONE, quiet, kept], loses=True)[0])
+
+
 def lines_that_may_be_carried_out():
     """A faulty line that had no error may have been carried out, and its block read as memcached reads it."""
     quiet = b"set a 0 +5 1 noreply\r\n2\r\n"
@@ -361,5 +372,5 @@ def flags_are_told():
 
 Tests = cases(uniques_after_a_restart, uniques_that_do_not_count, a_block_that_is_dropped, batches_that_cannot_be_followed,
               items_in_any_order, lists_of_operators, answers_that_are_left, flushes_with_a_delay, connections_that_are_refused,
-              authentications, stores_that_fail, lines_that_may_be_carried_out, commands_of_sessions_that_ended,
+              authentications, stores_that_fail, quiet_stores_that_may_fail, lines_that_may_be_carried_out, commands_of_sessions_that_ended,
               no_key_is_left, files_that_are_none, at_a_terminal, flags_are_told, hot_keys_hold_nobody_up)

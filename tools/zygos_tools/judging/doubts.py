@@ -7,7 +7,7 @@ from __future__ import annotations
 import copy
 from collections.abc import Sequence
 
-from zygos_tools.judging.events import FOREVER, GET, Event
+from zygos_tools.judging.events import (ADD, APPEND, CAS, DECR, FOREVER, GET, INCR, PREPEND, REPLACE, SET, Event)
 from zygos_tools.judging.reading import Recording
 from zygos_tools.judging.table import ANSWERED, DROPPED, VERB_OF
 from zygos_tools.protocol.meaning import line_of
@@ -16,6 +16,12 @@ V_SET = VERB_OF["set"]
 LATE = "a command that was not answered before its connection ended may have been carried out later"
 ENTERING = ("the first command of a session stores two words, which is no set but an authentication if the server asks"
             " for one (-Y): --except-keys leaves its key out")
+
+
+LARGE = "a value of nearly 1 MiB was stored with noreply, and the server may have refused it: --except-keys leaves its key out"
+QUIET = "a command with noreply may have failed, as the server may lack memory"
+# of how many bytes a value is surely taken, and the calls that can fail without an answer
+MOST_SURE, STORES = 1000000, (SET, ADD, REPLACE, APPEND, PREPEND, CAS, INCR, DECR)
 
 
 class Doubts:
@@ -41,31 +47,34 @@ class Doubts:
         line = line_of(self.table.original(first[1])).decode("latin-1")
         return f"items may have been lost after `{line}`: --may-forget lets items go"
 
-    def loosened(self, events: Sequence[Event]) -> tuple[list[Event], str | None]:
-        """These calls, as far as they are surely known, and why that is less; no reason if it is not."""
+    def loosened(self, events: Sequence[Event], loses: bool) -> tuple[list[Event], str | None]:
+        """These calls, as far as they are surely known, and why that is less; no reason if it is not. With `loses` the
+        server may lose items."""
         found: list[Event] = []
         reason: str | None = None
         for event in events:
-            new, why = self.loose(event)
+            new, why = self.loose(event, loses)
             reason = reason or why
-            if new is not None:
-                found.append(new)
+            found += new
         if any(event.command in self.tails for event in events):
             found = [in_session(event, self.table.session[event.command], event.command in self.tails)
                      for event in found]
         return found, reason
 
-    def loose(self, event: Event) -> tuple[Event | None, str | None]:
-        """What is surely known of a call, None if nothing is, and why that is less than was taken to be known."""
+    def loose(self, event: Event, loses: bool) -> tuple[list[Event], str | None]:
+        """What is surely known of a call, and why that is less than was taken to be known."""
         table, command = self.table, event.command
         odd = self.recording.odd.get((event.connection, table.session[command]))
         if odd and table.number[command] >= odd.since:
-            return (None if event.kind == GET else perhaps(event)), odd.why
+            return [] if event.kind == GET else [perhaps(event)], odd.why
         if command in self.entering:
-            return perhaps(event), ENTERING
-        if command in self.tails:
-            return event, LATE
-        return event, None
+            return [perhaps(event)], ENTERING
+        if event.want is None and event.kind in STORES and not event.optional:
+            if len(event.value or b"") > MOST_SURE:
+                return [perhaps(event), failed(event)], LARGE
+            if loses:
+                return [perhaps(event)], QUIET
+        return [event], LATE if command in self.tails else None
 
 
 def perhaps(event: Event) -> Event:
@@ -74,6 +83,13 @@ def perhaps(event: Event) -> Event:
     event.optional = True
     if event.want != "failed":
         event.want = None
+    return event
+
+
+def failed(event: Event) -> Event:
+    """A call that may have failed, and removed the item then."""
+    event = perhaps(event)
+    event.want, event.item = "failed", None
     return event
 
 

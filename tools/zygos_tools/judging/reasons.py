@@ -67,7 +67,7 @@ def is_doubtful_number(event: Event) -> bool:
 def reason_of(keys: Keys, calls: Calls, at: int) -> Verdict:
     """What is said of calls that have no order: if they have one as far as they are surely known, that is unknown."""
     reason = Reason(keys, calls, at)
-    events, why = keys.doubts.loosened(calls.events) if keys.doubts else (calls.events, None)
+    events, why = keys.doubts.loosened(calls.events, calls.states.loses) if keys.doubts else (calls.events, None)
     if why is None:
         return reason.verdict()
     loose = Reason(keys, replace(calls, events=events), at)
