@@ -116,6 +116,9 @@ def a_block_that_is_dropped():
         same(f"the keys that have an order with {flags!r}", [b"b", b"m"], sorted(judge.keys.found))
         same(f"what is said of {flags!r}", wanted == "unknown", wanted == "unknown" and lines[0] ==
              "unknown: commands that the profile leaves out: ms (1); --except-keys 'a' leaves out their keys")
+        if wanted == "unknown":
+            more = {"is_chosen": lambda key: key != b"a"}
+            same(f"without the key, with {flags!r}", "order found", judged([(0, *stored(b"b", b"1")), (1, sent, answer), *later], **more)[0])
     base64 = [(0, b"ms YQ== 1 b\r\nx\r\n", b"HD\r\n"), (1, b"get a\r\n", hit(b"a", b"x"))]
     same("a key in base64", "unknown", judged(base64)[0])
     lines_in_block = [(0, *stored(b"b", b"1")), (1, b"ms a 10 ?\r\ndelete b\r\n\r\n", bad + b"DELETED\r\n"),

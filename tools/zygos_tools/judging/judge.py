@@ -14,10 +14,12 @@ from zygos_tools.judging.graph import Graph
 from zygos_tools.judging.keys import Keys
 from zygos_tools.judging.mending import MOST_TURNS, Mending, keys_in
 from zygos_tools.judging.numbering import Stores, numbered
-from zygos_tools.judging.reading import Recording
+from zygos_tools.judging.reading import Recording, keys_left_out
 from zygos_tools.judging.seeing import Seeing
 from zygos_tools.judging.sorting import Sorting
-from zygos_tools.judging.table import DROPPED, HAS_UNIQUE
+from zygos_tools.judging.table import DROPPED, HAS_UNIQUE, V_FAULT
+from zygos_tools.protocol.answers import FAULT
+from zygos_tools.protocol.meaning import line_of
 
 
 class Unfitted(Unknown):
@@ -63,6 +65,8 @@ class Judge:
         chosen = [is_chosen(key) for key in table.keys]
         for command, state in enumerate(table.state):
             keys = [table.key[call] for call in table.calls_of(command)]
+            if not state & DROPPED and not keys and table.verb[command] == V_FAULT:
+                self.leave_out_line(command, is_chosen)
             if state & DROPPED or not keys or keys[0] < 0:
                 continue
             several = {chosen[key] for key in keys}
@@ -71,6 +75,13 @@ class Judge:
                 self.recording.notes["commands on keys left out"] += 1
             is_closed = is_closed and len(several) == 1
         return is_closed
+
+    def leave_out_line(self, command: int, is_chosen: Callable[[bytes], bool]) -> None:
+        """Leaves out a line that the profile leaves out, and that the server carried out on keys that are not chosen."""
+        answer, keys = self.table.answer(command), keys_left_out(line_of(self.table.original(command)))
+        if keys and not any(map(is_chosen, keys)) and answer is not None and not FAULT.match(answer):
+            self.table.state[command] |= DROPPED
+            self.recording.notes["commands on keys left out"] += 1
 
     def worst(self) -> Verdict:
         """The first `no`, or else the first fault."""
