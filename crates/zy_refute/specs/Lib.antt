@@ -1,0 +1,3 @@
+pub mod Observed
+pub mod Courses
+pub mod Unmet

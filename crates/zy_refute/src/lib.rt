@@ -1,0 +1,22 @@
+//! Refutes that the calls at a key have an order, by rules over when they were sent and ended.
+#![tactic(auto)]
+
+mod candidates;
+mod laws;
+mod meeting;
+mod need;
+mod observed;
+mod order;
+mod rests;
+mod sources;
+mod store;
+mod unmet;
+
+pub use laws::a_need_without_a_source_is_never_met;
+pub use meeting::is_never_met;
+pub use need::Need;
+pub use observed::Observed;
+pub use order::is_surely_before;
+pub use sources::has_no_source;
+pub use store::Store;
+pub use unmet::{find_unmet, is_unmet};

@@ -1,0 +1,19 @@
+//! Calls at a key, as a recording shows them.
+
+use mc_allows::{CallName, Shown};
+use mc_calls::Call;
+
+/// A call at a key, as a recording shows it.
+#[derive(Drop)]
+pub struct Observed {
+    pub name: CallName,
+    pub call: Call,
+    /// What its answer shows of what was said to it.
+    pub shown: Shown,
+    /// It occurs in every order.
+    pub sure: bool,
+    /// The first moment at which its command is sent.
+    pub sent: u64,
+    /// The first moment at which its command is ended, if it ever is.
+    pub ended: Option<u64>,
+}
