@@ -8,8 +8,10 @@ mod making;
 mod outcome;
 mod store;
 mod timing;
+mod walk;
 
-pub use laws::an_order_has_chains;
+pub use laws::{an_order_follows_sessions, an_order_has_chains};
 pub use making::make;
 pub use store::Store;
 pub use timing::{ended_by, is_unended, marks_fit};
+pub use walk::{Named, Walk};
