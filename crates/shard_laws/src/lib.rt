@@ -7,6 +7,7 @@ mod merges;
 mod numbers;
 mod replies;
 mod uniques;
+mod values;
 
 pub use calls::{
     a_flush_empties_and_keeps_the_counter, a_tally_changes_nothing,
@@ -28,3 +29,4 @@ pub use replies::{
     steady_calls_tell_no_other_unique,
 };
 pub use uniques::{uniques_of_a_shard_rise, uniques_of_two_shards_differ};
+pub use values::{worked_odd_values, worked_values};
