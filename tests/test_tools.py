@@ -83,8 +83,10 @@ def wrong_words():
 
 def files():
     for line in READERS:
-        says(f"a file that is not there: {line}", "none: No such file or directory", *line.replace("FILE", "none").split())
-        says(f"a folder: {line}", "/: Is a directory", *line.replace("FILE", "/").split())
+        status = 4 if line.startswith("judge") else 1
+        says(f"a file that is not there: {line}", "none: No such file or directory", *line.replace("FILE", "none").split(),
+             status=status)
+        says(f"a folder: {line}", "/: Is a directory", *line.replace("FILE", "/").split(), status=status)
     whole = replies([b"OK\r\n"])
     with tempfile.NamedTemporaryFile() as file:
         file.write(whole)

@@ -23,8 +23,8 @@ CAPTURE, REPLIES  what clients sent and what the server answered, best as `tools
 --except-keys GLOBS  judges all keys except those that match
 --first       stops at the first key without an order; without it, all keys are searched
 --json        prints one line with the verdict and the counts, or with the error of a file, and nothing else
---seconds N   gives up after N seconds of processor time, of which each key has a share (if left out, 600, but less to fit
-              keys to each other)
+--seconds N   gives up after N seconds of processor time, of which each key has a share (if left out, 600, of which only
+              a part is used to fit keys to each other)
 --states N    gives up on a key after N of its states (if left out, 200,000)
 --processes N  searches keys in N processes (if left out, as many as there are processors that are not busy)
 
