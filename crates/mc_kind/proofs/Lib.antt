@@ -1,0 +1,5 @@
+pub mod SeriesLemmas
+pub mod ListingLemmas
+pub mod LineLemmas
+pub mod SessionLemmas
+pub mod CountLemmas
