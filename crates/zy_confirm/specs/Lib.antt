@@ -1,3 +1,4 @@
 pub mod Choosing
 pub mod Store
 pub mod Walk
+pub mod Cutting

@@ -3,6 +3,7 @@
 
 mod choosing;
 mod counting;
+mod cutting;
 mod laws;
 mod making;
 mod outcome;
@@ -10,6 +11,7 @@ mod store;
 mod timing;
 mod walk;
 
+pub use cutting::cut_along;
 pub use laws::{an_order_follows_sessions, an_order_has_chains};
 pub use making::make;
 pub use store::Store;
