@@ -21,9 +21,8 @@ than --seconds.
 REPLIES are the recorded ones. With them, a command may change places with those that came before it had ended: before
 its answer was complete, if the capture has that (`--ends`), or else before its connection's next command came. The
 order is that of tools/judge if it finds one soon, or one near it. If that reproduces fewer answers than the order of
-arrival does, the order of arrival is used. And a `cas`, or an `ms` with C, is given the CAS
-value that zygos shows at that point, so it succeeds if the recorded one did. Without REPLIES it keeps what was sent, and
-answers `EXISTS`.
+arrival does, the order of arrival is used. And a `cas`, or an `ms` with C, is given the CAS value that zygos shows at
+that point, so it succeeds if the recorded one did. Without REPLIES it keeps what was sent, and answers `EXISTS`.
 
 Commands after `quit`, and those that are not whole, are left out, as by zygos. After each command with the flag `q`,
 which may have no answer, `mn` is put in, and its answer is taken out again. CAPTURE is a file; without REPLIES it may

@@ -18,8 +18,9 @@ came, and REPLIES what the server answered. docs/GUIDE.md says how to use them.
 PLACE is HOST:PORT, [HOST]:PORT, or a Unix socket: a path with a slash, or unix:PATH. One of the files may be -,
 standard output, which is written at the end.
 
-Bytes are written before they are passed on. Until the end, answers are in REPLIES.spool; at the end the disk needs room
-for two copies. At Ctrl-C clients are cut off, and answers that still come are recorded; a second Ctrl-C does without them.
+Bytes are written before they are passed on. Until the end, answers are in REPLIES.spool; at the end the disk needs
+room for two copies. At Ctrl-C clients are cut off, and answers that still come are recorded; a second Ctrl-C does
+without them.
 
 Each connection is a session. The first 4,096 are the connections 0, 1, 2 and so on of the files; a later one becomes
 the next session of the connection that closed first. If none has closed it is passed on but not recorded. The same
