@@ -288,7 +288,8 @@ def words():
     says("no time", "--wait takes a number of seconds, not x", "--wait", "x", status=2)
     says("no file", "none: No such file or directory", "none", "--server", place)
     one = capture(1, [segment(0, b"mn\r\n")])
-    says("nobody listens", f"{place}: Connection refused", "-", "--server", place, given=one)
+    says("nobody listens", f"{place}: Connection refused: start the server, or give another --server",
+         "-", "--server", place, given=one)
     for given, line in ((one[:-1], "truncated at 25"), (one + b"E", "trailing at 26"), (b"ZYGREP", "bad-magic at 3")):
         says(f"a faulty capture: {line}", f"standard input: capture: {line}", "-", "--server", place, given=given)
 

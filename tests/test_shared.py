@@ -149,7 +149,8 @@ def orders():
     same("answers by connection", (1, wanted), cut_of("turns", given, served(joined(given))))
     prints("nothing", capture(1, []), "inline", "-", given=capture(0, []))
     for name, words, line in (
-        ("swapped files", ("recorded", "sent"), "recorded: not a capture"), ("no capture", ("recorded",), "recorded: not a capture"),
+        ("swapped files", ("recorded", "sent"), "recorded: not a capture, which comes before the replies"),
+        ("no capture", ("recorded",), "recorded: not a capture, which comes before the replies"),
     ):
         with tempfile.TemporaryDirectory() as folder:
             paths = written(folder, sent=given, recorded=replies([b""] * 3))

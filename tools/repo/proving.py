@@ -93,12 +93,12 @@ class Progress:
     def proved(self, name):
         if name in self.gone:
             return
-        seconds = time.monotonic() - self.begin
+        minutes_gone, seconds = divmod(round(time.monotonic() - self.begin), 60)
         self.gone.append(name)
         minutes = round(self.left() / 60)
         left = f"about {minutes} minute{'s' * (minutes != 1)} left" if minutes else "less than a minute left"
         self.say(f"{name} is proved, {len(self.gone)} of {len(self.shares)}: "
-                 f"{seconds // 60:.0f}:{seconds % 60:02.0f} elapsed, {left}")
+                 f"{minutes_gone}:{seconds:02} elapsed, {left}")
 
 
 def lines_of(source, look):

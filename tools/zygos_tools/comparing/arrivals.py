@@ -56,7 +56,7 @@ class Arrivals:
         parts = inputs.parts(self.name)
         part = next(parts, None)
         if part is None or part.name != "capture":
-            raise Fault(f"{inputs.name_of(self.name)}: not a capture")
+            raise Fault(f"{inputs.name_of(self.name)}: not a capture, which comes before the replies")
         self.version, self.count = capture_head(part)
         for record in capture_records(part, self.version, self.count):
             yield self.later[record.connection], record

@@ -104,7 +104,7 @@ class Play:
                 return
             player.left.pop(0)
         if not self.connected:
-            raise OSError(fault, os.strerror(fault), self.server)
+            raise OSError(fault, f"{os.strerror(fault)}: start the server, or give another --server", self.server)
         self.begun -= 1
         self.over(player, os.strerror(fault))
 
