@@ -1,0 +1,65 @@
+//! Orders that are found, and one that is not there.
+use crate::recording::{Did, Recorded, found_in};
+use std::alloc::Global;
+
+fn recorded(conn: u32, did: Did, sent: u64, ended: u64) -> Recorded {
+    Recorded {
+        conn,
+        did,
+        sent,
+        ended,
+    }
+}
+
+// Checks whether this order of connections is found.
+fn is_found(alloc: Global, calls: &[Recorded], wanted: &[u32]) -> bool {
+    match found_in(alloc, calls) {
+        Ok(Some(conns)) => {
+            let same = conns.as_slice() == wanted;
+            drop(conns);
+            same
+        }
+        _ => false,
+    }
+}
+
+#[test]
+fn calls_that_do_not_overlap_are_in_the_order_of_their_times(rt: HostRuntime) {
+    let calls = [
+        recorded(0, Did::Set(b'a'), 1, 3),
+        recorded(1, Did::Got(b'a'), 4, 6),
+        recorded(2, Did::Deleted, 7, 9),
+        recorded(3, Did::Missed, 10, 12),
+    ];
+    assert!(rt; is_found(rt.alloc(), &calls, &[0, 1, 2, 3]));
+}
+
+#[test]
+fn a_set_that_ends_after_its_reader_comes_before_it(rt: HostRuntime) {
+    let calls = [
+        recorded(0, Did::Got(b'a'), 2, 4),
+        recorded(1, Did::Set(b'a'), 1, 6),
+    ];
+    assert!(rt; is_found(rt.alloc(), &calls, &[1, 0]));
+}
+
+#[test]
+fn a_search_goes_back_if_a_later_answer_does_not_fit(rt: HostRuntime) {
+    let calls = [
+        recorded(0, Did::Set(b'a'), 1, 9),
+        recorded(1, Did::Set(b'b'), 2, 10),
+        recorded(2, Did::Got(b'b'), 3, 5),
+        recorded(3, Did::Got(b'a'), 11, 13),
+    ];
+    assert!(rt; is_found(rt.alloc(), &calls, &[1, 2, 0, 3]));
+}
+
+#[test]
+fn a_stale_read_has_no_order(rt: HostRuntime) {
+    let calls = [
+        recorded(0, Did::Set(b'a'), 1, 3),
+        recorded(1, Did::Set(b'b'), 4, 6),
+        recorded(2, Did::Got(b'a'), 7, 9),
+    ];
+    assert!(rt; matches!(found_in(rt.alloc(), &calls), Ok(None)));
+}

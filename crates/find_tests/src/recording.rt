@@ -1,0 +1,115 @@
+//! Small recordings of calls at one key.
+use mc_allows::{CallName, Shown};
+use mc_calls::{Call, CallReply};
+use std::alloc::Global;
+use zy_base::{Blob, NoMemory};
+use zy_find::{Found, Observed, Rules, find};
+
+/// What a call does, and what its answer shows.
+#[derive(Clone, Copy)]
+pub(crate) enum Did {
+    /// A get that found this value.
+    Got(u8),
+    /// A get that found nothing.
+    Missed,
+    /// A set of this value.
+    Set(u8),
+    /// A deletion of an item.
+    Deleted,
+}
+
+/// A call of a connection: what it does, and the moments of its sending and its end.
+#[derive(Clone, Copy)]
+pub(crate) struct Recorded {
+    pub(crate) conn: u32,
+    pub(crate) did: Did,
+    pub(crate) sent: u64,
+    pub(crate) ended: u64,
+}
+
+fn byte(alloc: Global, byte: u8) -> Result<Blob, NoMemory> {
+    Blob::copy_of(alloc, &[byte])
+}
+
+fn call_of(alloc: Global, did: Did) -> Result<Call, NoMemory> {
+    let key = byte(alloc, b'k')?;
+    match did {
+        Did::Got(_) | Did::Missed => Ok(Call::Get { key }),
+        Did::Deleted => Ok(Call::Delete { key }),
+        Did::Set(value) => match byte(alloc, value) {
+            Ok(value) => Ok(Call::Set {
+                key,
+                flags: 0,
+                value,
+            }),
+            Err(refused) => {
+                drop(key);
+                Err(refused)
+            }
+        },
+    }
+}
+
+fn shown_of(alloc: Global, did: Did) -> Result<Shown, NoMemory> {
+    let reply = match did {
+        Did::Got(value) => CallReply::Hit {
+            flags: 0,
+            unique: 0,
+            value: byte(alloc, value)?,
+        },
+        Did::Missed => CallReply::Miss,
+        Did::Set(_) => CallReply::Stored,
+        Did::Deleted => CallReply::Deleted,
+    };
+    Ok(Shown::Reply { reply })
+}
+
+fn observed(alloc: Global, recorded: Recorded) -> Result<Observed, NoMemory> {
+    let call = call_of(alloc, recorded.did)?;
+    match shown_of(alloc, recorded.did) {
+        Ok(shown) => Ok(Observed {
+            name: CallName {
+                index: 0,
+                session: 0,
+                conn: recorded.conn,
+                part: 0,
+            },
+            shard: 0,
+            call,
+            shown,
+            unique: None,
+            sure: true,
+            sent: recorded.sent,
+            ended: Some(recorded.ended),
+        }),
+        Err(refused) => {
+            drop(call);
+            Err(refused)
+        }
+    }
+}
+
+/// Returns the connections of the calls in the order that is found; none if none is.
+pub(crate) fn found_in(alloc: Global, recorded: &[Recorded]) -> Result<Option<Vec<u32>>, NoMemory> {
+    let mut calls = Vec::new(alloc);
+    for one in recorded {
+        calls.push(observed(alloc, *one)?)?;
+    }
+    let rules = Rules {
+        warm: false,
+        forget: false,
+    };
+    let found = find(alloc, rules, &calls, 64);
+    drop(calls);
+    match found? {
+        Found::Nothing { .. } => Ok(None),
+        Found::Ordered(order) => {
+            let mut conns = Vec::new(alloc);
+            for placement in order.items() {
+                conns.push(placement.name.conn)?;
+            }
+            drop(order);
+            Ok(Some(conns))
+        }
+    }
+}

@@ -1,0 +1,18 @@
+//! Looks for an order of the calls of a recording that explains what their answers show. Nothing is
+//! promised of the order: who uses it checks it.
+#![tactic(auto)]
+
+mod by_key;
+mod deciding;
+mod held;
+mod merging;
+mod numbering;
+mod observed;
+mod order;
+mod ordering;
+mod quick;
+mod searching;
+
+pub use observed::Observed;
+pub use order::{Found, Rules};
+pub use ordering::find;

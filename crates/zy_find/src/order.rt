@@ -1,0 +1,34 @@
+//! Orders of calls.
+
+use zy_verdict::{Choice, Order};
+
+/// What may happen at a key besides the calls.
+#[derive(Clone, Copy)]
+pub struct Rules {
+    /// The store begins with any items.
+    pub warm: bool,
+    /// Items may be lost.
+    pub forget: bool,
+}
+
+/// A call in an order.
+#[derive(Clone, Copy)]
+pub(crate) struct Placed {
+    /// The offset of the call in the list of calls.
+    pub(crate) call: usize,
+    /// The unique of the item that the call stores, if it stores one.
+    pub(crate) unique: u64,
+    /// What the server chose.
+    pub(crate) choice: Choice,
+    /// The item of its key was lost just before it.
+    pub(crate) lost: bool,
+}
+
+/// What was found.
+#[derive(Drop)]
+pub enum Found {
+    /// An order of all sure calls, and some others.
+    Ordered(Order),
+    /// No order; the call with this offset stood in the way.
+    Nothing { call: usize },
+}

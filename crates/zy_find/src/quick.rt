@@ -1,0 +1,173 @@
+//! A run through calls at a key.
+
+use crate::deciding::{Decided, decide};
+use crate::held::Held;
+use crate::observed::Observed;
+use crate::order::{Placed, Rules};
+use std::alloc::Global;
+use std::mem;
+use zy_base::NoMemory;
+use zy_verdict::Choice;
+
+/// What is known of the unique that a call gave.
+#[derive(Clone, Copy)]
+pub(crate) enum Given {
+    /// The call stored nothing.
+    None,
+    /// No answer showed it.
+    Any,
+    /// An answer showed it.
+    Shown(u64),
+}
+
+// What it takes to take back a call.
+#[derive(Drop)]
+struct Undo {
+    held: Held,
+    shown: Option<usize>,
+    unpadded: Option<usize>,
+}
+
+/// What the key has after some calls, and these in their order.
+#[derive(Drop)]
+pub(crate) struct Run {
+    alloc: Global,
+    rules: Rules,
+    held: Held,
+    placed: Vec<Placed>,
+    /// For each place, what is known of its unique.
+    given: Vec<Given>,
+    undo: Vec<Undo>,
+}
+
+impl Run {
+    // Begins before any call.
+    pub(crate) fn new(alloc: Global, rules: Rules) -> Run {
+        Run {
+            alloc,
+            rules,
+            held: if rules.warm { Held::Any } else { Held::Nothing },
+            placed: Vec::new(alloc),
+            given: Vec::new(alloc),
+            undo: Vec::new(alloc),
+        }
+    }
+
+    // Returns how many calls are made.
+    pub(crate) fn len(&self) -> usize {
+        self.placed.len()
+    }
+
+    // Returns what the key would have after a call, if its answer can be so.
+    pub(crate) fn decide(&self, one: &Observed) -> Result<Option<Decided>, NoMemory> {
+        decide(self.alloc, self.rules, &self.held, one, self.placed.len())
+    }
+
+    // Makes a call, as it was decided.
+    pub(crate) fn make(&mut self, call: usize, decided: Decided) -> Result<(), NoMemory> {
+        let Decided {
+            held,
+            choice,
+            lost,
+            shown,
+            unpadded,
+        } = decided;
+        let before = mem::replace(&mut self.held, held);
+        let mut place = None;
+        if let Some((origin, unique)) = shown
+            && let Some(given) = self.given.get_mut(origin)
+        {
+            *given = Given::Shown(unique);
+            place = Some(origin);
+        }
+        if let Some(origin) = unpadded {
+            self.choose(origin, Choice::Plain);
+        }
+        self.undo.push(Undo {
+            held: before,
+            shown: place,
+            unpadded,
+        })?;
+        let given = self.given_last();
+        self.given.push(given)?;
+        self.placed.push(Placed {
+            call,
+            unique: 0,
+            choice,
+            lost,
+        })?;
+        Ok(())
+    }
+
+    // What is known of the unique that the call to come at the end gave; what the key has is after it.
+    fn given_last(&self) -> Given {
+        match &self.held {
+            Held::Item(known) if known.origin == Some(self.placed.len()) => Given::Any,
+            _ => Given::None,
+        }
+    }
+
+    fn choose(&mut self, place: usize, choice: Choice) {
+        if let Some(placed) = self.placed.get_mut(place) {
+            placed.choice = choice;
+        }
+    }
+
+    // Takes the last call back, and returns it.
+    pub(crate) fn take_back(&mut self) -> Option<usize> {
+        let Some(
+            Undo {
+                held,
+                shown,
+                unpadded,
+            },
+        ) = self.undo.pop()
+        else {
+            return None;
+        };
+        drop(mem::replace(&mut self.held, held));
+        if let Some(origin) = shown
+            && let Some(given) = self.given.get_mut(origin)
+        {
+            *given = Given::Any;
+        }
+        if let Some(origin) = unpadded {
+            self.choose(origin, Choice::Padded);
+        }
+        let _ = self.given.pop();
+        self.placed.pop().map(|placed| placed.call)
+    }
+
+    // Returns the calls in their order, and the uniques that were shown.
+    pub(crate) fn into_parts(self) -> (Vec<Placed>, Vec<Given>) {
+        let Run {
+            alloc: _,
+            rules: _,
+            held,
+            placed,
+            given,
+            undo,
+        } = self;
+        drop(held);
+        drop(undo);
+        (placed, given)
+    }
+}
+
+/// Makes all calls of a list in its order; returns the first that cannot be so.
+pub(crate) fn run_through(
+    run: &mut Run,
+    observed: &[Observed],
+    list: &[usize],
+) -> Result<Option<usize>, NoMemory> {
+    for call in list {
+        let Some(one) = observed.get(*call) else {
+            return Ok(Some(*call));
+        };
+        match run.decide(one)? {
+            Some(decided) => run.make(*call, decided)?,
+            None => return Ok(Some(*call)),
+        }
+    }
+    Ok(None)
+}
