@@ -266,6 +266,21 @@ class Advice(unittest.TestCase):
             if not line.startswith(("yes", "commands ")):
                 self.assertIsNotNone(advising.advice_on("check", line), line)
 
+    def test_a_terminal_as_input_is_told_how_a_file_is_given(self):
+        with tempfile.TemporaryDirectory() as folder:
+            program = os.path.join(folder, "linear")
+            with open(program, "w", encoding="ascii") as file:
+                file.write("#!/bin/sh\n")
+            os.chmod(program, 0o755)
+            ours, theirs = os.openpty()
+            for given, said in ((theirs, b"zygos: linear reads a file from standard input, as in ./zygos linear < FILE\n"),
+                                (subprocess.DEVNULL, b"")):
+                ran = subprocess.run([sys.executable, f"{TOP}/tools/repo/advising.py", program], stdin=given,
+                                     capture_output=True, check=False)
+                self.assertEqual((0, b"", said), (ran.returncode, ran.stdout, ran.stderr))
+            os.close(ours)
+            os.close(theirs)
+
 
 class Estimate(unittest.TestCase):
     """The time that is left, of builds whose crates take other times than the known shares."""

@@ -23,6 +23,8 @@ IN_ORDER = "give a capture, a journal and a replies file, in this order; zygos r
 NOTHING = b"ZYGCAP2\n\0\0\0\0E"
 # the commands whose output decides the advice, and how much of it
 HEADED = ("check", "linear", "pcap")
+# the commands that read standard input
+READING = ("run", "check", "linear", "pcap", "report")
 # in how many bytes of recorded packets ports are looked for
 MOST_PACKETS = 1 << 22
 FORWARDED = signal.SIGINT, signal.SIGTERM, signal.SIGHUP
@@ -112,11 +114,19 @@ def run(program, words):
         return ran.returncode, head, said.read()
 
 
+def name_terminal(command):
+    """Says how a file is given, if the program reads from a terminal, where it waits in silence."""
+    if command in READING and os.isatty(0):
+        from zygos_tools.cli.screen import as_called
+        print(as_called(f"zygos: {command} reads a file from standard input, as in ./zygos {command} < FILE"), file=sys.stderr)
+
+
 def main(program, *words):
     if program == "--said":
         with open(words[1], "rb") as given:
             advise(words[0], words, b"", sys.stdin.buffer.read(), given.fileno())
         return 0
+    name_terminal(command_of(program, words))
     status, head, said = run(program, words)
     if status < 0:
         signal.signal(-status, signal.SIG_DFL)
