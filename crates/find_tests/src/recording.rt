@@ -4,6 +4,7 @@ use mc_calls::{Call, CallReply};
 use std::alloc::Global;
 use zy_base::{Blob, NoMemory};
 use zy_find::{Found, Observed, Rules, find};
+use zy_verdict::Placement;
 
 /// What a call does, and what its answer shows.
 #[derive(Clone, Copy)]
@@ -89,6 +90,10 @@ fn observed(alloc: Global, recorded: Recorded) -> Result<Observed, NoMemory> {
     }
 }
 
+fn conn_of(placement: &Placement) -> u32 {
+    placement.name.conn
+}
+
 /// Returns the connections of the calls in the order that is found; none if none is.
 pub(crate) fn found_in(alloc: Global, recorded: &[Recorded]) -> Result<Option<Vec<u32>>, NoMemory> {
     let mut calls = Vec::new(alloc);
@@ -106,7 +111,7 @@ pub(crate) fn found_in(alloc: Global, recorded: &[Recorded]) -> Result<Option<Ve
         Found::Ordered(order) => {
             let mut conns = Vec::new(alloc);
             for placement in order.items() {
-                conns.push(placement.name.conn)?;
+                conns.push(conn_of(placement))?;
             }
             drop(order);
             Ok(Some(conns))
