@@ -289,6 +289,8 @@ def server_restarts():
     with Server(name):
         same("a client after it is back", ANSWERED, talk(recorder.place, ASKED))
         status, said = recorder.end()
+    # a server that begins takes the place away for a moment, in which the recorder may look
+    said = said.replace("No such file or directory", "Connection refused")
     same("the lines of a restart", (0, f"tools/record: {name}: Connection refused: clients are turned away until"
                                     " it is there; --server names it\n"
                                     f"tools/record: {name}: connected again; clients turned away: 1\n"
