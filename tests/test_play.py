@@ -402,9 +402,10 @@ def joined():
 
 
 def error_lines():
-    """An error line is counted for the first command that waits, be it a meta command or not."""
+    """An error line is counted for the first command that waits, be it a meta command or not; so is what answers `me`."""
     for sent, heard in ((b"foo\r\nmg a v\r\nget a\r\n", (b"ERROR\r\n", b"EN\r\n", b"END\r\n")),
-                        (b"get a\r\nmg\r\nmg a v\r\n", (b"END\r\n", b"CLIENT_ERROR bad\r\n", b"EN\r\n"))):
+                        (b"get a\r\nmg\r\nmg a v\r\n", (b"END\r\n", b"CLIENT_ERROR bad\r\n", b"EN\r\n")),
+                        (b"me a\r\nget a\r\nme a\r\n", (b"EN\r\n", b"END\r\n", b"ME a exp=-1 la=0\r\n"))):
         pace = Pace()
         pace.sent(sent)
         owed = [pace.owed]

@@ -7,18 +7,22 @@ import os
 import pty
 import subprocess
 import tempfile
+from collections import Counter
 from unittest import mock
 
 import moments
 import plain
 from checks import LONGEST, TOP, cases, run, same, written
 from lies import outputs_of, verdict
+from thought import Draw, Memcached
 from zygos_tools.files.formats import Output, capture, close, pieces, replies, replies_file, segment
 from zygos_tools.judging import clock
 from zygos_tools.judging.clock import Clock
 from zygos_tools.judging.events import Verdict
 from zygos_tools.judging.judge import Judge
+from zygos_tools.protocol.answers import answers
 from zygos_tools.protocol.pace import Pace
+from zygos_tools.protocol.rules import Item
 
 
 def recorded(steps):
@@ -97,6 +101,50 @@ def uniques_that_do_not_count():
     same("from an item that was there", "order found", judged(warm, is_warm=True)[0])
     none = [ONE, (0, LOOK, hit(b"a", b"1", 0)), TWO, (0, LOOK, hit(b"a", b"2", 0))]
     same("a server without uniques", "order found", judged(none)[0])
+
+
+# ---- items that were there before
+
+# answers to an edit of which a server with another item at first, or another order, may give
+OTHERS = {b"STORED\r\n": b"NOT_STORED\r\n", b"NOT_STORED\r\n": b"STORED\r\n", b"EXISTS\r\n": b"NOT_FOUND\r\n",
+          b"DELETED\r\n": b"NOT_FOUND\r\n", b"END\r\n": hit(b"key:0", b"5")}
+
+
+def items_that_were_not_shown():
+    """What answers say of an item that was there before is kept, also if none shows it."""
+    joined, there = (0, b"append a 0 0 1\r\nx\r\n", b"STORED\r\n"), (0, b"add a 0 0 1\r\n1\r\n", b"NOT_STORED\r\n")
+    counted, word = (0, b"incr a 1\r\n", b"5\r\n"), (0, b"incr a 1\r\n", b"CLIENT_ERROR cannot increment or decrement non-numeric value\r\n")
+    deleted, missing = (0, b"delete a\r\n", b"DELETED\r\n"), (0, b"delete a\r\n", b"NOT_FOUND\r\n")
+    for steps, wanted in (([joined, GONE], "no"), ([there, GONE], "no"), ([joined, counted], "no"), ([word, counted], "no"),
+                          ([word, (0, b"get a\r\n", hit(b"a", b"7"))], "no"), ([there, missing], "no"),
+                          ([word, missing], "no"), ([there, word, joined, deleted], "order found"),
+                          ([there, counted], "order found"), ([word, joined, word], "order found"),
+                          ([there, (0, b"append a 0 0 1\r\nx\r\n", b"NOT_STORED\r\n")], "unknown")):
+        same(f"{steps}", wanted, judged(steps, is_warm=True)[0])
+        if wanted == "no":
+            same(f"{steps}, if items may be lost", "order found" if steps[-1] in (GONE, missing) else "no",
+                 judged(steps, is_warm=True, loses=True)[0])
+
+
+def items_before_drawn_recordings():
+    """Small recordings of a server that had an item: there is an order, and with another answer an order or none."""
+    kinds = "get get gets set set setq add delete cas incr incrq decr append prepend number mg ms"
+    counts = Counter()
+    for seed in range(120):
+        server = Memcached()
+        server.stored, server.items[b"key:0"] = 1, Item(*((0, b"5"), (2, b"x"), (1, b"9"))[seed % 3], 1)
+        drawn = Draw(seed, 2 + seed % 2, 2 + seed % 3, 1, 1 + seed % 2, kinds, server=server).run()
+        same(f"seed {seed}", "order found", verdict(drawn.capture(), outputs_of(drawn.replies()), is_warm=True)[0])
+        connection = max(range(len(drawn.outputs)), key=lambda one: len(drawn.outputs[one]))
+        texts = list(answers(drawn.outputs[connection]))
+        at = next((at for at, text in enumerate(texts) if text in OTHERS), None)
+        if at is not None:
+            texts[at] = OTHERS[texts[at]]
+            drawn.outputs[connection] = b"".join(texts)
+            word, lines = verdict(drawn.capture(), outputs_of(drawn.replies()), is_warm=True)
+            counts[word if word != "unknown" else lines[0].partition(": an item of ")[2]] += 1
+    same("with another answer", {"no", "order found", "nearly 1 MiB may have been there at first, to which nothing could"
+                                 " be joined"}, set(counts))
 
 
 # ---- meta commands that the profile leaves out
@@ -373,7 +421,8 @@ def flags_are_told():
     same("where it was stored", "  the same value is stored with flags 5, by connection 0, command 0", told[2][:67])
 
 
-Tests = cases(uniques_after_a_restart, uniques_that_do_not_count, a_block_that_is_dropped, batches_that_cannot_be_followed,
+Tests = cases(uniques_after_a_restart, uniques_that_do_not_count, items_that_were_not_shown, items_before_drawn_recordings,
+              a_block_that_is_dropped, batches_that_cannot_be_followed,
               items_in_any_order, lists_of_operators, answers_that_are_left, flushes_with_a_delay, connections_that_are_refused,
               authentications, stores_that_fail, quiet_stores_that_may_fail, lines_that_may_be_carried_out, commands_of_sessions_that_ended,
               no_key_is_left, files_that_are_none, at_a_terminal, flags_are_told, hot_keys_hold_nobody_up)

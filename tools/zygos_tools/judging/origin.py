@@ -21,11 +21,14 @@ class Origin:
         self.before: list[Event] = []
         self.event: Event | None = None
         self.state: State = (0, 0, 0)
-        for event, state in order:
+        rest = iter(order)
+        for event, state in rest:
             if state[0] >= 0:
                 self.event, self.state = event, state
                 break
             self.before.append(event)
+        # the calls after it that may have been carried out before it
+        self.about = [event for event, _ in rest if self.event and event.begin < self.event.end]
 
     def items(self) -> list[int]:
         """The items that the key may have had at first, the likeliest first, by their numbers."""
@@ -79,12 +82,12 @@ class Origin:
 
     def without_pieces(self, value: bytes) -> bytes | None:
         """The value without the pieces that were joined to it, in whatever order; None where one does not fit."""
-        left = [event for event in reversed(self.before)
+        left = [event for event in [*reversed(self.before), *self.about]
                 if event.kind in (APPEND, PREPEND) and event.want != "not stored"]
         while left:
             event = next((one for one in left if fits(value, one)), None)
             if event is None:
-                return None if any(one.want for one in left) else value
+                return None if any(one.want and one not in self.about for one in left) else value
             size = len(event.value or b"")
             value = value[: len(value) - size] if event.kind == APPEND else value[size:]
             left.remove(event)

@@ -108,6 +108,8 @@ class Reason:
             self.is_known = False
             if not self.is_stuck(self.all):
                 return self.unknown("which item was there at first was not found")
+            if self.may_be_large():
+                return self.unknown("an item of nearly 1 MiB may have been there at first, to which nothing could be joined")
         doubt = self.doubt()
         if doubt:
             return self.unknown(doubt)
@@ -125,6 +127,16 @@ class Reason:
         came = "from an empty store" if self.is_known else "whatever came before"
         why = f"no order of these commands explains their answers, {came}{self.advice()}"
         return self.no(why, self.lines(), self.events)
+
+    def may_be_large(self) -> bool:
+        """Whether there may be an order from an item at first to which nothing could be joined."""
+        if not any(event.kind in (APPEND, PREPEND) and event.want == "not stored" for event in self.all):
+            return False
+        self.states.is_large = True
+        try:
+            return not self.is_stuck(self.all)
+        finally:
+            self.states.is_large = False
 
     def doubt(self) -> str | None:
         """Why it is not known whether there is an order, though none was found: what memcached does otherwise."""

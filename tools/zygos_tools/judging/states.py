@@ -1,8 +1,9 @@
 """What each call does to the item of its key, where it is seen what the server replied.
 
-The state of a key is (item, unique, top): the number of its flags and value, ABSENT for none, ANYTHING where nothing is
-known of it; the server's unique of the item, 0 while none was seen; and the greatest unique that was seen of the key's
-items so far. A step gives the states that a call may lead to, none where its reply does not fit.
+The state of a key is (item, unique, top): the number of its flags and value, or ABSENT for none; the server's unique of
+the item, 0 while none was seen; and the greatest unique that was seen of the key's items so far. If the item is not
+known, it is ANYTHING if there may be none, SOMETHING if there is one, WORD if there is one that does not count, and
+LARGE if nothing can be joined to it. A step gives the states that a call may lead to, none where its reply does not fit.
 
 A server's uniques of one key are taken to rise as long as that gives an order. They need not: a server that was started
 again counts anew, and another one may not count. So if there is no order, they are taken to be in any order, and `top`
@@ -22,7 +23,7 @@ State = tuple[int, int, int]
 Group = tuple[State, ...]
 AnyState = Union[State, Group]
 
-ABSENT, ANYTHING = 0, -1
+ABSENT, ANYTHING, SOMETHING, WORD, LARGE = 0, -1, -2, -3, -4
 NO_ITEM, NOTHING_KNOWN = (ABSENT, 0, 0), (ANYTHING, 0, 0)
 # how many bytes a key and memcached's header have at most, which count in the length of a value there
 MOST_HEAD = 512
@@ -54,10 +55,12 @@ def reached_at(new: New, slot: int | None) -> State:
 
 class States:
     """The steps of calls on a key. With `loses` the server may lose an item before any call, and then counts its uniques
-    anew; `rises` says whether they rise otherwise. `is_wide` is that of Values."""
+    anew; `rises` says whether they rise otherwise. `is_wide` is that of Values. With `is_large` an item that is not known
+    may be too large for anything to be joined to it."""
 
     def __init__(self, loses: bool = False, is_wide: bool = False, rises: bool = True):
         self.values, self.loses, self.rises, self.flags = Values(is_wide), loses, rises, [0]
+        self.is_wide, self.is_large = is_wide, False
         self.of_number: dict[int | None, list[int]] = {}
 
     def learn(self, events: Iterable[Event]) -> None:
@@ -79,9 +82,9 @@ class States:
         now: State = state  # type: ignore[assignment]
         if event.want == "failed":
             return self.failed(now)
-        if now[0] < 0:
+        if now[0] == ANYTHING:
             return self.step_anything(now, event)
-        found: tuple[New, ...] = STEPS[event.kind](self, now, event)
+        found: tuple[New, ...] = self.step_something(now, event) if now[0] < 0 else STEPS[event.kind](self, now, event)
         if self.loses and self.may_be_lost(now, event, bool(found)):
             found += tuple([Lost(new) for new in STEPS[event.kind](self, NO_ITEM, event)])
         return found
@@ -93,9 +96,9 @@ class States:
     def may_be_lost(self, now: State, event: Event, fits: bool) -> bool:
         """Whether a loss before a call is looked at: of the item, if the call does not fit otherwise; and if uniques need
         not rise, of whatever the call replaces, for they are counted anew then."""
-        if not self.rises and event.kind in (SET, ADD) and (event.kind == SET or not now[0]):
+        if not self.rises and now[0] >= 0 and event.kind in (SET, ADD) and (event.kind == SET or not now[0]):
             return True
-        return now[0] > 0 and (event.kind == ADD if event.want is None else not fits)
+        return now[0] != ABSENT and (event.kind == ADD if event.want is None else not fits)
 
     def top(self, state: State) -> int:
         """The greatest unique that was seen, if they rise."""
@@ -173,30 +176,66 @@ class States:
         return (state,) if not state[0] else ((ABSENT, 0, self.top(state)),)
 
     def step_anything(self, state: State, event: Event) -> tuple[State, ...]:
-        """A step where nothing is known of the item: what was seen says what it may have been."""
+        """A step where nothing is known: there is no item, or there is one."""
+        if event.kind == GET and event.want is None:
+            return (state,)
+        none = STEPS[event.kind](self, NO_ITEM, event)
+        return tuple(dict.fromkeys([*none, *self.step_something((SOMETHING, *state[1:]), event)]))
+
+    def step_something(self, state: State, event: Event) -> tuple[State, ...]:
+        """A step where there is an item that is not known: what was seen says what it may have been."""
         kind, want = event.kind, event.want
-        if kind == SET:
-            return self.set(state, event)
-        if kind == GET:
-            if want == "miss":
-                return (NO_ITEM,)
-            return (state,) if event.item is None else ((stored(event), event.unique or 0, 0),)
-        if kind in (FLUSH, DELETE):
-            return (NO_ITEM,)
         stores = want in ("stored", None)
+        if kind == GET:
+            return self.get_something(state, event)
+        if kind in (FLUSH, DELETE):
+            return ((ABSENT, 0, self.top(state)),) if want != "not found" else ()
+        if kind in (INCR, DECR):
+            return self.count_something(state, event)
+        if kind in (APPEND, PREPEND):
+            return self.join_something(state, event)
+        if kind == CAS:
+            return self.exchange(state, event)
         if kind == ADD:
-            return tuple([(stored(event), 0, 0)] * stores + [state] * (want != "stored"))
-        found = [NO_ITEM] if want in ("not found", "not stored", None) else []
-        if kind in (REPLACE, CAS):
-            found += [(stored(event), 0, 0)] * stores + [state] * (kind == CAS and want in ("exists", None))
-        elif want == "number":
-            items = [self.values.number(flags, b"%d" % (event.number or 0)) for flags in self.flags]
-            found += [(item, 0, 0) for item in dict.fromkeys(items + self.of_number.get(event.number, []))]
-        elif want in ("no number", None):
-            found.append(state)
-        elif want == "stored":  # joined to a value that is not known: a state of its own, as the call changed the key
-            found.append((state[0], state[1], state[2]))
-        return tuple(found)
+            return (state,) if want != "stored" else ()
+        return self.set(state, event) if stores else ()
+
+    def get_something(self, state: State, event: Event) -> tuple[State, ...]:
+        """A `get` of an item that is not known."""
+        if event.want != "hit":
+            return (state,) if event.want is None else ()
+        if event.item is not None and not self.can_be(state[0], event.item):
+            return ()
+        shown = self.show(state, event.unique) if event.unique is not None else (state,)
+        return shown if event.item is None else tuple([(stored(event), *one[1:]) for one in shown])
+
+    def can_be(self, unknown: int, item: int) -> bool:
+        """Whether an item that is not known can be this one."""
+        is_word = self.values.numeric(item) is None
+        return unknown == SOMETHING or is_word and (unknown == WORD or len(self.values.pairs[item][1]) > MOST_VALUE // 2)
+
+    def count_something(self, state: State, event: Event) -> tuple[State, ...]:
+        """A call that counts an item that is not known."""
+        if event.want == "not found":
+            return ()
+        if event.want != "number":
+            is_new = event.want == "no number" and state[0] == SOMETHING
+            return ((WORD, *state[1:]),) if is_new else (state,)
+        if state[0] != SOMETHING:
+            return ()
+        items = [self.values.number(flags, b"%d" % (event.number or 0)) for flags in self.flags]
+        top = self.top(state)
+        return tuple([(item, 0, top) for item in dict.fromkeys(items + self.of_number.get(event.number, []))])
+
+    def join_something(self, state: State, event: Event) -> tuple[State, ...]:
+        """A call that joins its piece to an item that is not known: a state of its own, as the call changed the key."""
+        piece = event.value or b""
+        if event.want == "not stored":
+            is_large = len(piece) < MOST_VALUE // 4
+            return () if not self.is_large else ((LARGE, *state[1:]),) if is_large and state[0] != LARGE else (state,)
+        can_count = self.is_wide or not piece.strip(b" 0123456789")
+        item = LARGE if state[0] == LARGE else SOMETHING if can_count else WORD
+        return ((item, 0, self.top(state)),)
 
 
 STEPS = {GET: States.get, SET: States.set, ADD: States.add, REPLACE: States.add, APPEND: States.join,

@@ -13,6 +13,8 @@ from zygos_tools.protocol.table import BY_WORD, ERRORS, META_CODES, NO_KIND
 
 # the commands whose flag `q` hides answers, with these
 HIDDEN = {word: tuple(kind.hidden.encode().split()) for word, kind in BY_WORD.items() if kind.hidden}
+# the commands whose answers begin with a code, and these codes
+META, SHORT = (*HIDDEN, b"me"), (*META_CODES, b"ME")
 # the commands that may name a unique
 NAMING = tuple(word for word, kind in BY_WORD.items() if kind.unique)
 CODES = (*META_CODES, *ERRORS)
@@ -230,8 +232,8 @@ class Pace:
             if answered == PERHAPS:
                 self.has_quiet = True
             elif answered == ALWAYS:
-                self.waiting.append(verb in HIDDEN)
-                self.meta += verb in HIDDEN
+                self.waiting.append(verb in META)
+                self.meta += verb in META
         return count
 
     def heard(self, text: bytes) -> int:
@@ -244,7 +246,7 @@ class Pace:
 
     def take(self, answer: Answer) -> None:
         """Takes an answer. An error line is that of the first command that waits; with flags `q`, of a meta command."""
-        is_meta = answer.word in META_CODES
+        is_meta = answer.word in SHORT
         if answer.word in ERRORS and self.waiting:
             is_meta = self.meta > 0 if self.has_quiet else self.waiting[0]
         if is_meta in self.waiting:
