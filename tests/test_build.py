@@ -243,7 +243,9 @@ def wrong_words(one):
     """What ./zygos says of words that it does not know, and its page of help."""
     one.furnish()
     for words, line in (
-        ("rnu", "rnu: no such command"), ("run --core 4", "run: unknown option --core"), ("gen -x", "gen: unknown option -x"),
+        ("rnu", "rnu: no such command"), ("run --core 4", "run: unknown option --core; did you mean --cores?"),
+        ("run --sharding=4", "run: unknown option --sharding"), ("gen --commandss 4", "gen: unknown option --commandss; did you mean --commands?"),
+        ("gen -x", "gen: unknown option -x"),
         ("check --shards", "check: --shards has no value"), ("try rnu", "rnu: no such command"), ("try", "no such command"),
         ("build all", "build: all: it takes --keep or --sum, or no word"), ("linear --cores 2", "linear: unknown option --cores"),
         ("linear my.cap", "linear: my.cap: files come on standard input, as in ./zygos linear < FILE"),

@@ -52,6 +52,8 @@ def wrong_words():
         says(f"an unknown word of {tool}", "no such option: --what; --help lists them", tool, "--what", status=2)
         says(f"an unknown letter of {tool}", "no such option: -x; --help lists them", tool, "-x", status=2)
     for line, tool, *words in (
+        ("no such option: --core; did you mean --cores? --help lists them", "picture", "--core", "4"),
+        ("no such option: --mayforget; did you mean --may-forget? --help lists them", "judge", "--mayforget"),
         ("--cut takes a number from 1 to 65535, not 0", "capture", "--cut", "0"),
         ("--cut takes a number from 1 to 65535, not 65536", "capture", "--cut", "65536"),
         ("--cut takes a number from 1 to 65535, not x", "capture", "--cut=x"),

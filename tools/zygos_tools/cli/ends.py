@@ -64,8 +64,12 @@ def stop(why: str, status: int = 1) -> NoReturn:
     raise Stop(why, status)
 
 
-def unknown(word: str) -> NoReturn:
-    stop(f"no such option: {word}; --help lists them", 2)
+def unknown(word: str, known: Iterable[str] = ()) -> NoReturn:
+    """The tool ends, as it has no such option; a known one that is much like it may be meant."""
+    from difflib import get_close_matches  # which is hardly ever needed
+    names = [name.lstrip("-") for name in known]
+    meant = "".join(f"; did you mean --{name}?" for name in get_close_matches(word.lstrip("-"), names, 1, 0.75))
+    stop(f"no such option: {word}{meant or ';'} --help lists them", 2)
 
 
 def number(least: int, most: int | None = None) -> Option:
@@ -95,7 +99,7 @@ def options(words: Iterable[str], known: dict[str, Option | None],
         if not word.startswith("-") or word == "-":
             files.append(word)
         elif name not in known:
-            unknown(name)
+            unknown(name, known)
         elif (option := known[name]) is not None:
             if not joined and rest and rest[0].startswith("--"):
                 stop(f"{name} takes {option[0]}, not {rest[0]}", 2)
