@@ -68,7 +68,7 @@ def unknown(word: str, known: Iterable[str] = ()) -> NoReturn:
     """The tool ends, as it has no such option; a known one that is much like it may be meant."""
     from difflib import get_close_matches  # which is hardly ever needed
     names = [name.lstrip("-") for name in known]
-    meant = "".join(f"; did you mean --{name}?" for name in get_close_matches(word.lstrip("-"), names, 1, 0.75))
+    meant = "".join(f"; did you mean --{name}?" for name in get_close_matches(word.lstrip("-"), names, 1, 0.8))
     stop(f"no such option: {word}{meant or ';'} --help lists them", 2)
 
 
