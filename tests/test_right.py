@@ -273,6 +273,14 @@ def authentications():
     word, lines, _ = judged([enter, ONE, (1, b"get auth\r\n", b"END\r\n")])
     same("one session does", ("unknown", True), (word, "(-Y)" in lines[0]))
     same("a set that is one", "order found", judged([enter, (0, b"get auth\r\n", hit(b"auth", b"user pass"))])[0])
+    line, wrong = b"CLIENT_ERROR unauthenticated\r\n", b"CLIENT_ERROR authentication failure\r\n"
+    nobody = [(1, b"get a\r\nadd a 0 0 1\r\nx\r\n", line * 3), (1, b"set auth 0 0 9\r\nuser wrng\r\n", wrong)]
+    word, counts, _ = judged([enter, ONE, *nobody, (0, b"get auth\r\n", b"END\r\n"), (0, b"get a\r\n", hit(b"a", b"1"))])
+    same("a session without one", ("order found", {"authentications left out": 1, "commands of connections without an"
+                                                   " authentication left out": 3}), (word, counts))
+    word, _, judge = judged([enter, ONE, *nobody, (1, *enter[1:]), (1, b"get a\r\n", hit(b"a", b"1")), (2, *enter[1:]),
+                             (2, b"get a\r\n", hit(b"a", b"1"))])
+    same("one that comes late", ("unknown", True), (word, b"a" in judge.keys.found))
 
 
 # ---- calls that fail
@@ -285,7 +293,7 @@ def stores_that_fail():
     kept, there, new = (0, b"get a\r\n", hit(b"a", b"1")), b"END\r\n", b"set a 0 0 1\r\n2\r\n"
     for size in (1, 1 << 20, (1 << 20) + 1):
         large = b"set a 0 0 %d\r\n%s\r\n" % (size, b"x" * size)
-        for answer in (FAILED, b"SERVER_ERROR out of memory storing object\r\n"):
+        for answer in (FAILED, b"SERVER_ERROR out of memory storing object\r\n", b"SERVER_ERROR Out of memory during read\r\n"):
             name = f"{size} bytes, {answer!r}"
             same(f"the item is there, {name}", "order found", judged([ONE, (0, large, answer), kept])[0])
             word, counts, _ = judged([ONE, (0, large, answer), GONE])

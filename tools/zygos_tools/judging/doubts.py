@@ -104,7 +104,7 @@ def in_session(event: Event, session: int, is_late: bool) -> Event:
 
 
 def firsts_of(recording: Recording) -> list[int]:
-    """The first command of each session."""
+    """The first command of each session that was served."""
     met: set[tuple[int, int]] = set()
     found = []
     for connection, asked in enumerate(recording.of_connection):
@@ -112,7 +112,7 @@ def firsts_of(recording: Recording) -> list[int]:
             session = connection, recording.table.session[one]
             if session not in met:
                 met.add(session)
-                found.append(one)
+                found += [one] * (not recording.table.state[one] & DROPPED)
     return found
 
 
@@ -133,6 +133,7 @@ def leave_out_entering(recording: Recording) -> None:
         return
     [key], entering = keys, set(firsts)
     others = {table.command[call] for call, number in enumerate(table.key) if number == key} - entering
+    others = {one for one in others if not table.state[one] & DROPPED}
     if not others or any(table.answer(one) not in (b"END\r\n", b"NOT_FOUND\r\n", b"EN\r\n") for one in others):
         return
     for one in firsts:

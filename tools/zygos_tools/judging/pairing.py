@@ -4,12 +4,13 @@ An answer that no run gives is refused, or is unknown where what was sent has a 
 """
 from __future__ import annotations
 
+import re
 from array import array
 from collections.abc import Iterable
 
 from zygos_tools.files.formats import Output
 from zygos_tools.judging.events import No, Unknown, Verdict, first_line
-from zygos_tools.judging.reading import Recording, sessions_of
+from zygos_tools.judging.reading import Odd, Recording, sessions_of
 from zygos_tools.judging.table import ANSWERED, DROPPED, LOST, QUIET, V_FAULT, V_MD, V_MG, V_MS
 from zygos_tools.protocol.answers import FAULT, answer_end, is_whole
 from zygos_tools.protocol.fits import SHORT, is_answered
@@ -19,8 +20,10 @@ from zygos_tools.protocol.meaning import Command, line_of
 NOT_HIDDEN = {"get": (b"HD", b"VA"), "set": (), "cas": (b"EX", b"NF"), "delete": (b"NF",)}
 STORING = (b"NS",)
 ONE_RECORDING = "are both files of one recording?"
-# what memcached says to a connection that it closes before it reads anything
-REFUSED = b"ERROR Too many open connections\r\n"
+# what memcached says to a connection that it closes before it reads anything, and to one without an authentication
+REFUSED = re.compile(rb"ERROR Too many open connections\r\n")
+UNKNOWN = re.compile(rb"(CLIENT_ERROR (unauthenticated|authentication failure)\r\n)+")
+LATE = "the server asks for an authentication first (-Y), and may have read what came before it otherwise"
 
 
 def several(text: bytes, at: int, most: int) -> list[bytes]:
@@ -67,9 +70,11 @@ class Pairing:
 
     def pair(self) -> None:
         """Gives the commands the answers, one after the other."""
-        if self.text == REFUSED and self.asked:
-            self.refuse()
-            return
+        if self.asked and (found := REFUSED.match(self.text) or UNKNOWN.match(self.text)):
+            if found.end() == len(self.text):
+                self.refuse("connections without an authentication" if found.re is UNKNOWN else "refused connections")
+                return
+            self.recording.odd.setdefault(self.key, Odd(LATE, self.table.number[self.asked[0]]))
         table, text, at, count = self.table, self.text, 0, 0
         states, verbs, answer_at, answer_size = table.state, table.verb, table.answer_at, table.answer_size
         size = end = len(text)
@@ -98,11 +103,11 @@ class Pairing:
         if at < end and not (answer_end(text, at) == size and self.is_cut_off(at)):
             self.refuse_rest(count, at)
 
-    def refuse(self) -> None:
-        """The server closed the connection before it read anything."""
+    def refuse(self, whose: str) -> None:
+        """The server served nothing on this connection."""
         for one in self.asked:
             self.table.state[one] |= DROPPED
-        self.recording.notes["commands of refused connections left out"] += len(self.asked)
+        self.recording.notes[f"commands of {whose} left out"] += len(self.asked)
         self.recording.surplus.add(self.key)
 
     def is_cut_off(self, begin: int) -> bool:

@@ -32,7 +32,7 @@ LINES = {(kind, line): WANT_OF[want] for kind, wants in REPLIES.items() for line
          if want in wants}
 MUTE = {V_VERBOSITY: b"OK\r\n", V_MN: b"MN\r\n"}
 # what a memcached says of a call that it did not make; other texts are of proxies
-FAILED = (b"SERVER_ERROR object too large for cache", b"SERVER_ERROR out of memory")
+FAILED = (b"SERVER_ERROR object too large for cache", b"SERVER_ERROR out of memory", b"SERVER_ERROR Out of memory")
 SERVER_ERROR = b"SERVER_ERROR"
 W_FAILED = WANT_OF["failed"]
 TWICE = "a retrieval names a key twice and has one item of it: which was found is not known"
