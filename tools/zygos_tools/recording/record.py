@@ -27,6 +27,7 @@ the next session of the connection that closed first. If none has closed it is p
 happens to everything that comes once the disk is full or the capture has 4 GiB. It is said once, and the status is 1.
 If the server goes away, its clients are closed, and the recording goes on. A `quit` is not counted as a command.
 """
+import functools
 import signal
 import socket
 
@@ -85,7 +86,7 @@ def record(given, names):
     recording, addresses, found = begun(given, names, screen)
     proxy = Proxy(recording, given["--server"].name, addresses, given.get("--connections"), screen)
     proxy.listen(found)
-    proxy.selector.register(woken, READ, proxy.signal)
+    proxy.wait_for(woken, READ, functools.partial(proxy.signal, woken))
     screen.say(f"listening at {' and '.join(named(one.family, one.getsockname()) for one in found)}")
     proxy.run()
     screen.clear()

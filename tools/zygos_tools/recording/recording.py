@@ -1,15 +1,28 @@
-"""A recording: what clients sent and what came back, by connections and sessions, written as it comes."""
-from collections import deque
+"""A recording: what clients sent and what came back, by connections and sessions, written as it comes.
 
+What comes in one round of the proxy is written at once. Answers were read before any command of the same round is passed
+on, so their ends are written before these commands.
+"""
+from __future__ import annotations
+
+from collections import deque
+from collections.abc import Callable, Iterator
+from typing import Optional
+
+from zygos_tools.cli.screen import Screen
 from zygos_tools.files.formats import END, MOST_CONNECTIONS, MOST_SESSIONS, SEGMENT, close
 from zygos_tools.files.growing import Growing
-from zygos_tools.files.spool import replies_of
 from zygos_tools.files.outputs import naming
 from zygos_tools.files.part import MOST_CAPTURE
-from zygos_tools.protocol.pace import ODD, Pace
+from zygos_tools.files.spool import replies_of
+from zygos_tools.protocol.pace import ODD
+from zygos_tools.recording.links import Link, Way
+from zygos_tools.recording.targets import Files
 
 # how many connections are named whose first byte is not that of text
 MOST_WARNINGS = 20
+# bytes that were read in a round, each after where they came from
+Read = list[tuple[Way, bytes]]
 
 
 class Recording:
@@ -20,31 +33,38 @@ class Recording:
     session. One that gets none, the number None, is not recorded.
     """
 
-    def __init__(self, files, say, has_ends=False):
-        self.files, self.say, self.fault, self.has_ends = files, say, None, has_ends
+    def __init__(self, files: Files, say: Callable[[str], object], has_ends: bool = False) -> None:
+        self.files, self.say, self.has_ends = files, say, has_ends
+        self.fault: Optional[str] = None
         self.capture, self.spool, self.is_spool_full = Growing(files.capture.file), Growing(files.spool), False
-        self.sessions, self.closed, self.paces = [], deque(), {}
+        self.marks: list[bytes] = []  # ends of answers that are not yet written
+        self.sessions: list[int] = []
+        self.closed: deque[int] = deque()
+        self.open: set[Link] = set()
         self.done = self.commands = self.missing = self.sent_bytes = self.answered_bytes = self.odd = 0
         self.nuls = self.odd_lines = 0  # lines with a NUL, and connections that were warned of
         self.passed_on = 0  # connections that are not recorded
 
-    def owed(self):
+    def owed(self) -> int:
         """How many commands of open connections are not answered."""
-        return sum(pace.owed for pace in self.paces.values())
+        return sum(link.count.owed for link in self.open)
 
-    def begin(self):
-        """The number of a new connection; None where it is not recorded."""
+    # ---- connections
+
+    def begin(self, link: Link) -> None:
+        """Gives a new connection its number; None if it is not recorded."""
+        link.has_begun = True
         number = None if self.fault else self.free_number()
         if number is None:
             self.passed_on += 1
             if not self.fault and self.passed_on == 1:
                 self.say(f"{MOST_CONNECTIONS} connections are open, the most of a recording: others are passed on and"
                          " not recorded")
-        else:
-            self.paces[number] = Pace()
-        return number
+            return
+        link.number, link.mark = number, SEGMENT.pack(ord("S"), number, 0)
+        self.open.add(link)
 
-    def free_number(self):
+    def free_number(self) -> Optional[int]:
         """A number for a new connection, if there is one."""
         if len(self.sessions) < MOST_CONNECTIONS:
             self.sessions.append(1)
@@ -52,92 +72,172 @@ class Recording:
         if not self.closed or not self.has_room(len(close(0))):
             return None
         number, size = self.closed.popleft(), self.spool.size
-        if not self.write(self.spool.close, number):
+        if not self.write(self.spool, close(number)):
             return None
-        if not self.write(self.capture.close, number):
+        if not self.write(self.capture, close(number)):
             self.spool.cut(size)
             return None
         self.sessions[number] += 1
         return number
 
-    def end(self, number):
+    def end(self, link: Link) -> None:
         """A connection has closed."""
-        if number is None:
+        if link.number is None:
             return
-        self.missing += self.paces.pop(number).owed
+        self.open.discard(link)
+        self.missing += link.count.owed
         self.done += 1
-        if self.sessions[number] < MOST_SESSIONS:
-            self.closed.append(number)
+        if self.sessions[link.number] < MOST_SESSIONS:
+            self.closed.append(link.number)
 
-    def sent(self, number, text):
-        """Keeps what a client sent, where it is recorded. It is passed on in any case."""
-        if number is None or self.fault or not self.has_room(SEGMENT.size + len(text)):
-            return True
-        if self.write(self.capture.segment, number, text):
-            pace = self.paces[number]
-            is_first, nuls = pace.is_new, pace.nuls
-            self.commands += pace.sent(text)
-            if pace.nuls > nuls:
-                self.warn_of_nul(number, nuls, pace.nuls)
-            self.sent_bytes += len(text)
-            if is_first and not pace.is_text:
-                self.warn(number, text[0])
-        return True
+    def is_recorded(self, link: Link) -> bool:
+        """Whether what comes on a connection is recorded; one that goes on from an earlier recording begins here."""
+        if not link.has_begun:
+            self.begin(link)
+        return link.number is not None
 
-    def warn_of_nul(self, number, before, now):
+    # ---- what passes
+
+    def keep(self, answered: Read, sent: Read) -> None:
+        """Keeps what was read in a round: first what came back, and the ends of answers; then what was sent, which is
+        passed on in any case."""
+        if self.is_spool_full:
+            return
+        if self.fault:
+            self.keep_last(answered)
+            return
+        if answered:
+            self.keep_answers(answered)
+        if sent and not self.fault:
+            self.keep_sent(sent)
+
+    def keep_answers(self, answered: Read) -> None:
+        found = [(way.link, text) for way, text in answered if way.link.number is not None or self.is_recorded(way.link)]
+        for link, text in self.written(self.spool, found):
+            self.note_answer(link, text)
+
+    def keep_sent(self, sent: Read) -> None:
+        found = [(way.link, text) for way, text in sent
+                 if not way.link.is_dropping and (way.link.number is not None or self.is_recorded(way.link))]
+        if self.marks and not self.fits(found):
+            self.pass_marks()
+        for link, text in self.written(self.capture, found):
+            self.note_sent(link, text)
+
+    def keep_last(self, answered: Read) -> None:
+        """After a fault: keeps what belongs to commands that are recorded."""
+        for way, text in answered:
+            link = way.link
+            kept = link.count.last(text) if link.number is not None else b""
+            if kept and self.write(self.spool, SEGMENT.pack(ord("S"), link.number, len(kept)), kept):
+                self.answered_bytes += len(kept)
+
+    def fits(self, found: list[tuple[Link, bytes]]) -> bool:
+        """Whether the capture has room for these bytes, and for the ends of answers that wait."""
+        size = sum(map(len, self.marks)) + sum(SEGMENT.size + len(text) for _, text in found)
+        return self.capture.size + size + len(END) <= MOST_CAPTURE
+
+    def written(self, file: Growing, found: list[tuple[Link, bytes]]) -> list[tuple[Link, bytes]]:
+        """Writes bytes with a file's other records, and gives those that were written: all, or those before a fault."""
+        pack, records = SEGMENT.pack, []
+        is_sent = file is self.capture
+        if is_sent:
+            records, self.marks = self.marks, []
+        for link, text in found:
+            records += pack(83, link.number, len(text)), text
+        if not records:
+            return found
+        if not is_sent or self.fits(found):
+            try:
+                file.add(b"".join(records))
+                return found
+            except OSError:
+                pass  # each alone, to the first that cannot be written
+        kept = []
+        for link, text in found:
+            if is_sent and not self.has_room(SEGMENT.size + len(text)):
+                break
+            if not self.write(file, pack(83, link.number, len(text)), text):
+                break
+            kept.append((link, text))
+        return kept
+
+    def note_answer(self, link: Link, text: bytes) -> None:
+        """Notes what came back, and where answers end."""
+        self.answered_bytes += len(text)
+        count = link.count.heard(text)
+        if count and self.has_ends:
+            self.marks.append(link.mark * count)
+
+    def note_sent(self, link: Link, text: bytes) -> None:
+        """Notes what was sent."""
+        count = link.count
+        is_first, nuls = count.is_new, count.nuls
+        self.commands += count.sent(text)
+        self.sent_bytes += len(text)
+        if count.nuls > nuls:
+            self.warn_of_nul(link, nuls, count.nuls)
+        if is_first and not count.is_text:
+            self.warn(link, text[0])
+        if count.late:
+            if self.has_ends:
+                self.marks.append(link.mark * count.late)
+            count.late = 0
+
+    def pass_marks(self) -> None:
+        """Writes the ends of answers that were not written with commands."""
+        marks, self.marks = self.marks, []
+        if marks and not self.fault:
+            text = b"".join(marks)
+            if self.has_room(len(text)):
+                self.write(self.capture, text)
+
+    # ---- warnings
+
+    def warn_of_nul(self, link: Link, before: int, now: int) -> None:
         """Warns of a connection that sends lines with a NUL."""
         self.nuls += now - before
         if not before and self.odd_lines < MOST_WARNINGS:
             self.odd_lines += 1
-            self.say(f"warning: connection {number} sends a line with a NUL, where memcached ends it: a fault of the client?")
+            self.say(f"warning: connection {link.number} sends a line with a NUL, where memcached ends it: a fault of the"
+                     " client?")
 
-    def warn(self, number, byte):
+    def warn(self, link: Link, byte: int) -> None:
         """Warns of a connection whose first byte is not that of text."""
         self.odd += 1
+        number = link.number or 0
         if self.odd <= MOST_WARNINGS:
             session = f", session {self.sessions[number] - 1}" if self.sessions[number] > 1 else ""
             self.say(f"warning: connection {number}{session} begins with byte {byte:#04x}, as {ODD[byte]} does;"
                      " its commands will be read as text")
 
-    def answered(self, number, text):
-        """Keeps what came back, where it is recorded; after a fault, what belongs to commands that are. It is passed on
-        in any case."""
-        if number is None or self.is_spool_full:
-            return True
-        pace = self.paces[number]
-        kept = pace.last(text) if self.fault else text
-        if kept and self.write(self.spool.segment, number, kept):
-            self.answered_bytes += len(kept)
-            count = 0 if self.fault else pace.heard(kept)
-            if count and self.has_ends and self.has_room(SEGMENT.size * count):
-                self.write(self.capture.empty, number, count)
-        return True
+    # ---- files
 
-    def has_room(self, length):
+    def has_room(self, length: int) -> bool:
         """Whether the capture can have as many further bytes."""
         if self.capture.size + length + len(END) <= MOST_CAPTURE:
             return True
         self.stop(f"{self.files.capture.name}: a capture has at most {MOST_CAPTURE} bytes")
         return False
 
-    def write(self, way, *what):
-        """Adds a record. Gives whether it was added."""
+    def write(self, file: Growing, *what: bytes) -> bool:
+        """Adds a record to a file. Gives whether it was added."""
         try:
-            way(*what)
+            file.add(*what)
         except OSError as error:
-            is_sent = way.__self__ is self.capture
+            is_sent = file is self.capture
             self.is_spool_full |= not is_sent
             self.stop(f"{(self.files.capture if is_sent else self.files.replies).name}: {error.strerror}")
             return False
         return True
 
-    def stop(self, fault):
+    def stop(self, fault: str) -> None:
         """From now on nothing is recorded but answers to what was."""
         if not self.fault:
             self.fault = fault
             self.say(f"{fault}: all is passed on, and nothing more recorded; Ctrl-C ends it, and completes the files")
 
-    def finish(self, screen):
+    def finish(self, screen: Screen) -> None:
         """Completes both files."""
         version, count = 2 if any(number > 1 for number in self.sessions) else 1, len(self.sessions)
         with naming(self.files.capture.name):
@@ -149,12 +249,14 @@ class Recording:
             self.files.replies.pass_on()
         self.files.remove_spool()
 
-    def told(self):
+    # ---- what is said
+
+    def told(self) -> str:
         """What was recorded, as text."""
         return (f"{self.done} connections recorded, {self.commands} commands, {self.sent_bytes} bytes sent,"
                 f" {self.answered_bytes} bytes back")
 
-    def lacks(self):
+    def lacks(self) -> Iterator[str]:
         """What the recording lacks, as lines."""
         if self.missing:
             yield f"{self.missing} commands are not answered whole"
