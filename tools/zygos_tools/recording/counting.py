@@ -118,13 +118,16 @@ class Count(Pace):
                 end += int(found[1]) + 2
                 if end > size:
                     return count + self.any_heard(text[at:])
-            else:
-                count += 1
-                if waiting and not self.meta and not self.has_quiet:
-                    waiting.popleft()
-                else:
-                    self.take(PLAIN)
+                at = end
+                if end + 5 != size or not text.endswith(b"END\r\n"):
+                    continue
+                end = size
+            count += 1
             at = end
+            if waiting and not self.meta and not self.has_quiet:
+                waiting.popleft()
+            else:
+                self.take(PLAIN)
         return count
 
     def any_heard(self, text: bytes) -> int:

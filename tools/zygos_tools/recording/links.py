@@ -23,12 +23,13 @@ GONE, LINGER = 10, 1
 class Way:
     """One direction of a link: bytes of a source are passed on to a sink as it takes them."""
 
-    def __init__(self, link: Link, source: socket.socket, sink: socket.socket) -> None:
-        self.link, self.source, self.sink = link, source, sink
+    def __init__(self, link: Link, source: socket.socket, sink: socket.socket, is_up: bool) -> None:
+        self.link, self.source, self.sink, self.is_up = link, source, sink, is_up
         self.receive, self.send = source.recv, sink.send
         self.waiting: Union[bytes, memoryview] = b""
         self.is_ended = self.is_broken = False  # no more bytes come; and that is by a fault
         self.is_lost = self.is_shut = False  # the sink has gone; it was given the end
+        self.is_dropping = False  # what comes is neither recorded nor passed on
 
     def read(self, most: int = MOST_SEGMENT) -> Optional[bytes]:
         """The next bytes, none at the end; None if there are none yet."""
@@ -38,7 +39,6 @@ class Way:
             return None
         except OSError:
             text, self.is_broken = b"", True
-        self.is_ended |= not text
         return text
 
     def read_current(self, count: Count) -> Optional[bytes]:
@@ -48,22 +48,6 @@ class Way:
         except OSError:
             text = b""
         return self.read(count.room(text) or 1)
-
-    def pass_on(self, text: bytes) -> bool:
-        """Passes bytes on. Gives whether the sink took them all."""
-        if self.is_lost:
-            return False
-        try:
-            count = self.send(text)
-        except BlockingIOError:
-            count = 0
-        except OSError:
-            self.lose()
-            return False
-        if count == len(text):
-            return True
-        self.waiting = memoryview(text)[count:]
-        return False
 
     def write(self) -> None:
         """Passes on what waits."""
@@ -93,12 +77,12 @@ class Link:
 
     def __init__(self, client: socket.socket, server: socket.socket, recording: Recording) -> None:
         self.sockets, self.masks = (client, server), [0, 0]
-        self.up, self.down = Way(self, client, server), Way(self, server, client)
+        self.up, self.down = Way(self, client, server, True), Way(self, server, client, False)
         self.number: Optional[int] = None
         self.has_begun = False  # it has its number
         self.count, self.mark = Count(), b""
         self.until: Optional[float] = None
-        self.is_taking, self.is_held, self.is_closed, self.is_dropping = True, False, False, False
+        self.is_taking, self.is_held, self.is_closed = True, False, False
         recording.begin(self)
 
     def settle(self, now: float) -> bool:
@@ -106,7 +90,7 @@ class Link:
         self.up.settle()
         self.down.settle()
         if self.down.is_shut:  # the server has gone: what the client still sends is not recorded
-            self.is_dropping, self.up.waiting = True, b""
+            self.up.is_dropping, self.up.waiting = True, b""
             self.until = self.until or now + LINGER
         elif self.down.is_lost:
             self.until = self.until or now + GONE

@@ -16,6 +16,7 @@ from collections.abc import Callable, Iterable
 from typing import Any, Optional
 
 from zygos_tools.cli.screen import Screen
+from zygos_tools.files.formats import MOST_SEGMENT
 from zygos_tools.recording.links import READ, WRITE, Link, Way
 from zygos_tools.recording.places import beginning, forget, prompt
 from zygos_tools.recording.recording import Recording
@@ -54,7 +55,7 @@ class Proxy:
         self.changed: set[Link] = set()  # links of which something else may be waited for now
         self.turned_away = self.gone = 0  # clients without a server, and those that have come and gone
         self.room = max(1, (resource.getrlimit(resource.RLIMIT_NOFILE)[0] - OTHERS) // 2)
-        self.now = self.last = time.monotonic()
+        self.now = self.last = self.next_look = self.next_line = time.monotonic()
         self.ending: Optional[float] = None
         self.is_crowded = self.is_signalled = self.is_hurried = False
         self.unsettled: Optional[set[Link]] = None  # while clients are held: links with a command in flight
@@ -67,7 +68,8 @@ class Proxy:
         self.epoll.register(one.fileno(), mask)
 
     def wait_no_more(self, one: socket.socket) -> None:
-        if one.fileno() >= 0 and self.handlers.pop(one.fileno(), None):
+        if one.fileno() in self.handlers:
+            del self.handlers[one.fileno()]
             self.epoll.unregister(one.fileno())
 
     # ---- clients
@@ -112,14 +114,15 @@ class Proxy:
         self.dials.add(dial)
         while dial.left:
             try:
-                dial.socket, fault = beginning(*dial.left[0])
+                one, fault = beginning(*dial.left[0])
             except OSError as error:
                 fault = error.errno or 0
                 break
             if fault in (0, errno.EINPROGRESS):
-                self.wait_for(dial.socket, WRITE, functools.partial(self.dialed, dial, dial.socket))
+                dial.socket = one
+                self.wait_for(one, WRITE, functools.partial(self.dialed, dial, one))
                 return
-            dial.socket.close()
+            one.close()
             if fault == errno.EAGAIN:  # many wait at a Unix socket
                 self.later.append(functools.partial(self.dial, dial))
                 return
@@ -192,45 +195,48 @@ class Proxy:
 
     def run(self) -> None:
         """Passes bytes on until the end."""
-        look = second = self.now
         while not self.is_done():
-            self.round(self.epoll.poll(LOOK if self.ending is not None or self.later else IDLE, MOST_READ))
-            self.now = time.monotonic()
-            if self.is_signalled or self.most is not None and self.gone >= self.most:
-                self.end()
-            if self.now >= look:
-                look = self.now + LOOK
-                self.look()
-            if self.now >= second:
-                second = self.now + 1
-                self.screen.show(self.status())
+            self.turn()
         for link in list(self.links):
             self.close(link)
+
+    def turn(self) -> None:
+        """Does what there is to do, or waits for it."""
+        self.round(self.epoll.poll(LOOK if self.ending is not None or self.later else IDLE, MOST_READ))
+        self.now = time.monotonic()
+        if self.is_signalled or self.most is not None and self.gone >= self.most:
+            self.end()
+        if self.now >= self.next_look:
+            self.next_look = self.now + LOOK
+            self.look()
+        if self.now >= self.next_line:
+            self.next_line = self.now + 1
+            self.screen.show(self.status())
 
     def round(self, events: list[tuple[int, int]]) -> None:
         """Reads all that has come, has it recorded, and passes it on; then does what else is to be done."""
         ways, others = self.ways, []
         sent: list[tuple[Way, bytes]] = []
         answered: list[tuple[Way, bytes]] = []
+        is_usual = self.unsettled is None
         for file, event in events:
             way = ways.get(file)
             if way is None:
                 others.append(file)
                 continue
-            link = way.link
-            is_up = way is link.up
-            if event != READ:
-                mask = link.masks[not is_up]
-                if event & ~READ and mask & WRITE:
-                    (link.down if is_up else link.up).write()
-                    self.changed.add(link)
-                if not mask & READ or not event & ~WRITE:
+            if event == READ and (is_usual or not way.is_up):
+                try:
+                    text = way.receive(MOST_SEGMENT)
+                    if text:
+                        (sent if way.is_up else answered).append((way, text))
+                        continue
+                except BlockingIOError:
                     continue
-            text = way.read() if self.unsettled is None or not is_up else way.read_current(link.count)
-            if text:
-                (sent if is_up else answered).append((way, text))
-            elif text is not None:
+                except OSError:
+                    way.is_broken = True
                 self.ended(way)
+            else:
+                self.read(way, event, sent if way.is_up else answered)
         if answered or sent:
             self.pass_on(answered, sent)
         if self.changed:
@@ -239,16 +245,41 @@ class Proxy:
             if file in self.handlers:
                 self.handlers[file]()
 
+    def read(self, way: Way, event: int, found: list[tuple[Way, bytes]]) -> None:
+        """Does what a socket of a link is ready for. What is read is added to `found`."""
+        link = way.link
+        mask = link.masks[not way.is_up]
+        if event & ~READ and mask & WRITE:
+            (link.down if way.is_up else link.up).write()
+            self.changed.add(link)
+        if not mask & READ or not event & ~WRITE:
+            return
+        text = way.read() if self.unsettled is None or not way.is_up else way.read_current(link.count)
+        if text:
+            found.append((way, text))
+        elif text is not None:
+            self.ended(way)
+
     def pass_on(self, answered: list[tuple[Way, bytes]], sent: list[tuple[Way, bytes]]) -> None:
         """Has what was read recorded, and passes it on."""
         self.recording.keep(answered, sent)
-        for way, text in answered:
-            if not way.pass_on(text):
-                way.link.until = None
-                self.changed.add(way.link)
-        for way, text in sent:
-            if not way.link.is_dropping and not way.pass_on(text):
-                self.changed.add(way.link)
+        for some in (answered, sent):
+            for way, text in some:
+                if way.is_lost or way.is_dropping:
+                    way.link.until = None if way is way.link.down else way.link.until
+                    self.changed.add(way.link)
+                    continue
+                try:
+                    count = way.send(text)
+                except BlockingIOError:
+                    count = 0
+                except OSError:
+                    way.lose()
+                    self.changed.add(way.link)
+                    continue
+                if count < len(text):
+                    way.waiting = memoryview(text)[count:]
+                    self.changed.add(way.link)
         self.recording.pass_marks()
         if answered:
             self.last = time.monotonic()
@@ -257,6 +288,7 @@ class Proxy:
 
     def ended(self, way: Way) -> None:
         """No more bytes come of a socket."""
+        way.is_ended = True
         link = way.link
         back = link.down if way is link.up else link.up
         if way.is_broken:

@@ -112,17 +112,37 @@ class Recording:
             self.keep_sent(sent)
 
     def keep_answers(self, answered: Read) -> None:
-        found = [(way.link, text) for way, text in answered if way.link.number is not None or self.is_recorded(way.link)]
-        for link, text in self.written(self.spool, found):
-            self.note_answer(link, text)
+        pack, found = SEGMENT.pack, []
+        records: list[bytes] = []
+        for way, text in answered:
+            link = way.link
+            if link.number is not None or self.is_recorded(link):
+                records += pack(83, link.number, len(text)), text
+                found.append((link, text))
+        has_ends, marks = self.has_ends, self.marks
+        for link, text in self.written(self.spool, records, found):
+            self.answered_bytes += len(text)
+            count = link.count.heard(text)
+            if count and has_ends:
+                marks.append(link.mark * count)
 
     def keep_sent(self, sent: Read) -> None:
-        found = [(way.link, text) for way, text in sent
-                 if not way.link.is_dropping and (way.link.number is not None or self.is_recorded(way.link))]
-        if self.marks and not self.fits(found):
-            self.pass_marks()
-        for link, text in self.written(self.capture, found):
-            self.note_sent(link, text)
+        pack, records, found = SEGMENT.pack, self.marks, []
+        for way, text in sent:
+            link = way.link
+            if not way.is_dropping and (link.number is not None or self.is_recorded(link)):
+                records += pack(83, link.number, len(text)), text
+                found.append((link, text))
+        self.marks = []
+        for link, text in self.written(self.capture, records, found):
+            count = link.count
+            if count.is_new or count.nuls or count.early:
+                self.note_odd(link, text)
+            else:
+                self.commands += count.sent(text)
+                if count.nuls:
+                    self.warn_of_nul(link, 0, count.nuls)
+            self.sent_bytes += len(text)
 
     def keep_last(self, answered: Read) -> None:
         """After a fault: keeps what belongs to commands that are recorded."""
@@ -132,24 +152,12 @@ class Recording:
             if kept and self.write(self.spool, SEGMENT.pack(ord("S"), link.number, len(kept)), kept):
                 self.answered_bytes += len(kept)
 
-    def fits(self, found: list[tuple[Link, bytes]]) -> bool:
-        """Whether the capture has room for these bytes, and for the ends of answers that wait."""
-        size = sum(map(len, self.marks)) + sum(SEGMENT.size + len(text) for _, text in found)
-        return self.capture.size + size + len(END) <= MOST_CAPTURE
-
-    def written(self, file: Growing, found: list[tuple[Link, bytes]]) -> list[tuple[Link, bytes]]:
-        """Writes bytes with a file's other records, and gives those that were written: all, or those before a fault."""
-        pack, records = SEGMENT.pack, []
-        is_sent = file is self.capture
-        if is_sent:
-            records, self.marks = self.marks, []
-        for link, text in found:
-            records += pack(83, link.number, len(text)), text
-        if not records:
-            return found
-        if not is_sent or self.fits(found):
+    def written(self, file: Growing, records: list[bytes], found: list[tuple[Link, bytes]]) -> list[tuple[Link, bytes]]:
+        """Writes a file's records, and gives the bytes that were written: all, or those before a fault."""
+        text, is_sent = b"".join(records), file is self.capture
+        if not is_sent or file.size + len(text) + len(END) <= MOST_CAPTURE:
             try:
-                file.add(b"".join(records))
+                file.add(text)
                 return found
             except OSError:
                 pass  # each alone, to the first that cannot be written
@@ -157,32 +165,23 @@ class Recording:
         for link, text in found:
             if is_sent and not self.has_room(SEGMENT.size + len(text)):
                 break
-            if not self.write(file, pack(83, link.number, len(text)), text):
+            if not self.write(file, SEGMENT.pack(83, link.number, len(text)), text):
                 break
             kept.append((link, text))
         return kept
 
-    def note_answer(self, link: Link, text: bytes) -> None:
-        """Notes what came back, and where answers end."""
-        self.answered_bytes += len(text)
-        count = link.count.heard(text)
-        if count and self.has_ends:
-            self.marks.append(link.mark * count)
-
-    def note_sent(self, link: Link, text: bytes) -> None:
-        """Notes what was sent."""
+    def note_odd(self, link: Link, text: bytes) -> None:
+        """Notes what was sent on a connection that is new, or not a usual one."""
         count = link.count
         is_first, nuls = count.is_new, count.nuls
         self.commands += count.sent(text)
-        self.sent_bytes += len(text)
         if count.nuls > nuls:
             self.warn_of_nul(link, nuls, count.nuls)
         if is_first and not count.is_text:
             self.warn(link, text[0])
-        if count.late:
-            if self.has_ends:
-                self.marks.append(link.mark * count.late)
-            count.late = 0
+        if count.late and self.has_ends:
+            self.marks.append(link.mark * count.late)
+        count.late = 0
 
     def pass_marks(self) -> None:
         """Writes the ends of answers that were not written with commands."""
