@@ -79,11 +79,11 @@ class Link:
         self.sockets, self.masks = (client, server), [0, 0]
         self.up, self.down = Way(self, client, server, True), Way(self, server, client, False)
         self.number: Optional[int] = None
-        self.has_begun = False  # it has its number
+        self.has_begun = self.is_counted = False  # it was given a number, or none; something of it was recorded
         self.count, self.mark = Count(), b""
         self.until: Optional[float] = None
         self.is_taking, self.is_held, self.is_closed = True, False, False
-        recording.begin(self)
+        recording.add(self)
 
     def settle(self, now: float) -> bool:
         """Passes ends on. Gives whether the link is over."""

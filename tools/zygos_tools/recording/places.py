@@ -73,6 +73,23 @@ def is_left(path):
         return False
 
 
+def shared(found, count):
+    """For each of a number of processes, sockets that listen where these do, which are closed. The kernel gives each
+    client that comes to one of them; at a Unix socket all processes listen at the same one."""
+    rows = [[] for _ in range(count)]
+    for one in found:
+        family, address = one.family, one.getsockname()
+        if family == socket.AF_UNIX:
+            for row in rows:
+                row.append(one)
+            continue
+        one.close()
+        for row in rows:
+            row.append(bound(family, address, is_shared=True))
+            row[-1].listen(BACKLOG)
+    return rows
+
+
 def listening(one):
     """Sockets that listen at a place, at each of its addresses that there is."""
     found, fault = [], None
@@ -102,15 +119,15 @@ def forget(found):
         one.close()
 
 
-def bound(family, address):
-    """A socket that is bound to an address."""
+def bound(family, address, is_shared=False):
+    """A socket that is bound to an address, which it may share with others."""
     one = socket.socket(family, socket.SOCK_STREAM)
     try:
         if family == socket.AF_UNIX:
             if is_left(address):
                 os.unlink(address)
         else:
-            one.setsockopt(socket.SOL_SOCKET, socket.SO_REUSEADDR, 1)
+            one.setsockopt(socket.SOL_SOCKET, socket.SO_REUSEPORT if is_shared else socket.SO_REUSEADDR, 1)
         if family == socket.AF_INET6:
             one.setsockopt(socket.IPPROTO_IPV6, socket.IPV6_V6ONLY, 1)
         one.bind(address)

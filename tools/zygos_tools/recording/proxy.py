@@ -362,7 +362,7 @@ class Proxy:
         """Takes nothing more of clients; answers to what they sent are waited for."""
         if self.ending is not None:
             return
-        self.ending = self.now
+        self.ending, self.unsettled = self.now, None
         self.later = []
         connecting = [dial.socket for dial in self.dials if dial.socket]
         for one in [*self.listening, *connecting]:

@@ -1,6 +1,7 @@
 """Records traffic: a proxy between clients and a memcached that writes a capture and a replies file.
 
-usage: tools/record [--listen PLACE] [--server PLACE] [--connections N] [--ends] [--over] CAPTURE REPLIES
+usage: tools/record [--listen PLACE] [--server PLACE] [--connections N] [--processes N] [--every LENGTH] [--ends]
+                    [--over] CAPTURE REPLIES
        tools/record --repair CAPTURE REPLIES
 
   tools/record --ends --server 127.0.0.1:11211 my.cap my.replies
@@ -11,6 +12,8 @@ came, and REPLIES what the server answered. docs/GUIDE.md says how to use them.
 --listen       where clients connect to (default 127.0.0.1:11212)
 --server       the memcached that they reach (default 127.0.0.1:11211)
 --connections  end once N connections have come and gone (default: at Ctrl-C, a termination or a closed terminal)
+--processes    so many processes share the clients (default 1), for busy servers
+--every        record in windows of this length: of so many commands, as 100000, or of a time, as 60s, 10m or 1h
 --ends         write into CAPTURE when each answer was complete, as a segment without bytes; tools/judge needs it
 --over         overwrite CAPTURE and REPLIES if there is something in them
 --repair       complete the files of a recording that was killed; says how many commands have no whole answer
@@ -21,6 +24,16 @@ standard output, which is written at the end.
 Bytes are written before they are passed on. Until the end, answers are in REPLIES.spool; at the end the disk needs
 room for two copies. At Ctrl-C clients are cut off, and answers that still come are recorded; a second Ctrl-C does
 without them.
+
+With --every the files are my.000001.cap and my.000001.replies, my.000002.cap and so on. Each is there once it is whole,
+the replies first. A window ends at a quiet moment: clients are held until no command is in flight, and then go on in the
+next one, where an open connection is a new one. If there is no quiet moment within 0.1 seconds, clients go on, and it is
+tried again a second later, for longer, up to 0.8 seconds. It is said once for each window. A moment is not quiet while a
+client has sent a part of a command, or while the last command of one is not surely executed, as with noreply. A window
+also ends at 3 GiB, and not before it has a command. --over removes older windows.
+
+With several processes or windows, what comes is in REPLIES.spool.0 and so on until the files are written; --repair
+completes a window too, by the names of its files.
 
 Each connection is a session. The first 4,096 are the connections 0, 1, 2 and so on of the files; a later one becomes
 the next session of the connection that closed first. If none has closed it is passed on but not recorded. The same
@@ -34,16 +47,17 @@ import socket
 from zygos_tools.cli import ends
 from zygos_tools.cli.screen import Screen, hold_first
 from zygos_tools.recording.targets import Files, more_files
-from zygos_tools.recording import places
+from zygos_tools.recording import places, windows
+from zygos_tools.recording.head import Head
 from zygos_tools.recording.links import READ
-from zygos_tools.recording.places import forget, listening, named, place
+from zygos_tools.recording.places import forget, listening, named, place, shared
 from zygos_tools.recording.proxy import Proxy
 from zygos_tools.recording.recording import Recording
 from zygos_tools.recording.repairing import repair
 
 SIGNALS = (signal.SIGINT, signal.SIGTERM, signal.SIGHUP)
 OPTIONS = {"--listen": places.OPTION, "--server": places.OPTION, "--connections": ends.number(1, 10**9),
-           "--ends": None, "--over": None, "--repair": None}
+           "--processes": ends.number(1, 64), "--every": windows.OPTION, "--ends": None, "--over": None, "--repair": None}
 
 
 def arguments(words):
@@ -51,6 +65,8 @@ def arguments(words):
     found, files = ends.options(words, OPTIONS)
     if len(files) != 2 or files == ["-", "-"]:
         ends.stop("two files are written; --help says more", 2)
+    if "-" in files and ("--every" in found or found.get("--processes", 1) > 1):
+        ends.stop("several processes or windows need two files; neither can be -", 2)
     return {"--listen": place("127.0.0.1:11212"), "--server": place("127.0.0.1:11211"), **found}, files
 
 
@@ -101,6 +117,21 @@ def record(given, names):
     return not recording.fault and not recording.passed_on
 
 
+def record_in_parts(given, names):
+    """Records with several processes, or in windows. Gives whether all was recorded."""
+    screen, (woken, _) = Screen(), caught()
+    every = given.get("--every")
+    both = windows.Names(*names, every is not None)
+    both.refuse("--over" in given)
+    addresses, found = given["--server"].addresses(), listening(given["--listen"])
+    places_of = " and ".join(named(one.family, one.getsockname()) for one in found)
+    rows = shared(found, given.get("--processes", 1))
+    head = Head(both, windows.Due(every), given.get("--connections"), screen, len(rows))
+    head.begin(rows, given["--server"].name, addresses, "--ends" in given)
+    screen.say(f"listening at {places_of}")
+    return head.run(woken)
+
+
 def main(words):
     given, names = arguments(words)
     hold_first()
@@ -108,5 +139,6 @@ def main(words):
         repair(names, Screen())
         return
     more_files()
-    if not record(given, names):
+    has_parts = "--every" in given or given.get("--processes", 1) > 1
+    if not (record_in_parts if has_parts else record)(given, names):
         ends.end(1)

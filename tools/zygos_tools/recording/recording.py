@@ -34,11 +34,16 @@ class Recording:
     """
 
     def __init__(self, files: Files, say: Callable[[str], object], has_ends: bool = False) -> None:
-        self.files, self.say, self.has_ends = files, say, has_ends
+        self.set_up(say, has_ends)
+        self.files, self.capture, self.spool = files, Growing(files.capture.file), Growing(files.spool)
+
+    def set_up(self, say: Callable[[str], object], has_ends: bool) -> None:
+        """Nothing was recorded so far."""
+        self.say, self.has_ends = say, has_ends
         self.fault: Optional[str] = None
-        self.capture, self.spool, self.is_spool_full = Growing(files.capture.file), Growing(files.spool), False
+        self.is_spool_full = False
         self.marks: list[bytes] = []  # ends of answers that are not yet written
-        self.sessions: list[int] = []
+        self.sessions: dict[int, int] = {}  # how many each number has
         self.closed: deque[int] = deque()
         self.open: set[Link] = set()
         self.done = self.commands = self.missing = self.sent_bytes = self.answered_bytes = self.odd = 0
@@ -51,6 +56,10 @@ class Recording:
 
     # ---- connections
 
+    def add(self, link: Link) -> None:
+        """A connection has come."""
+        self.begin(link)
+
     def begin(self, link: Link) -> None:
         """Gives a new connection its number; None if it is not recorded."""
         link.has_begun = True
@@ -61,14 +70,15 @@ class Recording:
                 self.say(f"{MOST_CONNECTIONS} connections are open, the most of a recording: others are passed on and"
                          " not recorded")
             return
-        link.number, link.mark = number, SEGMENT.pack(ord("S"), number, 0)
+        link.number, link.mark, link.is_counted = number, SEGMENT.pack(ord("S"), number, 0), True
         self.open.add(link)
 
     def free_number(self) -> Optional[int]:
         """A number for a new connection, if there is one."""
         if len(self.sessions) < MOST_CONNECTIONS:
-            self.sessions.append(1)
-            return len(self.sessions) - 1
+            number = len(self.sessions)
+            self.sessions[number] = 1
+            return number
         if not self.closed or not self.has_room(len(close(0))):
             return None
         number, size = self.closed.popleft(), self.spool.size
@@ -82,12 +92,12 @@ class Recording:
 
     def end(self, link: Link) -> None:
         """A connection has closed."""
-        if link.number is None:
+        if not link.is_counted:
             return
         self.open.discard(link)
         self.missing += link.count.owed
         self.done += 1
-        if self.sessions[link.number] < MOST_SESSIONS:
+        if link.number is not None and self.sessions[link.number] < MOST_SESSIONS:
             self.closed.append(link.number)
 
     def is_recorded(self, link: Link) -> bool:
@@ -134,7 +144,11 @@ class Recording:
                 records += pack(83, link.number, len(text)), text
                 found.append((link, text))
         self.marks = []
-        for link, text in self.written(self.capture, records, found):
+        self.note_sent(self.written(self.capture, records, found))
+
+    def note_sent(self, found: list[tuple[Link, bytes]]) -> None:
+        """Notes what was sent, and written."""
+        for link, text in found:
             count = link.count
             if count.is_new or count.nuls or count.early:
                 self.note_odd(link, text)
@@ -238,7 +252,7 @@ class Recording:
 
     def finish(self, screen: Screen) -> None:
         """Completes both files."""
-        version, count = 2 if any(number > 1 for number in self.sessions) else 1, len(self.sessions)
+        version, count = 2 if any(number > 1 for number in self.sessions.values()) else 1, len(self.sessions)
         with naming(self.files.capture.name):
             self.capture.finish(version, count)
             self.files.capture.pass_on()

@@ -5,11 +5,12 @@ from itertools import zip_longest
 
 from zygos_tools.files import inputs
 from zygos_tools.files.formats import END, Close, capture_head, capture_records, capture_start, close
-from zygos_tools.files.growing import Found, reading, write_at
-from zygos_tools.files.outputs import naming, synced
+from zygos_tools.files.growing import Found, Growing, reading, write_at
+from zygos_tools.files.outputs import Beside, naming, synced
 from zygos_tools.files.part import Fault
 from zygos_tools.files.spool import replies_of
 from zygos_tools.protocol.pace import Pace
+from zygos_tools.recording.parts import join, parts_of, remove_parts
 from zygos_tools.recording.targets import SPOOL, locked
 
 
@@ -54,10 +55,23 @@ def unanswered(sent, back):
     return count + sum(pace.owed for pace in paces.values())
 
 
+def gather(parts, capture, spool):
+    """Makes a capture and a spool of the parts that processes left, unless that was done before."""
+    held = [locked(name) for name in parts]
+    if parts[0].endswith(f"{SPOOL}.0") and not os.path.lexists(spool):
+        with Beside(spool, True) as back, Beside(capture, True) as sent:
+            join(parts, Growing(sent.out), Growing(back.out))
+    remove_parts(parts)
+    for file in held:
+        os.close(file)
+
+
 def repair(names, screen):
     """Completes the files of a recording, and says on a screen what they have."""
     capture, replies = names
     spool = replies + SPOOL
+    if parts := parts_of(replies):
+        gather(parts, capture, spool)
     if not os.path.lexists(spool):
         repair_capture(capture, screen.say)
         check_replies(replies, screen.say)
