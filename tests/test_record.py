@@ -1,7 +1,9 @@
 """Tests tools/record by the habits of real clients and servers: nothing is lost."""
 import contextlib
+import fcntl
 import os
 import pty
+import random
 import re
 import resource
 import select
@@ -13,12 +15,15 @@ import threading
 import time
 import unittest
 
-from checks import LONGEST, TOP, cases, fail, same
+from checks import LONGEST, TOP, cases, fail, run, same
 from traffic import (Recorder, Server, at_once, big, connected, files_of, has_size, memcached, patched, rest_of, take,
                      talk, until)
 from zygos_tools.cli.screen import Progress
 from zygos_tools.files.formats import capture_start, close, read_capture, segment
 from zygos_tools.files.part import Part
+from zygos_tools.protocol.pace import Pace
+from zygos_tools.recording.counting import Count
+from zygos_tools.recording.parts import HEAD, PartFile, join
 
 # limits that tests make smaller
 LIMITS = "from zygos_tools.recording import proxy, recording; "
@@ -600,10 +605,270 @@ def real_memcached():
         same("what a memcached answers", wanted, {sent[key]: back[key] for key in sent})
 
 
+# ---- counting
+
+
+SENT = (b"get a\r\n", b"gets a b  c\r\n", b"get a\n", b"set a 0 0 5\r\nvalue\r\n", b"set a 0 0 5 noreply\r\nval\nu\r\n",
+        b"set a 0 -1 5\r\nv\0lue\r\n", b"cas a 0 0 1 7\r\nx\r\n", b"cas a 0 0 1 7 noreply\r\nx\r\n", b"delete a\r\n",
+        b"delete a noreply\r\n", b"incr a 5\r\n", b"incr a 5 noreply\r\n", b"touch noreply\r\n", b"get noreply\r\n",
+        b"mg a v\r\n", b"mg a v q\r\n", b"ms a 2\r\nxx\r\n", b"mn\r\n", b"bogus\r\n", b"set a 0 0\r\n", b"get \0\r\n",
+        b"delete  a\r\n", b"version\r\n", b"flush_all\r\n", b"\r\n", b"set a 0 0 5 x\r\nvalue\r\n", b"quit\r\n")
+TOLD = (b"END\r\n", b"VALUE a 0 5\r\nval\nu\r\nEND\r\n", b"VALUE a 0 5 77\r\nvalue\r\nVALUE b 1 0\r\n\r\nEND\r\n", b"15\r\n",
+        b"STORED\r\n", b"NOT_FOUND\r\n", b"HD\r\n", b"VA 2 f\r\nxx\r\n", b"MN\r\n", b"ERROR\r\n", b"OK\r\n", b"EN\r\n",
+        b"VERSION 1\r\n", b"STAT a b\r\nEND\r\n", b"CLIENT_ERROR x\r\n")
+
+
+def counting():
+    """The usual lines are counted as all others are, in whatever pieces they come."""
+    for number in range(3000):
+        draw = random.Random(number)
+        some = [one for one in SENT if draw.random() < 0.4] or SENT
+        texts = [b"".join(draw.choice(lines) for _ in range(draw.randint(1, 8))) for lines in (some, TOLD)]
+        count, pace = Count(), Pace()
+        while any(texts):
+            at = draw.choice([at for at in (0, 1) if texts[at]])
+            size = draw.choice((1, 5, 7, 10, 30, 100, 1000))
+            piece, texts[at], early = texts[at][:size], texts[at][size:], count.early
+            got = [(one.heard if at else one.sent)(piece) for one in (count, pace)]
+            same(f"talk {number}: {piece}", got[1], got[0] + (count.early - early if at else 0))
+            same(f"talk {number}: lines with a NUL", pace.nuls, count.nuls)
+            if not (pace.has_quiet or count.early or count.late):
+                same(f"talk {number}: what is owed", pace.owed, count.owed)
+
+
+def quiet():
+    """When no command of a connection is in flight."""
+    for sent, back, is_quiet in (
+        (b"", b"", True), (b"get a\r\n", b"", False), (b"get a\r\n", b"END\r\n", True), (b"get a\r\nge", b"END\r\n", False),
+        (b"set a 0 0 1 noreply\r\nx\r\n", b"", False), (b"set a 0 0 1 noreply\r\nx\r\nmn\r\n", b"MN\r\n", True),
+        (b"mn\r\nset a 0 0 1 noreply\r\nx\r\n", b"MN\r\n", False), (b"set a 0 0 9\r\nx\r\n", b"", False),
+        (b"get a\r\n", b"VALUE a 0 1\r\nx\r\n", False), (b"mg a v q\r\nmn\r\n", b"MN\r\n", True),
+        (b"mg a v q\r\nmg b v\r\n", b"EN\r\n", False), (b"mg b v\r\n", b"EN\r\n", True), (b"mn\r\nquit\r\n", b"MN\r\n", True),
+        (b"mg a v q\r\nmg b v\r\nmn\r\nmg c v\r\n", b"EN\r\nMN\r\nEN\r\n", False), (b"\x80\n", b"", True),
+    ):
+        count = Count()
+        count.sent(sent)
+        count.heard(back)
+        same(f"whether {sent} with {back} is quiet", is_quiet, count.is_quiet())
+    count = Count()
+    same("an early answer ends with its command", (0, 0, 1, 1, 0),
+         (count.sent(b"set a 0 0 9999999\r\nx"), count.heard(b"SERVER_ERROR object too large for cache\r\n"),
+          count.sent(b"y" * 9999998 + b"\r\n"), count.late, count.owed))
+
+
+# ---- several processes, and windows
+
+
+def order_of_parts():
+    """Parts are joined by the times of their blocks; what a process could not write whole is left out."""
+    blocks = [(at, time) for at in range(3) for time in sorted(random.Random(at).sample(range(100), 30))]
+    for at in range(3):
+        part = PartFile(f"part.{at}")
+        for number, time_of in blocks:
+            if number == at:
+                part.block(time_of, b"%d at %d;" % (at, time_of), b"%d;" % time_of)
+        os.close(part.file)
+    with open("part.1", "ab") as file:
+        file.write(HEAD.pack(50, 9, 0) + b"cut")
+    found = Gathered(), Gathered()
+    join([f"part.{at}" for at in range(3)], *found)
+    wanted = sorted((time_of, at) for at, time_of in blocks)
+    same("what was sent", b"".join(b"%d at %d;" % (at, time_of) for time_of, at in wanted), found[0].text)
+    same("what came back", b"".join(b"%d;" % time_of for time_of, _ in wanted), found[1].text)
+
+
+class Gathered:
+    """A file that gathers what is added."""
+
+    text = b""
+
+    def add(self, text):
+        self.text += text
+
+
+def judged(name):
+    """The capture of this name and its replies have an order."""
+    ran = run("judge", "--warm", "--out", "/dev/null", name, name.replace(".cap", ".replies"))
+    same(f"the order of {name}", (0, "order found"), (ran.returncode, ran.stdout.decode()[:11]))
+
+
+def loaded(place, **more):
+    """Lets 20 clients send commands on the same keys."""
+    kinds = "get get mget gets cas set setq add delete incr"
+    ran = run("load", "--commands", "100", "--keys", "30", "--kinds", kinds, place)
+    same("a load", (0, b"20 clients, 2000 commands\n"), (ran.returncode, ran.stdout))
+
+
+def several_processes():
+    """Several processes record clients that share keys: the order of what came is true, also through a Unix socket."""
+    for listen in ("127.0.0.1:0", "./clients"):
+        with memcached("-t", "4") as place:
+            recorder = Recorder(place, "--ends", "--processes", "3", "--connections", "20", listen=listen)
+            loaded(recorder.place)
+            status, said = recorder.end(None)
+            same(f"what is said of several processes at {listen}", (0, True),
+                 (status, said.startswith("tools/record: 20 connections recorded, 2000 commands, ")))
+        names = sorted(os.listdir("."))
+        same("no part is left", ["my.cap", "my.replies"], [name for name in names if name != "clients"])
+        judged("my.cap")
+        sent, back = files_of()
+        same("connections", (20, 20), (len(sent), len(back)))
+
+
+def in_windows():
+    """Windows of a number of commands: each is whole, all commands are in one of them, and each has an order."""
+    for processes in ("1", "3"):
+        with memcached("-t", "4") as place:
+            recorder = Recorder(place, "--ends", "--every", "400", "--processes", processes, "--connections", "20")
+            loaded(recorder.place)
+            status, said = recorder.end(None)
+        names = sorted(name for name in os.listdir(".") if name.endswith(".cap"))
+        same("the windows", ["my.%06d.cap" % at for at in range(1, len(names) + 1)], names)
+        same("more than one", True, len(names) > 1)
+        same("each with its replies and no part", sorted(names + [name.replace(".cap", ".replies") for name in names]),
+             sorted(os.listdir(".")))
+        counts = [int(count) for count in re.findall(r"my\.[0-9]{6}\.cap: ([0-9]+) commands, ", said)]
+        same("all commands are in a window", (0, 2000, len(names)), (status, sum(counts), len(counts)))
+        for name in names:
+            judged(name)
+            sent, _ = files_of(name, name.replace(".cap", ".replies"))
+            for text in sent.values():
+                pace = Pace()
+                pace.sent(text)
+                same("windows have whole commands", (b"", 0), (pace.commands.begun, pace.commands.block))
+
+
+def waits_for_quiet():
+    """A window does not end while a command is in flight, or may be: it is said, and other clients go on."""
+    for text, rest, back in ((b"hold\r\n", b"", b"OK\r\n"), (b"set a 0 0 1\r\nx", b"\r\n", b"STORED\r\n"), (b"ge", b"t b\r\n", b"END\r\n"),
+                             (b"set a 0 0 1 noreply\r\nx\r\n", b"mn\r\n", b"MN\r\n")):
+        with Server() as server:
+            recorder = Recorder(server.place, "--every", "1")
+            with connected(recorder.place) as one, connected(recorder.place) as other:
+                one.sendall(text)
+                until("the first client is heard", lambda: os.path.getsize("my.000001.replies.spool.0") > 24)
+                other.sendall(b"mn\r\n")
+                same("an answer", b"MN\r\n", take(other, 4))
+                same(f"what is said while {text} is in flight", "tools/record: my.000001.cap: no quiet moment within 0.1"
+                     " seconds: it goes on until there is one\n", recorder.line())
+                other.sendall(b"mn\r\n")
+                same("another client goes on", (b"MN\r\n", False), (take(other, 4), os.path.exists("my.000001.cap")))
+                if rest:
+                    one.sendall(rest)
+                else:
+                    server.release()
+                same("the first client goes on", back, take(one, len(back)))
+                until("the window ends", lambda: os.path.exists("my.000001.cap"))
+                other.sendall(b"mn\r\n")
+                same("an answer in the next window", b"MN\r\n", take(other, 4))
+            same("the end of windows", 0, recorder.end()[0])
+        sent, got = files_of("my.000001.cap", "my.000001.replies")
+        same("the first window", ({text + rest: back, b"mn\r\n" * 2: b"MN\r\n" * 2}), {sent[key]: got[key] for key in sent})
+        sent, got = files_of("my.000002.cap", "my.000002.replies")
+        same("the second window", ({(0, 0): b"mn\r\n"}, {(0, 0): b"MN\r\n"}), (sent, got))
+
+
+def by_seconds():
+    """Windows of a second; there is none without a command."""
+    with Server() as server:
+        recorder = Recorder(server.place, "--every", "1s")
+        with connected(recorder.place) as one:
+            for number in (1, 2, 3):
+                one.sendall(b"mn\r\n")
+                take(one, 4)
+                until("a window ends", lambda number=number: os.path.exists(f"my.00000{number}.cap"))
+        same("the end of windows of a second", 0, recorder.end()[0])
+    same("the commands of all windows", [{(0, 0): b"mn\r\n"}] * 3 + [{}],
+         [files_of(f"my.00000{number}.cap", f"my.00000{number}.replies")[0] for number in (1, 2, 3, 4)])
+
+
+def killed_with_parts():
+    """A recorder of several processes that is killed: --repair makes the files of its parts. So it does of a window."""
+    for words, files in ((("--processes", "2"), ("my.cap", "my.replies")),
+                         (("--every", "100"), ("my.000001.cap", "my.000001.replies"))):
+        with Server() as server:
+            recorder = Recorder(server.place, *words)
+            ones = [connected(recorder.place) for _ in range(6)]
+            for one in ones:
+                one.sendall(ASKED)
+                same("an answer", ANSWERED, take(one, len(ANSWERED)))
+            says("parts that a recorder writes", f"{files[1]}.spool.0: another recording writes this file", "--listen",
+                 "127.0.0.1:0", *words, "my.cap", "my.replies")
+            recorder.end(signal.SIGKILL)
+            for one in ones:
+                same("its clients are cut off", b"", rest_of(one))
+                one.close()
+        until("no process is left", lambda files=files: is_free(f"{files[1]}.spool.0"))
+        says("a start over parts", f"{files[1]}.spool.0: left by a recording that did not end; complete that with --repair",
+             *words, "my.cap", "my.replies")
+        ran = subprocess.run([os.path.join(TOP, "tools/record"), "--repair", *files], capture_output=True, timeout=LONGEST,
+                             check=False)
+        same("repaired", (0, True), (ran.returncode, b"completed: 6 connections, 6 sessions" in ran.stderr))
+        same("its files", [[ASKED] * 6, [ANSWERED] * 6], [list(one.values()) for one in files_of(*files)])
+        same("no part is left", sorted(files), sorted(os.listdir(".")))
+        for name in files:
+            os.unlink(name)
+
+
+def is_free(name):
+    """Whether no process has locked a file."""
+    with open(name, "rb") as file, contextlib.suppress(BlockingIOError):
+        fcntl.flock(file, fcntl.LOCK_EX | fcntl.LOCK_NB)
+        return True
+    return False
+
+
+def a_process_ends():
+    """If one process is killed, the others end too; all that was written is kept, and the status says so."""
+    with Server() as server:
+        recorder = Recorder(server.place, "--processes", "2")
+        ones = [connected(recorder.place) for _ in range(8)]
+        for one in ones:
+            one.sendall(ASKED)
+            take(one, len(ANSWERED))
+        with open(f"/proc/{recorder.process.pid}/task/{recorder.process.pid}/children", encoding="ascii") as file:
+            os.kill(int(file.read().split()[0]), signal.SIGKILL)
+        status, said = recorder.end(None)
+        same("a process that ends", (1, "tools/record: process 0 of the recorder has ended; its clients are cut off"),
+             (status, said.splitlines()[0]))
+        for one in ones:
+            one.close()
+    same("what is kept", [[ASKED] * 8, [ANSWERED] * 8], [list(one.values()) for one in files_of()])
+
+
+def sessions_of_processes():
+    """More connections than there are numbers: later ones are sessions of those that closed."""
+    with Server() as server:
+        recorder = Recorder(server.place, "--every", "1000", tool=patched(
+            "record", "from zygos_tools.recording import board; board.MOST_CONNECTIONS = 2"))
+        for _ in range(5):
+            same("one after the other", ANSWERED, talk(recorder.place, ASKED))
+        status, said = recorder.end()
+    same("sessions", (0, "tools/record: my.000001.cap: 10 commands, 2 connections"), (status, said.splitlines()[0]))
+    sent, back = files_of("my.000001.cap", "my.000001.replies")
+    same("their files", ([ASKED] * 5, [ANSWERED] * 5), (list(sent.values()), list(back.values())))
+
+
+def words_for_windows():
+    with open("my.000007.cap", "wb") as file:
+        file.write(b"old")
+    says("older windows", "./my.000007.cap: there is something in this file; --over writes over it".replace("./", ""),
+         "--every", "5", "my.cap", "my.replies")
+    for option, word, takes in (("--every", "0", "a number of commands, or a time such as 60s, 10m or 1h"),
+                                ("--every", "5d", "a number of commands, or a time such as 60s, 10m or 1h"),
+                                ("--processes", "0", "a number from 1 to 64")):
+        says(f"{option} {word}", f"{option} takes {takes}, not {word}", option, word, "my.cap", "my.replies", status=2)
+    says("standard output", "several processes or windows need two files; neither can be -", "--every", "5", "-",
+         "my.replies", status=2)
+    says("one file for both", "my.cap: both files cannot be this one", "--processes", "2", "my.cap", "my.cap")
+    says("no folder", "none: No such file or directory", "--every", "5", "none/my.cap", "my.replies")
+
+
 Tests = cases(before_it_begins, several_clients, no_client, two_hundred, other_sockets, ends_of_answers, later_sessions,
               few_files, standard_output, gives_up, half_closed, slow_reader, binary, server_restarts, signals,
               ends_with_a_slow_reader, closed_errors, killed, unanswered, full, terminal, joining, quits,
-              real_memcached, has_folder=True)
+              real_memcached, counting, quiet, order_of_parts, several_processes, in_windows, waits_for_quiet, by_seconds,
+              killed_with_parts, a_process_ends, sessions_of_processes, words_for_windows, has_folder=True)
 
 if __name__ == "__main__":
     unittest.main()
