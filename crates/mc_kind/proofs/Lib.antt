@@ -1,5 +1,5 @@
 pub mod SeriesLemmas
 pub mod ListingLemmas
 pub mod LineLemmas
-pub mod SessionLemmas
+pub mod CutLemmas
 pub mod CountLemmas

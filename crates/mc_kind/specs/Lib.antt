@@ -1,3 +1,3 @@
+pub mod Cutting
 pub mod First
 pub mod Piece
-pub mod Session

@@ -1,15 +1,17 @@
-//! Finds where the first answer in an output ends, and the first command that the output refutes.
+//! Finds where the first answer in an output ends, and cuts the output of a session into answers.
 #![tactic(auto)]
 
 mod counts;
+mod cutting;
 mod finding;
 mod first;
 mod keys;
 mod lines;
 mod listing;
 mod piece;
-mod session;
+mod text;
 
+pub use cutting::{Cutting, cut_session};
 pub use finding::first_answer;
 pub use first::First;
-pub use session::{Verdict, session_verdict};
+pub use text::Text;

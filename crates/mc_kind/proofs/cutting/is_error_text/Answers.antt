@@ -1,7 +1,7 @@
 use Rattle.std.proofs.Common.{ap, sym, ◌∙◌, length, eq-eqb}
 use Rattle.std.proofs.lemmas.List.{length-take-le}
 use Rattle.mc_kind.proofs.ListingLemmas.{some_error_first}
-use Rattle.mc_kind.proofs.session.is_error_text.Goals as goal
+use Rattle.mc_kind.proofs.cutting.is_error_text.Goals as goal
 
 pub returns-else-length-bytes : goal.returns-else-length-bytes
 returns-else-length-bytes c = record {

@@ -1,0 +1,63 @@
+-- How the output of a session is cut into the answers of its commands.
+use Rattle.std.specs.Prelude.{◌≡◌, ◌⊎◌, ℕ, ◌-◌, ◌≤◌, List, [], length, take, drop, slice_get, Some}
+use Rattle.mc_parse.specs.declared.command.Command.{Command}
+use Rattle.mc_allows.specs.declared.said.Said.{Said}
+use Rattle.mc_answers.specs.Answer.{IsAnswer}
+use Rattle.mc_answers.specs.Output.{Cut, IsCut, FitsText, text_at}
+use Rattle.mc_kind.specs.declared.cutting.Cutting.{Cutting}
+use Rattle.mc_kind.specs.declared.cutting.Cutting.TheVariants.{Kind, Surplus, Other, All, Front}
+use Rattle.mc_kind.specs.declared.text.Text.{Text}
+
+-- ---- texts
+
+-- the bytes of a text in an output
+abbrev pub text_in : List ℕ → Text → List ℕ
+text_in output text = take (text.to - text.from) (drop text.from output)
+
+-- the text stands in the output
+pub record StandsIn (output : List ℕ) (text : Text) : Type 0 where
+  pub rises : text.from ≤ text.to
+  pub within : text.to ≤ length output
+
+-- there are at most as many texts as commands, and they stand in the output
+pub record AreTexts (commands : List Command) (output : List ℕ) (texts : List Text) : Type 0 where
+  pub few : length texts ≤ length commands
+  pub each : (i : ℕ) (text : Text) → slice_get texts i ≡ Some text → StandsIn output text
+
+-- ---- cuts
+
+-- the output of a session with these commands is cut in no way
+abbrev pub HasNoCut : List Command → List ℕ → Type 0
+HasNoCut commands output = (cut : Cut) → IsCut commands output cut → ⊥
+
+-- a cut has these bytes for the command with this index; if they are some, they are its answer
+pub record HasText (commands : List Command) (cut : Cut) (i : ℕ) (bytes : List ℕ) : Type 0 where
+  pub is : text_at cut i ≡ bytes
+  pub whole : (command : Command) (saids : List Said) → slice_get commands i ≡ Some command
+      → FitsText cut i command saids → (bytes ≡ []) ⊎ IsAnswer command saids bytes
+
+-- a cut has these texts for the first commands
+abbrev pub HasTexts : List Command → List ℕ → List Text → Cut → Type 0
+HasTexts commands output texts cut =
+    (i : ℕ) (text : Text) → slice_get texts i ≡ Some text → HasText commands cut i (text_in output text)
+
+-- a cut has no byte for the commands from this index on
+abbrev pub HasNoMore : ℕ → Cut → Type 0
+HasNoMore count cut = (i : ℕ) → count ≤ i → text_at cut i ≡ []
+
+-- each cut has these texts for the first commands
+abbrev pub AreFirstTexts : List Command → List ℕ → List Text → Type 0
+AreFirstTexts commands output texts = (cut : Cut) → IsCut commands output cut → HasTexts commands output texts cut
+
+-- in each cut the other commands have no byte
+abbrev pub AreAllTexts : List Command → List ℕ → List Text → Type 0
+AreAllTexts commands output texts = (cut : Cut) → IsCut commands output cut → HasNoMore (length texts) cut
+
+-- a refuted output has no cut, and each cut has the texts that are found
+abbrev pub IsCutting : List Command → List ℕ → Cutting → Type 0
+IsCutting commands output (Kind index) = HasNoCut commands output
+IsCutting commands output Surplus = HasNoCut commands output
+IsCutting commands output (Other index) = Unit {0}
+IsCutting commands output (All texts) =
+    AreTexts commands output texts × AreFirstTexts commands output texts × AreAllTexts commands output texts
+IsCutting commands output (Front texts) = AreTexts commands output texts × AreFirstTexts commands output texts
