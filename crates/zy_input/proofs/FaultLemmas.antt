@@ -27,7 +27,7 @@ after_journal a x c y is one two = one_rest Journals.journals Journals.is_good_j
 
 -- ---- parts or a fault
 
-good_bad : (text : List ℕ) (version : ℕ) (outputs : AllOutputs) (fault : FileFault) → Replies.verdict text ≡ Replies.Verdict.Good version (items_of outputs) → Replies.verdict text ≡ Replies.Verdict.Bad fault → ⊥
+pub good_bad : (text : List ℕ) (version : ℕ) (outputs : AllOutputs) (fault : FileFault) → Replies.verdict text ≡ Replies.Verdict.Good version (items_of outputs) → Replies.verdict text ≡ Replies.Verdict.Bad fault → ⊥
 good_bad text version outputs fault good bad = let is : Replies.Verdict.Good version (items_of outputs) ≡ Replies.Verdict.Bad fault = sym good ∙ bad in cc
 
 pub no_fault : (text : List ℕ) (streams : List (List (List ℕ))) (journal : Journal) (outputs : AllOutputs) (refusal : Refusal) → IsMadeOfParts text streams journal outputs → HasPartFault text refusal → ⊥
@@ -43,17 +43,17 @@ no_fault text streams journal outputs (OfReplies fault) parts has =
 
 -- ---- one fault
 
-captures_differ : (text : List ℕ) (first second : CaptureFault) → Captures.verdict text ≡ Captures.Verdict.Bad first → Captures.verdict text ≡ Captures.Verdict.Bad second → first ≡ second
+pub captures_differ : (text : List ℕ) (first second : CaptureFault) → Captures.verdict text ≡ Captures.Verdict.Bad first → Captures.verdict text ≡ Captures.Verdict.Bad second → first ≡ second
 captures_differ text first second one two = let is : Captures.Verdict.Bad first ≡ Captures.Verdict.Bad second = sym one ∙ two in cc
 
 journals_differ : (text : List ℕ) (first second : FileFault) → Journals.journal_verdict text ≡ Journals.JournalVerdict.Bad first → Journals.journal_verdict text ≡ Journals.JournalVerdict.Bad second → first ≡ second
 journals_differ text first second one two = let is : Journals.JournalVerdict.Bad first ≡ Journals.JournalVerdict.Bad second = sym one ∙ two in cc
 
-replies_differ : (text : List ℕ) (first second : FileFault) → Replies.verdict text ≡ Replies.Verdict.Bad first → Replies.verdict text ≡ Replies.Verdict.Bad second → first ≡ second
+pub replies_differ : (text : List ℕ) (first second : FileFault) → Replies.verdict text ≡ Replies.Verdict.Bad first → Replies.verdict text ≡ Replies.Verdict.Bad second → first ≡ second
 replies_differ text first second one two = let is : Replies.Verdict.Bad first ≡ Replies.Verdict.Bad second = sym one ∙ two in cc
 
 -- a fault of the capture is not one of a later part
-not_later : (text front back : List ℕ) (fault : CaptureFault) → HasCaptureFault text fault → text ≡ front ++ back → IsCaptureText front → ⊥
+pub not_later : (text front back : List ℕ) (fault : CaptureFault) → HasCaptureFault text fault → text ≡ front ++ back → IsCaptureText front → ⊥
 not_later text front back fault has is whole = has.none front back is whole
 
 -- a fault of the journal is not one of the replies file

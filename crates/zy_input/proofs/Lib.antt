@@ -6,6 +6,7 @@ pub mod RepliesLemmas
 pub mod JournalLemmas
 pub mod WholeLemmas
 pub mod FaultLemmas
+pub mod RecordingLemmas
 pub mod FileLemmas
 pub mod PacketLemmas
 pub mod LawfulLemmas

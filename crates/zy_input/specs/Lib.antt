@@ -1,4 +1,5 @@
 pub mod Parts
+pub mod Recording
 pub mod Reading
 pub mod Keeping
 pub mod Kinds
