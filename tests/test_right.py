@@ -142,7 +142,7 @@ def items_before_drawn_recordings():
             texts[at] = OTHERS[texts[at]]
             drawn.outputs[connection] = b"".join(texts)
             word, lines = verdict(drawn.capture(), outputs_of(drawn.replies()), is_warm=True)
-            counts[word if word != "unknown" else lines[0].partition(": an item of ")[2]] += 1
+            counts[word if word != "unknown" else lines[0].partition(": an item of ")[2].partition(";")[0]] += 1
     same("with another answer", {"no", "order found", "nearly 1 MiB may have been there at first, to which nothing could"
                                  " be joined"}, set(counts))
 
@@ -183,6 +183,26 @@ def batches_that_cannot_be_followed():
     same("the keys that have an order", [b"a"], sorted(judge.keys.found))
     lied = judged([ONE, hidden, (2, b"get a\r\n", hit(b"a", b"2"))])
     same("another session's lie", "no", lied[0])
+    same("the words that leave it out", "; --except-keys 'a b' leaves out its keys", lines[0][-41:])
+    other = [ONE, hidden, (0, *stored(b"c", b"1")), (1, b"get c\r\n", hit(b"c", b"1"))]
+    for left_out in (b"a", b"ab"):
+        more = {"is_chosen": lambda key, left_out=left_out: key not in left_out}
+        word, counts, _ = judged(other[:3], **more)
+        same(f"without {left_out!r}", ("order found", 3) if left_out == b"ab" else ("unknown", 0),
+             (word, counts["commands that cannot be followed left out"] if word == "order found" else 0))
+        same(f"without {left_out!r}, and another key in this session", "unknown", judged(other, **more)[0])
+
+
+def what_is_unknown_names_commands():
+    """What is said of a key that is unknown has the command that makes it so, and the words that leave the key out."""
+    nul = (1, b"get a\0\r\n", hit(b"a", b"2"))
+    same("a line with a NUL", ["unknown: key a: a line has a NUL, where memcached ends it and another server may not;"
+                               " --except-keys 'a' leaves it out"], judged([ONE, nul])[1])
+    quiet = [ONE, (0, b"set a 0 0 1 noreply\r\n2\r\n", b""), (0, b"get a\r\n", hit(b"a", b"1"))]
+    lines = judged(quiet, loses=True)[1]
+    same("a store without an answer", ["unknown: key a: a command with noreply may have failed, as the server may lack memory;"
+                                       " --except-keys 'a' leaves it out", "  connection 0, command 1, sent 2, ended by 4:"
+                                       " set a 0 0 1 noreply -> no answer"], lines)
 
 
 # ---- retrievals
@@ -225,8 +245,9 @@ def lists_of_operators():
         same(f"{line!r}, as the recorder counts", (1, 1), (pace.sent(line + b"\r\n"), pace.heard(answer)))
     watched = [(0, b"watch mutations\r\n", b"OK\r\n"), (1, *stored(b"k", b"x")), (0, b"", b"ts=1.1 gid=1 type=item_store key=k\r\n"),
                (1, b"get k\r\n", hit(b"k", b"x"))]
-    word, _, judge = judged(watched)
-    same("a log", ("unknown", [b"k"]), (word, sorted(judge.keys.found)))
+    same("a log", ("order found", {"watch left out": 1}), judged(watched)[:2])
+    word, _, judge = judged([*watched, (0, b"get k\r\n", hit(b"k", b"x"))])
+    same("a log, and a get", ("unknown", [b"k"]), (word, sorted(judge.keys.found)))
 
 
 def answers_that_are_left():
@@ -430,7 +451,7 @@ def flags_are_told():
 
 
 Tests = cases(uniques_after_a_restart, uniques_that_do_not_count, items_that_were_not_shown, items_before_drawn_recordings,
-              a_block_that_is_dropped, batches_that_cannot_be_followed,
+              a_block_that_is_dropped, batches_that_cannot_be_followed, what_is_unknown_names_commands,
               items_in_any_order, lists_of_operators, answers_that_are_left, flushes_with_a_delay, connections_that_are_refused,
               authentications, stores_that_fail, quiet_stores_that_may_fail, lines_that_may_be_carried_out, commands_of_sessions_that_ended,
               no_key_is_left, files_that_are_none, at_a_terminal, flags_are_told, hot_keys_hold_nobody_up)

@@ -6,6 +6,7 @@ from __future__ import annotations
 
 import copy
 from collections.abc import Sequence
+from typing import NamedTuple
 
 from zygos_tools.judging.events import (ADD, APPEND, CAS, DECR, FOREVER, GET, INCR, PREPEND, REPLACE, SET, Event)
 from zygos_tools.judging.reading import Recording
@@ -15,13 +16,18 @@ from zygos_tools.protocol.meaning import line_of
 V_SET = VERB_OF["set"]
 LATE = "a command that was not answered before its connection ended may have been carried out later"
 ENTERING = ("the first command of a session stores two words, which is no set but an authentication if the server asks"
-            " for one (-Y): --except-keys leaves its key out")
-
-
-LARGE = "a value of nearly 1 MiB was stored with noreply, and the server may have refused it: --except-keys leaves its key out"
+            " for one (-Y)")
+LARGE = "a value of nearly 1 MiB was stored with noreply, and the server may have refused it"
 QUIET = "a command with noreply may have failed, as the server may lack memory"
 # of how many bytes a value is surely taken, and the calls that can fail without an answer
 MOST_SURE, STORES = 1000000, (SET, ADD, REPLACE, APPEND, PREPEND, CAS, INCR, DECR)
+
+
+class Doubt(NamedTuple):
+    """Why something is not surely known, and the command that makes it so."""
+
+    why: str
+    command: int
 
 
 class Doubts:
@@ -47,34 +53,35 @@ class Doubts:
         line = line_of(self.table.original(first[1])).decode("latin-1")
         return f"items may have been lost after `{line}`: --may-forget lets items go"
 
-    def loosened(self, events: Sequence[Event], loses: bool) -> tuple[list[Event], str | None]:
+    def loosened(self, events: Sequence[Event], loses: bool) -> tuple[list[Event], Doubt | None]:
         """These calls, as far as they are surely known, and why that is less; no reason if it is not. With `loses` the
         server may lose items."""
         found: list[Event] = []
-        reason: str | None = None
+        reason: Doubt | None = None
         for event in events:
-            new, why = self.loose(event, loses)
-            reason = reason or why
+            new, doubt = self.loose(event, loses)
+            reason = reason or doubt
             found += new
         if any(event.command in self.tails for event in events):
             found = [in_session(event, self.table.session[event.command], event.command in self.tails)
                      for event in found]
         return found, reason
 
-    def loose(self, event: Event, loses: bool) -> tuple[list[Event], str | None]:
+    def loose(self, event: Event, loses: bool) -> tuple[list[Event], Doubt | None]:
         """What is surely known of a call, and why that is less than was taken to be known."""
         table, command = self.table, event.command
         odd = self.recording.odd.get((event.connection, table.session[command]))
         if odd and table.number[command] >= odd.since:
-            return [] if event.kind == GET else [perhaps(event)], odd.why
+            first = self.recording.of_connection[event.connection][odd.since]
+            return [] if event.kind == GET else [perhaps(event)], Doubt(odd.why, first)
         if command in self.entering:
-            return [perhaps(event)], ENTERING
+            return [perhaps(event)], Doubt(ENTERING, command)
         if event.want is None and event.kind in STORES and not event.optional:
             if len(event.value or b"") > MOST_SURE:
-                return [perhaps(event), failed(event)], LARGE
+                return [perhaps(event), failed(event)], Doubt(LARGE, command)
             if loses:
-                return [perhaps(event)], QUIET
-        return [event], LATE if command in self.tails else None
+                return [perhaps(event)], Doubt(QUIET, command)
+        return [event], Doubt(LATE, command) if command in self.tails else None
 
 
 def perhaps(event: Event) -> Event:

@@ -41,15 +41,15 @@ class Judge:
         self.recording = Recording(capture, shards, self.clock.look)
         self.table = self.recording.table
         self.clock.set("reading answers")
-        faults = pairing.pair(self.recording, outputs)
+        unfollowed = pairing.pair(self.recording, outputs)
         if not self.table.verb:
             raise Unknown("no command was recorded")
         self.kind = times.set_times(self.recording, kind)
         leave_out_entering(self.recording)
         self.is_closed = self.leave_out(is_chosen) if is_chosen else True
-        seeing = Seeing(self.recording)
+        seeing = Seeing(self.recording, is_chosen or (lambda _: True))
         seeing.all()
-        self.faults: list[Verdict] = faults + seeing.faults
+        self.faults: list[Verdict] = self.of_sessions(unfollowed, is_chosen or (lambda _: True)) + seeing.faults
         if is_first and self.faults:
             raise self.worst()
         self.clock.set("sorting calls by keys")
@@ -58,6 +58,13 @@ class Judge:
         self.is_numbered = shards == 1 and any(want & HAS_UNIQUE for want in self.table.want)
         self.graph: Graph | None = None
         self.order: array[int] = array("I")
+
+    def of_sessions(self, unfollowed: list[pairing.Unfollowed], is_chosen: Callable[[bytes], bool]) -> list[Verdict]:
+        """What is said of the sessions that cannot be followed, if their commands concern the keys that are chosen."""
+        for one in unfollowed:
+            if not one.concerns(self.table, is_chosen):
+                self.recording.notes["commands that cannot be followed left out"] += len(one.commands)
+        return [one.verdict for one in unfollowed if one.concerns(self.table, is_chosen)]
 
     def leave_out(self, is_chosen: Callable[[bytes], bool]) -> bool:
         """Leaves out the commands on keys that are not chosen. Gives whether no command names both kinds."""

@@ -6,12 +6,13 @@ from __future__ import annotations
 
 import re
 from array import array
-from collections.abc import Iterable
+from collections.abc import Callable, Iterable
+from typing import NamedTuple
 
 from zygos_tools.files.formats import Output
 from zygos_tools.judging.events import No, Unknown, Verdict, first_line
-from zygos_tools.judging.reading import Odd, Recording, sessions_of
-from zygos_tools.judging.table import ANSWERED, DROPPED, LOST, QUIET, V_FAULT, V_MD, V_MG, V_MS
+from zygos_tools.judging.reading import Odd, Recording, advice_on, may_concern, sessions_of
+from zygos_tools.judging.table import ANSWERED, DROPPED, LOST, QUIET, V_FAULT, V_MD, V_MG, V_MS, Table
 from zygos_tools.protocol.answers import FAULT, answer_end, is_whole
 from zygos_tools.protocol.fits import SHORT, is_answered
 from zygos_tools.protocol.meaning import Command, line_of
@@ -35,10 +36,20 @@ def several(text: bytes, at: int, most: int) -> list[bytes]:
     return found
 
 
-def pair(recording: Recording, outputs: Iterable[Output]) -> list[Verdict]:
-    """Gives each command its answer. Gives what is said of sessions that cannot be followed; of their commands nothing
-    is known."""
-    faults: list[Verdict] = []
+class Unfollowed(NamedTuple):
+    """What is said of a session that cannot be followed, and its commands of which nothing is known."""
+
+    verdict: Verdict
+    commands: list[int]
+
+    def concerns(self, table: Table, is_chosen: Callable[[bytes], bool]) -> bool:
+        """Whether one of these commands may have read or changed an item of a key that is chosen."""
+        return isinstance(self.verdict, No) or any(may_concern(table, one, is_chosen) for one in self.commands)
+
+
+def pair(recording: Recording, outputs: Iterable[Output]) -> list[Unfollowed]:
+    """Gives each command its answer. Gives the sessions that cannot be followed."""
+    faults: list[Unfollowed] = []
     texts = {(one.connection, one.session): one.text for one in outputs}
     recording.table.outputs = texts
     met = set()
@@ -47,13 +58,18 @@ def pair(recording: Recording, outputs: Iterable[Output]) -> list[Verdict]:
         try:
             pairing.pair()
         except Verdict as verdict:
-            faults.append(verdict)
-            recording.lose(asked[pairing.followed :])
+            table, left = recording.table, asked[pairing.followed :]
+            lost = [one for one in left if not table.state[one] & DROPPED]
+            if isinstance(verdict, Unknown):
+                verdict.why += advice_on(table, lost, "its keys")
+            faults.append(Unfollowed(verdict, lost))
+            recording.lose(left)
+            recording.surplus.add(key)
         recording.look_at_clock()
         met.add(key)
-    left = [key for key in texts if key not in met and texts[key]]
-    if left:
-        connection, session = min(left)
+    surplus = [key for key in texts if key not in met and texts[key]]
+    if surplus:
+        connection, session = min(surplus)
         raise Unknown(f"the replies have an output of connection {connection}, session {session}, and the capture"
                       f" hasn't; {ONE_RECORDING}")
     return faults

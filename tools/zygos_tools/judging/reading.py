@@ -15,7 +15,7 @@ from collections import Counter, defaultdict
 from collections.abc import Callable, Iterable, Iterator
 from typing import NamedTuple
 
-from zygos_tools.files.formats import MOST_KEY, MOST_VALUE, Segment, capture_head, capture_records, read_end
+from zygos_tools.files.formats import MOST_KEY, MOST_VALUE, Segment, capture_head, capture_records, read_end, shown
 from zygos_tools.files.part import Part
 from zygos_tools.judging.events import FLUSH, GET, KINDS, SET
 from zygos_tools.judging.table import (ANSWERED, DROPPED, LOST, NO_KEY, QUIET, REPLACED, V_FAULT, V_FLUSH,
@@ -46,6 +46,8 @@ WATCHING = "after a watch the server sends lines that no command asked for"
 BAD_LINE = "a line is one that the profile leaves out, and what follows it may have been read otherwise"
 LEFT_OUT = "a command on it is one that the profile leaves out"
 BAD_META = "an ms has a flag that the profile leaves out, and its block may be dropped, stored, or read as lines"
+# how many keys are named in a line
+MOST_NAMED = 8
 # the commands of operators, which touch no item
 OPERATORS = (b"stats", b"slabs", b"lru", b"lru_crawler", b"watch", b"extstore", b"cache_memlimit", b"me")
 
@@ -332,6 +334,26 @@ def keys_left_out(line: bytes) -> list[bytes]:
         with contextlib.suppress(ValueError):
             keys.append(base64.b64decode(words[1], validate=True))
     return keys
+
+
+def keys_named(table: Table, one: int) -> list[bytes]:
+    """The keys of a command, also of one that the profile leaves out."""
+    if table.verb[one] == V_FAULT:
+        return keys_left_out(line_of(table.original(one)))
+    return [table.keys[table.key[call]] for call in table.calls_of(one) if table.key[call] >= 0]
+
+
+def may_concern(table: Table, one: int, is_chosen: Callable[[bytes], bool]) -> bool:
+    """Whether a command may have read or changed an item of a key that is chosen."""
+    keys = keys_named(table, one)
+    return any(map(is_chosen, keys)) if keys else table.verb[one] == V_FAULT or table.count_of_calls(one) > 0
+
+
+def advice_on(table: Table, commands: Iterable[int], whose: str) -> str:
+    """The words that leave out the keys of commands, to be printed; nothing if they have none."""
+    keys = list(dict.fromkeys(key for one in commands for key in keys_named(table, one)))
+    some = " ".join(map(shown, keys[:MOST_NAMED])) + " .." * (len(keys) > MOST_NAMED)
+    return f"; --except-keys '{some}' leaves out {whose}" if keys else ""
 
 
 def dropped_size(command: Command, line: bytes) -> int:

@@ -67,12 +67,12 @@ def is_doubtful_number(event: Event) -> bool:
 def reason_of(keys: Keys, calls: Calls, at: int) -> Verdict:
     """What is said of calls that have no order: if they have one as far as they are surely known, that is unknown."""
     reason = Reason(keys, calls, at)
-    events, why = keys.doubts.loosened(calls.events, calls.states.loses) if keys.doubts else (calls.events, None)
-    if why is None:
+    events, doubt = keys.doubts.loosened(calls.events, calls.states.loses) if keys.doubts else (calls.events, None)
+    if doubt is None:
         return reason.verdict()
     loose = Reason(keys, replace(calls, events=events), at)
     loose.is_known = not keys.is_warm
-    return loose.verdict() if loose.is_stuck(events) else reason.unknown(why)
+    return loose.verdict() if loose.is_stuck(events) else reason.unknown(*doubt)
 
 
 class Reason:
@@ -89,9 +89,12 @@ class Reason:
         names: str = ", ".join(map(shown, self.names))
         return f"key {names}" if len(self.names) == 1 else f"keys {names}"
 
-    def unknown(self, why: str) -> Unknown:
-        """That it is not known whether there is an order."""
-        return Unknown(f"{self.what()}: {why}", connections=[event.connection for event in self.all],
+    def unknown(self, why: str, command: int | None = None) -> Unknown:
+        """That it is not known whether there is an order; because of this command, if one is given."""
+        several = "it" if len(self.names) == 1 else "them"
+        advice = "" if "--" in why else f"; --except-keys '{' '.join(map(shown, self.names))}' leaves {several} out"
+        lines = [] if command is None else [self.keys.table.asked(command).told()]
+        return Unknown(f"{self.what()}: {why}{advice}", None, lines, connections=[event.connection for event in self.all],
                        record=self.at // 2 if 0 <= self.at < FOREVER else None, keys=self.names)
 
     def no(self, why: str, lines: Sequence[str], events: Iterable[Event]) -> No:

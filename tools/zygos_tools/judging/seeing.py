@@ -6,13 +6,12 @@ one that a proxy did not pass on, or whose answer it lost, nothing is known.
 from __future__ import annotations
 
 from collections import Counter
-from collections.abc import Iterator
+from collections.abc import Callable, Iterator
 from typing import NamedTuple
 
-from zygos_tools.files.formats import shown
 from zygos_tools.judging.events import (ADD, APPEND, CAS, DECR, DELETE, GET, INCR, PREPEND, REPLACE, SET, No, Unknown,
                                         Verdict, first_line)
-from zygos_tools.judging.reading import Recording, keys_left_out
+from zygos_tools.judging.reading import MOST_NAMED, Recording, advice_on, may_concern
 from zygos_tools.judging.table import (ANSWERED, DROPPED, HAS_FLAGS, HAS_UNIQUE, HAS_VALUE, LOST, QUIET, V_DECR,
                                        V_FAULT, V_FLUSH, V_GET, V_GETS, V_INCR, V_MD, V_MN, V_MS, V_VERBOSITY,
                                        V_VERSION, VERBS, W_HIT, W_MISS, WANT_BITS, WANT_OF)
@@ -36,7 +35,6 @@ FAILED = (b"SERVER_ERROR object too large for cache", b"SERVER_ERROR out of memo
 SERVER_ERROR = b"SERVER_ERROR"
 W_FAILED = WANT_OF["failed"]
 TWICE = "a retrieval names a key twice and has one item of it: which was found is not known"
-MOST_NAMED = 8
 
 
 class Shown(NamedTuple):
@@ -54,11 +52,11 @@ class Seeing:
 
     Of a key that a retrieval names twice and has one item of, the first one is taken to have been found: such keys are
     unsure. `faults` has what is said of answers that no run gives, of each session the first. Their commands are taken
-    to have been carried out or not.
+    to have been carried out or not. `is_chosen` says which keys are judged.
     """
 
-    def __init__(self, recording: Recording):
-        self.recording, self.table = recording, recording.table
+    def __init__(self, recording: Recording, is_chosen: Callable[[bytes], bool]):
+        self.recording, self.table, self.is_chosen = recording, recording.table, is_chosen
         self.faults: list[Verdict] = []
         self.refused: set[tuple[int, int]] = set()
         self.left_out: list[int] = []
@@ -153,13 +151,16 @@ class Seeing:
         is_error = answer is not None and FAULT.match(answer)
         odd, outside = recording.odd.get(session), recording.outside.get(session)
         is_known = odd is None and outside is None and not is_error
-        if session not in self.refused:
-            self.refused.add(session)
-            why = f"{why}; {odd.why}" if odd else why
-            self.faults.append((No if is_known else Unknown)(why, table.asked(one)))
         since = min([table.number[one], *([odd.since] if odd else []), *([] if outside is None else [outside])])
         asked = recording.of_connection[session[0]]
-        recording.lose(asked[since:] if odd or outside is not None else [one])
+        lost = [other for other in asked[since:] if table.session[other] == session[1]] if odd or outside is not None else [one]
+        may_matter = is_known or is_error or any(may_concern(table, other, self.is_chosen) for other in lost)
+        if session not in self.refused and may_matter:
+            self.refused.add(session)
+            why = f"{why}; {odd.why}" if odd else why
+            advice = "" if is_known else advice_on(table, lost, "its keys")
+            self.faults.append((No if is_known else Unknown)(why + advice, table.asked(one)))
+        recording.lose(lost)
 
     def why_not(self, one: int) -> str:
         """What is said of an answer that its command cannot have."""
@@ -167,10 +168,7 @@ class Seeing:
         name, line = VERBS[table.verb[one]], first_line(answer)
         if not FAULT.match(answer):
             return f"{line or 'an empty line'} is no answer to {name}"
-        calls = table.calls_of(one)
-        keys = sorted({shown(table.keys[table.key[call]]) for call in calls if table.key[call] >= 0})
-        advice = f"; --except-keys '{' '.join(keys)}' leaves it out" if keys else ""
-        return f"{line} answers a {name} that has no error{advice}"
+        return f"{line} answers a {name} that has no error"
 
     def expect(self, one: int, verb: int) -> None:
         """The answer to a command without a call."""
@@ -199,10 +197,8 @@ class Seeing:
         """What is said of commands that the profile leaves out, with the words that leave out their keys."""
         lines = [line_of(self.table.original(one)) for one in self.left_out]
         names = Counter(name_of(line) for line in lines)
-        keys = dict.fromkeys(key for line in lines for key in keys_left_out(line))
         told = ", ".join(f"{name} ({count:,})" for name, count in names.most_common(MOST_NAMED))
-        some = " ".join(map(shown, list(keys)[:MOST_NAMED])) + " .." * (len(keys) > MOST_NAMED)
-        advice = f"; --except-keys '{some}' leaves out their keys" if keys else ""
+        advice = advice_on(self.table, self.left_out, "their keys")
         return Unknown(f"commands that the profile leaves out: {told}{advice}", self.table.asked(self.left_out[0]))
 
     def flush(self, one: int) -> None:
