@@ -5,6 +5,7 @@ use Rattle.std.specs.List.{list_any, Contains}
 use Rattle.mc_meta.specs.Meta.{is_meta_name}
 use Rattle.mc_parse.specs.Number.{is_zero}
 use Rattle.mc_parse.specs.Words.{words}
+use Rattle.zy_capture.specs.declared.record.Record.{Record}
 use Rattle.zy_capture.specs.Streams.{stream}
 use Rattle.zy_frame.specs.declared.frame_kind.FrameKind.{FrameKind}
 use Rattle.zy_frame.specs.declared.frame_kind.FrameKind.TheVariants.{Block}
@@ -39,12 +40,16 @@ key_with_exptime frame = None
 -- ---- losses
 
 -- some command of some session gives the key an exptime other than 0
-pub record HasExptime (r : Recorded) (key : List ℕ) : Type 0 where
+pub record HasExptimeIn (records : List Record) (key : List ℕ) : Type 0 where
   pub conn : ℕ
   pub session : ℕ
   pub frame : FrameKind
-  pub sent : Contains (frames_of (stream conn session r.records)) frame
+  pub sent : Contains (frames_of (stream conn session records)) frame
   pub given : key_with_exptime frame ≡ Some key
+
+-- some command of the recording gives the key an exptime other than 0
+abbrev pub HasExptime : Recorded → List ℕ → Type 0
+HasExptime r key = HasExptimeIn r.records key
 
 -- the item of the key may be lost at any time
 abbrev pub MayLoseAt : Recorded → List ℕ → Type 0
