@@ -51,7 +51,8 @@ numbers_read asked key flags count unique few fits small =
     rw (number_halves (length_stop asked) count (end_text asked unique) (stop_low asked))
     (rw (decimal_of-decimal flags (omega (arith, few))) (rw (decimal_of-decimal count fits) (rw (unique_read asked unique small) (with_read key flags count (unique_shown asked unique) few))))
 
-line_parts : (asked : Bool) (key : List ℕ) (flags unique : ℕ) (value : List ℕ)
+-- the parts of the first line of an item
+pub line_parts : (asked : Bool) (key : List ℕ) (flags unique : ℕ) (value : List ℕ)
     → item_line asked key flags unique value ≡ codes "VALUE " ++ (key ++ 32 ∷ (decimal flags ++ 32 ∷ (decimal (length value) ++ length_stop asked ∷ end_text asked unique)))
 line_parts true key flags unique value = parts_true (codes "VALUE ") key (codes " ") (decimal flags) (codes " ") (decimal (length value)) (codes " ") (decimal unique) (codes "\r\n")
   where

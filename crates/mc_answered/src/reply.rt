@@ -13,7 +13,7 @@ use crate::line::is_server_error;
 use mc_calls::{CallKind, CallReply};
 
 /// Reads the reply that a line shows.
-pub(crate) fn read_reply(line: &[u8]) -> Option<CallReply>
+pub fn read_reply(line: &[u8]) -> Option<CallReply>
     ensures value { result ≡ reply_of line.now }
 {
     if starts_digit(line) {

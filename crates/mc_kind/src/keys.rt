@@ -7,7 +7,7 @@ use memchr::memchr2;
 use zy_base::Blob;
 
 /// Checks whether no key has a space or a line feed.
-pub(crate) fn are_words(keys: &[Blob]) -> bool
+pub fn are_words(keys: &[Blob]) -> bool
     ensures value { result ≡ true → AllByRecursion IsKeyWord keys.now }
 {
     for i in 0..keys.len() {

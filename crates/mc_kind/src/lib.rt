@@ -14,4 +14,5 @@ mod text;
 pub use cutting::{Cutting, cut_session};
 pub use finding::first_answer;
 pub use first::First;
+pub use keys::are_words;
 pub use text::Text;

@@ -6,5 +6,6 @@ use Rattle.mc_shown.specs.declared.part.Part.{Part}
 
 -- what was said to each call suits what is shown of it, if something is
 abbrev pub AreSuited : List Part → List Said → Type 0
-AreSuited parts saids = (i : ℕ) (part : Part) (said : Said) → slice_get parts i ≡ Some part → slice_get saids i ≡ Some said
+AreSuited parts saids =
+    (i : ℕ) (part : Part) (said : Said) → slice_get parts i ≡ Some part → slice_get saids i ≡ Some said
     → Suits part.shown said

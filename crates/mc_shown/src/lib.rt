@@ -1,8 +1,12 @@
 //! Says what an answer's bytes show of what was said to each call of its command.
 #![tactic(auto)]
 
+mod keyed;
+mod listed;
+mod listing;
 mod part;
 mod showing;
+mod told;
 
 pub use part::Part;
 pub use showing::shown_by;

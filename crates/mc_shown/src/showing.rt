@@ -4,7 +4,10 @@ ghost use Rattle.mc_allows.specs.declared.said.Said.{Said};
 ghost use Rattle.mc_answers.specs.Answer.{IsAnswer};
 ghost use Rattle.mc_shown.specs.Parts.{AreSuited};
 
-use crate::part::Part;
+use crate::listing::listing_parts;
+use crate::part::{Part, only_part};
+use crate::told::line_shown;
+use mc_answered::reply_kind;
 use mc_parse::Command;
 use std::alloc::Global;
 use zy_base::NoMemory;
@@ -15,5 +18,22 @@ pub fn shown_by(alloc: Global, command: &Command, text: &[u8]) -> Result<Vec<Par
     ensures suits { IfOk result (λ parts. (saids : List Said) → IsAnswer command.now saids text.now
         → AreSuited parts.items saids) }
 {
-    Ok(Vec::new(alloc))
+    match command {
+        Command::Get { keys, unique } => listing_parts(alloc, keys.items(), *unique, text),
+        _ => reply_parts(alloc, command, text),
+    }
+}
+
+// Returns what the answer of a command that is no retrieval shows.
+fn reply_parts(alloc: Global, command: &Command, text: &[u8]) -> Result<Vec<Part>, NoMemory>
+    ensures suits { IfOk result (λ parts. (saids : List Said) → IsAnswer command.now saids text.now
+        → AreSuited parts.items saids) }
+{
+    if command.is_quiet() {
+        return Ok(Vec::new(alloc));
+    }
+    match reply_kind(command) {
+        Some(_) => only_part(alloc, Part::new(line_shown(text))),
+        None => Ok(Vec::new(alloc)),
+    }
 }

@@ -1,0 +1,4 @@
+pub mod ItemLemmas
+pub mod ReadLemmas
+pub mod GotLemmas
+pub mod ToldLemmas
