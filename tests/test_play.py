@@ -14,9 +14,10 @@ from zygos_tools.files import spool
 from zygos_tools.files.formats import capture, close, pieces, read_replies, replies, segment, sessions
 from zygos_tools.files.growing import Growing
 from zygos_tools.files.part import Part
-from zygos_tools.protocol.pace import Pace
-
-
+from zygos_tools.judging.reading import Recording
+from zygos_tools.protocol.meaning import Framer, framed
+from zygos_tools.protocol.pace import Answers, Commands, Pace
+from zygos_tools.recording.counting import Count
 
 # a wait for answers that a loaded machine does not end
 WAITS = "--wait", "3600"
@@ -406,16 +407,51 @@ def error_lines():
     for sent, heard in ((b"foo\r\nmg a v\r\nget a\r\n", (b"ERROR\r\n", b"EN\r\n", b"END\r\n")),
                         (b"get a\r\nmg\r\nmg a v\r\n", (b"END\r\n", b"CLIENT_ERROR bad\r\n", b"EN\r\n")),
                         (b"me a\r\nget a\r\nme a\r\n", (b"EN\r\n", b"END\r\n", b"ME a exp=-1 la=0\r\n"))):
-        pace = Pace()
-        pace.sent(sent)
-        owed = [pace.owed]
-        for text in heard:
-            pace.heard(text)
-            owed.append(pace.owed)
-        same("the commands that wait", [3, 2, 1, 0], owed)
+        for pace in (Pace(), Count()):
+            pace.sent(sent)
+            owed = [pace.owed]
+            for text in heard:
+                pace.heard(text)
+                owed.append(pace.owed)
+            same("the commands that wait", [3, 2, 1, 0], owed)
 
 
-Tests = cases(words, error_lines, joined, orders, in_order, later_sessions, many, large, quiet, tabs, uniques,
+# commands and answers of each form, whole and as a connection's end leaves them
+STREAMS = (b"get a\r\nset a 0 0 5\r\nhello\r\nset a 0 0 2\nxx\r\nms a 3 T0\r\nabc\r\n\r\n get b\r\nms a 2 ?\r\nxy\r\nget c\r\nquit\r\nget d\r\n",
+           b"cas a 0 0 1 5\r\nx\r\nset a 0 0 0\r\n\r\nset b 0 0 9 noreply\r\n123", b"gets a b\r\nfoo\r\nincr a 1\r\nge")
+TOLD = b"END\r\nVALUE a 0 5 7\r\nhello\r\nVALUE b 0 0\r\n\r\nEND\r\nVA 3 c5\r\nabc\r\nSTAT a b\r\nEND\r\n7\r\nITEM a [1 b; 0 s]\r\nEND\r\nHD c"
+
+
+def streams_in_pieces():
+    """However a stream comes in pieces, its frames and its answers are the same, for all who cut it."""
+    draw = random.Random(1)
+    for turn in range(300):
+        stream = STREAMS[turn % 3] if turn % 4 else TOLD
+        some, at = [], 0
+        while at < len(stream):
+            some.append(stream[at : at + draw.choice((1, 2, 3, 5, 20))])
+            at += len(some[-1])
+        if stream is TOLD:
+            same("the answers", ends_of(Answers(), [stream]), ends_of(Answers(), some))
+            continue
+        same("the commands", ends_of(Commands(), [stream]), ends_of(Commands(), some))
+        framer = Framer()
+        same("the frames", list(framed(stream)), [frame for piece in some for frame in framer.feed(piece)])
+        whole, cut = (Recording(capture(1, [segment(0, text) for text in texts])).table for texts in ([stream], some))
+        same("what the judge reads", [whole.original(one) for one in range(len(whole.verb))],
+             [cut.original(one) for one in range(len(cut.verb))])
+
+
+def ends_of(cutter, pieces):
+    """Where the commands or the answers of a stream end, each with its first word."""
+    found, begin = [], 0
+    for piece in pieces:
+        found += [(one[0], begin + one.end) for one in cutter.feed(piece)]
+        begin += len(piece)
+    return found
+
+
+Tests = cases(words, error_lines, streams_in_pieces, joined, orders, in_order, later_sessions, many, large, quiet, tabs, uniques,
               uniques_of_others, held_back, interrupted, faulty_servers, other_sockets, closed_pipe,
               uniques_of_memcached, against_memcached, has_folder=True)
 

@@ -20,6 +20,7 @@ from zygos_tools.files.part import Part
 from zygos_tools.judging.events import FLUSH, GET, KINDS, SET
 from zygos_tools.judging.table import (ANSWERED, DROPPED, LOST, NO_KEY, QUIET, REPLACED, V_FAULT, V_FLUSH,
                                        V_STATS, VERB_OF, Table)
+from zygos_tools.protocol.cutting import NOT_YET, OVER, Cutter
 from zygos_tools.protocol.meaning import (KEY, STORAGE, TOO_LARGE, Command, command_in, framed, line_of, stored,
                                           words_of)
 from zygos_tools.protocol.table import does, keys_of, kind_of
@@ -59,18 +60,6 @@ class Odd(NamedTuple):
     since: int
 
 
-class Stream:
-    """What is left of the bytes of a session, and how many bytes the frame has that begins with it, if that is known.
-    """
-
-    __slots__ = ("pieces", "size", "least", "has_quit")
-
-    def __init__(self) -> None:
-        self.pieces: list[bytes] = []
-        self.size = self.least = 0
-        self.has_quit = False
-
-
 class Recording:
     """What clients asked; `notes` counts what is left out or read as something else.
 
@@ -94,6 +83,9 @@ class Recording:
         self.tails: set[int] = set()
         self.surplus: set[tuple[int, int]] = set()
         self.unsure: dict[bytes, str] = {}
+        # what was read last: a usual line, or the command of another one and where its line ends
+        self.usual: re.Match[bytes] | None = None
+        self.command, self.line = Command(""), 0
         part = Part("capture", capture)
         self.version, self.count = capture_head(part)
         self.begin = part.at
@@ -106,7 +98,7 @@ class Recording:
 
     def read(self, part: Part) -> None:
         """Cuts the streams into commands."""
-        streams: dict[int, Stream] = {}
+        streams: dict[int, Cutter] = {}
         for place, record in enumerate(capture_records(part, self.version, self.count)):
             connection = record.connection
             if not place & LOOKS:
@@ -121,7 +113,7 @@ class Recording:
                 continue
             stream = streams.get(connection)
             if stream is None:
-                stream = streams[connection] = Stream()
+                stream = streams[connection] = Cutter()
                 if text[0] in (0x80, 0x16):
                     self.be_odd(connection, BINARY)
             if not stream.size:
@@ -130,7 +122,7 @@ class Recording:
         for connection, stream in streams.items():
             self.end(connection, stream)
 
-    def end(self, connection: int, stream: Stream | None) -> None:
+    def end(self, connection: int, stream: Cutter | None) -> None:
         """A session has ended."""
         if stream and stream.least > MOST_BLOCK:
             self.be_odd(connection, LONG_BLOCK)
@@ -159,73 +151,54 @@ class Recording:
             for call in table.calls_of(command):
                 table.want[call] = 0
 
-    def take(self, stream: Stream, connection: int, text: bytes, place: int, begin: int) -> None:
+    def take(self, stream: Cutter, connection: int, piece: bytes, place: int, begin: int) -> None:
         """The commands that end in a further piece of a session, which is at this place of the capture."""
-        before = stream.size
-        if before or stream.has_quit:
-            stream.pieces.append(text)
-            stream.size += len(text)
-            if stream.has_quit or stream.size < stream.least or not stream.least and b"\n" not in text:
-                return
-            text = b"".join(stream.pieces)
-        at, stream.least, place = 0, 0, place - before
-        usual, size = USUAL.match, len(text)
-        while at < size:
-            found = usual(text, at)
-            end = self.take_usual(found, text, connection, begin, place, before) if found else 0
-            if not end:
-                end = self.take_other(stream, connection, text, at, begin, place, before)
-                if not end:
-                    break
-            at = end
-        stream.pieces, stream.size = [text[at:]] if at < size else [], size - at
+        for text, at, end in stream.frames(piece, self.end_of):
+            before = len(text) - len(piece)
+            frame_at = place + at - before if at >= before else self.table.put(text[at:end])
+            if self.usual:
+                self.add_usual(self.usual, connection, begin, frame_at, end - at)
+            else:
+                command = self.command if "bytes" not in self.command.numbers else stored(self.command, text[self.line : end])
+                self.add(connection, command, text[at:end], self.line - at, begin, frame_at)
 
-    def take_usual(self, found: re.Match[bytes], text: bytes, connection: int, begin: int, place: int,
-                   before: int) -> int:
-        """A command of a usual line. Gives its end; 0 where it is not usual after all, or not whole."""
+    def end_of(self, text: bytes, at: int) -> int:
+        """Where the frame ends that begins at a place; `usual` has what was found of a usual one, and for another one
+        `command` has the command of its line, and `line` where that ends."""
+        self.usual = found = USUAL.match(text, at)
+        if found is not None:
+            length, end = found[7], found.end()
+            if length is None:
+                return end
+            end += int(length) + 2
+            if end <= len(text) and int(length) <= MOST_VALUE and text[end - 2 : end] == b"\r\n":
+                return end
+            self.usual = None
+        self.line = text.find(b"\n", at) + 1
+        if not self.line:
+            return NOT_YET
+        self.command = command_in(text[at : self.line])
+        if self.command.verb == "quit":
+            return OVER
+        size = self.command.numbers.get("bytes", dropped_size(self.command, text[at : self.line]))
+        return self.line + size + 2 if size >= 0 else self.line
+
+    def add_usual(self, found: re.Match[bytes], connection: int, begin: int, frame_at: int, size: int) -> None:
+        """A command of a usual line, with its place and size in the capture."""
         getting, keys, storing, key, flags, _, length, noreply = found.groups()
-        at, end, table = found.start(), found.end(), self.table
-        if not getting:
-            line_end, count = end, int(length)
-            end += count + 2
-            if end > len(text) or count > MOST_VALUE or text[end - 2 : end] != b"\r\n":
-                return 0
-        frame_at = place + at if at >= before else table.put(text[at:end])
-        asked, session = self.of_connection[connection], self.sessions[connection]
+        table, asked, session = self.table, self.of_connection[connection], self.sessions[connection]
         if getting:
-            verb = VERB_OF[getting.decode()]
-            command = table.add(connection, session, len(asked), verb, 0, begin, frame_at, end - at)
+            command = table.add(connection, session, len(asked), VERB_OF[getting.decode()], 0, begin, frame_at, size)
             number_of, add = table.number_of, table.add_call
             for name in keys.split(b" "):
                 add(command, GET, number_of(name))
         else:
             verb, kind = STORING[storing]
-            command = table.add(connection, session, len(asked), verb, 1 if noreply else 0, begin, frame_at, end - at)
-            value_at = frame_at + line_end - at if frame_at >= 0 else frame_at - (line_end - at)
-            table.add_call(command, kind, table.number_of(key), 0, int(flags), value_at, count)
+            command = table.add(connection, session, len(asked), verb, 1 if noreply else 0, begin, frame_at, size)
+            line = found.end() - found.start()
+            value_at = frame_at + line if frame_at >= 0 else frame_at - line
+            table.add_call(command, kind, table.number_of(key), 0, int(flags), value_at, int(length))
         asked.append(command)
-        return end
-
-    def take_other(self, stream: Stream, connection: int, text: bytes, at: int, begin: int, place: int,
-                   before: int) -> int:
-        """Any command. Gives its end; 0 where it is not whole, or is `quit`."""
-        line_end = text.find(b"\n", at) + 1
-        if not line_end:
-            return 0
-        command, end = command_in(text[at:line_end]), line_end
-        size = command.numbers.get("bytes", dropped_size(command, text[at:line_end]))
-        if size >= 0:
-            end += size + 2
-            if end > len(text):
-                stream.least = end - at
-                return 0
-            command = stored(command, text[line_end:end]) if "bytes" in command.numbers else command
-        if command.verb == "quit":
-            stream.has_quit = True
-            return 0
-        frame_at = place + at if at >= before else self.table.put(text[at:end])
-        self.add(connection, command, text[at:end], line_end - at, begin, frame_at)
-        return end
 
     # ---- commands that are not usual
 

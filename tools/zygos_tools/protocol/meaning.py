@@ -10,6 +10,7 @@ from collections.abc import Callable, Iterator, Sequence
 from typing import Any, NamedTuple
 
 from zygos_tools.files.formats import MOST_KEY, MOST_VALUE
+from zygos_tools.protocol.cutting import NOT_YET, OVER, Cutter
 
 MOST_LINE = 65536
 STORAGE = ["set", "add", "replace", "append", "prepend"]
@@ -184,33 +185,34 @@ def stored(command: Command, block: bytes) -> Command:
 # ---- frames
 
 
-class Framer:
+class Framer(Cutter):
     """Cuts a stream that comes in pieces into frames, up to a line `quit`."""
 
     def __init__(self) -> None:
-        # what is left of the pieces so far, and how many bytes the frame has that begins with it, where that is known
-        self.pieces: list[bytes] = []
-        self.size, self.least, self.has_quit = 0, 0, False
+        super().__init__()
+        # the command of the last line that was read, and where that line ends
+        self.command, self.line = Command(""), 0
+
+    @property
+    def has_quit(self) -> bool:
+        """Whether the line `quit` has come."""
+        return self.is_over
 
     def feed(self, piece: bytes) -> Iterator[Frame]:
         """The frames that end in a further piece, each after its command. They are all taken before the next piece."""
-        self.pieces.append(piece)
-        self.size += len(piece)
-        if self.has_quit or self.size < self.least or not self.least and b"\n" not in piece:
-            return
-        text, at, self.least = b"".join(self.pieces), 0, 0
-        while end := text.find(b"\n", at) + 1:
-            command = command_in(text[at:end])
-            after = end + command.numbers["bytes"] + 2 if "bytes" in command.numbers else end
-            if after > len(text):
-                self.least = after - at
-                break
-            if command.verb == "quit":
-                self.has_quit = True
-                break
-            yield (command if after == end else stored(command, text[end:after])), text[at:after]
-            at = after
-        self.pieces, self.size = [text[at:]], len(text) - at
+        for text, at, end in self.frames(piece, self.end_of):
+            command = self.command if self.line == end else stored(self.command, text[self.line : end])
+            yield command, text[at:end]
+
+    def end_of(self, text: bytes, at: int) -> int:
+        """Where the frame ends that begins at a place."""
+        self.line = text.find(b"\n", at) + 1
+        if not self.line:
+            return NOT_YET
+        self.command = command_in(text[at : self.line])
+        if self.command.verb == "quit":
+            return OVER
+        return self.line + self.command.numbers["bytes"] + 2 if "bytes" in self.command.numbers else self.line
 
 
 def framed(stream: bytes) -> Iterator[Frame]:

@@ -9,6 +9,7 @@ from collections import deque
 from collections.abc import Iterator
 from typing import Generic, NamedTuple, Protocol, TypeVar
 
+from zygos_tools.protocol.cutting import NOT_YET, Cutter
 from zygos_tools.protocol.table import BY_WORD, ERRORS, META_CODES, NO_KIND
 
 # the commands whose flag `q` hides answers, with these
@@ -24,8 +25,8 @@ ODD = {0x80: "the binary protocol", 0x16: "TLS"}
 LONG, KEY = (b"VALUE", b"STAT", b"ITEM", b"PREFIX", b"mg"), b"key="
 # the first words of lines that name a key or may show a unique, and how many words they have where they do neither
 ITEMS = {b"VALUE": 1, b"VA": 2, b"HD": 1}
-# what is kept of a line, in bytes
-MOST_LINE = 1 << 16
+# which word of a line is the length of its block
+SIZES = {b"VALUE": 3, b"VA": 1}
 
 ALWAYS, PERHAPS, NEVER = "always", "perhaps", "never"
 
@@ -84,91 +85,66 @@ def can_answer(word: bytes, verb: bytes) -> bool:
     return word in CODES and word not in HIDDEN[verb]
 
 
-class Lines:
-    """Cuts pieces into lines and blocks; `block` bytes of a block are left."""
-
-    def __init__(self) -> None:
-        self.begun, self.block = b"", 0
-
-    def cut(self, text: bytes) -> Iterator[tuple[int, bytes | None]]:
-        """The lines that end in these bytes, each after the place of its end, and the places where blocks end."""
-        at = 0
-        while at < len(text):
-            if self.block:
-                step = min(self.block, len(text) - at)
-                self.block, at = self.block - step, at + step
-                if not self.block:
-                    yield at, None
-                continue
-            stop = text.find(b"\n", at)
-            if stop < 0:
-                self.begun = (self.begun + text[at:])[:MOST_LINE]
-                return
-            line, self.begun, at = self.begun + text[at:stop], b"", stop + 1
-            yield at, line
-
-
-class Commands(Lines):
+class Commands(Cutter):
     """Cuts what a client sends into commands, up to a `quit`."""
 
     def __init__(self) -> None:
-        super().__init__()
+        super().__init__(keeps=False)
         self.waiting: tuple[bytes, str, list[bytes]] = b"", NEVER, []
         self.has_quit = False
         # the lines of the last bytes that may name a unique, each after the place of its end
         self.naming: list[tuple[int, bytes]] = []
+        self.length = 0
 
     def feed(self, text: bytes) -> Iterator[Command]:
         """The commands that end in these further bytes; a `quit` is the last one."""
-        self.naming = []
-        if self.has_quit:
-            return
-        for end, line in self.cut(text):
-            if line is None:
-                yield Command(*self.waiting, end)
-                continue
-            words = words_of(line)
-            verb, answered, size = command_of(words)
-            if verb in NAMING:
-                self.naming.append((end, line))
-            if size is not None:
-                self.waiting, self.block = (verb, answered, words), size + 2
-                continue
-            self.has_quit = verb == b"quit"
-            yield Command(verb, NEVER if self.has_quit else answered, words, end)
-            if self.has_quit:
-                return
+        self.naming, self.length = [], len(text)
+        for whole, _, end in self.frames(text, self.end_of):
+            verb, answered, words = self.waiting
+            self.has_quit = self.is_over = verb == b"quit"
+            yield Command(verb, NEVER if self.has_quit else answered, words, end - len(whole) + len(text))
+
+    def end_of(self, text: bytes, at: int) -> int:
+        """Where the command ends that begins at a place."""
+        stop = text.find(b"\n", at)
+        if stop < 0:
+            return NOT_YET
+        line = text[at:stop]
+        words = words_of(line)
+        verb, answered, size = command_of(words)
+        if verb in NAMING:
+            self.naming.append((stop + 1 - len(text) + self.length, line))
+        self.waiting = verb, answered, words
+        return stop + 1 if size is None else stop + size + 3
 
 
-class Answers(Lines):
+class Answers(Cutter):
     """Cuts what a server sends into answers."""
 
     def __init__(self) -> None:
-        super().__init__()
-        # the answer that ends with the current block, and what it has so far
-        self.word: bytes | None = None
+        super().__init__(keeps=False)
+        # the first word of the last line, and what the answer has so far that this line is of
+        self.word = b""
         self.items: list[list[bytes]] = []
 
     def feed(self, text: bytes) -> Iterator[Answer]:
         """The answers that end in these further bytes."""
-        for end, line in self.cut(text):
-            if line is None:
-                if self.word:
-                    yield self.answer(self.word, end)
-                continue
-            words = words_of(line)
-            word = words[0] if words else b""
-            if word in ITEMS and len(words) > ITEMS[word]:
-                self.items.append(words)
-            size = number(words, {b"VALUE": 3, b"VA": 1}[word]) if word in (b"VALUE", b"VA") else None
-            if size is not None:
-                self.block, self.word = size + 2, word if word == b"VA" else None
-            elif word not in LONG and not word.startswith(KEY):
-                yield self.answer(word, end)
+        for whole, _, end in self.frames(text, self.end_of):
+            if self.word not in LONG and not self.word.startswith(KEY):
+                items, self.items = self.items, []
+                yield Answer(self.word, items, end - len(whole) + len(text))
 
-    def answer(self, word: bytes, end: int) -> Answer:
-        items, self.word, self.items = self.items, None, []
-        return Answer(word, items, end)
+    def end_of(self, text: bytes, at: int) -> int:
+        """Where the line ends that begins at a place, with its block."""
+        stop = text.find(b"\n", at)
+        if stop < 0:
+            return NOT_YET
+        words = words_of(text[at:stop])
+        word = self.word = words[0] if words else b""
+        if word in ITEMS and len(words) > ITEMS[word]:
+            self.items.append(words)
+        size = number(words, SIZES[word]) if word in SIZES else None
+        return stop + 1 if size is None else stop + size + 3
 
 
 class Pending(Generic[Sent]):

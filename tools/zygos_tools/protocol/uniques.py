@@ -11,7 +11,8 @@ import re
 from collections.abc import Iterable, Iterator
 from typing import Protocol
 
-from zygos_tools.protocol.pace import MOST_LINE, NAMING, Answer, Answers, Command, Commands, Pending, words_of
+from zygos_tools.protocol.cutting import MOST_LINE
+from zygos_tools.protocol.pace import NAMING, Answer, Answers, Command, Commands, Pending, words_of
 from zygos_tools.protocol.table import BY_WORD, NO_KIND
 
 LINE_END = re.compile(rb"\r?\n")

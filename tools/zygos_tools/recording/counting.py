@@ -6,7 +6,7 @@ from __future__ import annotations
 
 import re
 
-from zygos_tools.protocol.pace import ALWAYS, HIDDEN, NEVER, ODD, PERHAPS, Answer, Pace
+from zygos_tools.protocol.pace import ALWAYS, META, NEVER, ODD, PERHAPS, Answer, Pace
 from zygos_tools.protocol.table import ERRORS
 
 # a usual command with its line feed, but without its block. Its groups are the block's length and `noreply`; the length
@@ -87,7 +87,7 @@ class Count(Pace):
             self.nuls += may_have_nul and any(b"\0" in word for word in words)
             if verb != b"quit":
                 count += 1
-                self.note(answered, verb in HIDDEN)
+                self.note(answered, verb in META)
         return count
 
     def note(self, answered: str, is_meta: bool) -> None:
