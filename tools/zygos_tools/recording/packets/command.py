@@ -38,6 +38,7 @@ from zygos_tools.files.outputs import Beside, refuse_full, told_apart
 from zygos_tools.files.part import Fault
 from zygos_tools.protocol import pace
 from zygos_tools.recording.packets import recorded
+from zygos_tools.recording.packets.quick import Quick, reversed_flow
 from zygos_tools.recording.packets.recorded import Flows, PacketFault, number_at
 from zygos_tools.recording.packets.report import Report, answered, refusal
 from zygos_tools.recording.packets.resuming import COMMAND, Resuming
@@ -55,19 +56,52 @@ class Reading:
         self.first, self.refused = None, 0  # the first fault, after how many records, and how many frames are refused
         self.early = self.answering = 0  # bytes of the server before a flow's first request, and its packets
         self.ports, self.asking = Counter(), Counter()
+        self.quick = Quick() if self.with_answers else None
+        # in windows: from when on the current one may end, connections that wait for an answer, and those with new bytes
+        self.due_at, self.pending, self.touched, self.lines_sent = None, set(), set(), 0
 
     def read(self, text):
+        """Reads a file."""
         try:
-            for record in recorded.records(text):
-                self.number += 1
-                try:
-                    self.take(record)
-                except PacketFault as fault:
-                    self.first = self.first or (fault, self.number)
-                    self.refused += 1
+            head, end = recorded.head_of(recorded.byte_order(text)), min(len(text), recorded.MOST_FILE)
+            recorded.check_end(text, self.read_records(text, 24, end, head))
         except PacketFault as fault:
             self.first = self.first or (fault, self.number + 1)
         self.flows.settle()
+
+    def read_records(self, text, at, end, head, base=0):
+        """Reads the records from a place on, up to one that is not whole. Gives its place."""
+        while at < end:
+            at = self.quick.take(self, text, at, end, head) if self.quick else at
+            found = recorded.record_at(text, at, end, head, base) if at < end else None
+            if not found:
+                break
+            record, at = found
+            self.number += 1
+            try:
+                self.take_any(record)
+            except PacketFault as fault:
+                self.first = self.first or (fault, self.number)
+                self.refused += 1
+        return at
+
+    def take_any(self, record):
+        """Takes a packet that is not usual, after which its flow may be."""
+        flow = self.flow_of(record.frame) if self.quick else None
+        if flow:
+            self.quick.forget(flow)
+        self.take(record)
+        if flow in self.flows.numbers:
+            self.quick.renew(flow, self.flows)
+
+    def flow_of(self, frame):
+        """The flow of a frame, if it is to the port or of it."""
+        begin = 14 + frame[14] % 16 * 4 if len(frame) > 34 else 0
+        ports = frame[begin : begin + 4]
+        flow = frame[26:34] + ports
+        if len(ports) == 4 and number_at(ports, 2) == self.port:
+            return flow
+        return reversed_flow(flow) if len(ports) == 4 and number_at(ports, 0) == self.port else None
 
     def take(self, record):
         packet = recorded.judge(record.frame, record.at, self.port)
@@ -109,7 +143,7 @@ class Reading:
 
     def answer(self, packet, record):
         """A packet of the server."""
-        flow = packet.flow[4:8] + packet.flow[:4] + packet.flow[10:12] + packet.flow[8:10]
+        flow = reversed_flow(packet.flow)
         session = self.flows.current(flow)
         if session:
             session.is_expected(packet.expected)

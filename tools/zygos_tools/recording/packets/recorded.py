@@ -13,7 +13,7 @@ from zygos_tools.files.formats import END, capture, capture_start, close, output
 
 MOST_FILE = (1 << 32) - 1
 MOST_FRAME, GROUPS, MOST_OF_GROUP = 262144, 128, 32
-ETHERNET, IPV4, IPV6, VLAN, TCP = 1, b"\x08\x00", b"\x86\xdd", b"\x81\x00", 6
+ETHERNET, ETHERNET_IPV4, IPV4, IPV6, VLAN, TCP = 1, 0x800, b"\x08\x00", b"\x86\xdd", b"\x81\x00", 6
 # numbers of TCP are counted modulo NUMBERS; offsets from BEFORE on lie before a session
 NUMBERS, BEFORE, MOST_STREAM = 1 << 32, 1 << 31, 1 << 30
 
@@ -61,24 +61,42 @@ def byte_order(text):
     return order
 
 
+def head_of(order):
+    """The numbers before each frame of a file, in this order of their bytes."""
+    return struct.Struct(order + "IIII")
+
+
+def record_at(text, at, end, head, base=0):
+    """The record at a place, if it is whole before `end`, and the place after it: its own place, which counts from
+    `base` on, the time in microseconds and the frame."""
+    size = 0
+    if end >= at + 16:
+        seconds, micros, size, _ = head.unpack_from(text, at)
+    elif end >= at + 12:
+        size = struct.unpack_from(head.format[:1] + "I", text, at + 8)[0]
+    if size > MOST_FRAME:
+        raise PacketFault(RECORD_LENGTH, base + at)
+    stop = at + 16 + size
+    if end < stop:
+        return None
+    return Record(base + at, seconds * 1000000 + micros, text[at + 16 : stop]), stop
+
+
 def records(text):
-    """The records of a file: the place, the time in microseconds and the frame of each."""
-    head = struct.Struct(byte_order(text) + "III")
-    at, end = 24, min(len(text), MOST_FILE)
-    while at < end:
-        size = 0
-        if end >= at + 12:
-            seconds, micros, size = head.unpack_from(text, at)
-            if size > MOST_FRAME:
-                raise PacketFault(RECORD_LENGTH, at)
-        if end < at + 16 + size:
-            break
-        yield Record(at, seconds * 1000000 + micros, text[at + 16 : at + 16 + size])
-        at += 16 + size
+    """The records of a file."""
+    head, at, end = head_of(byte_order(text)), 24, min(len(text), MOST_FILE)
+    while at < end and (found := record_at(text, at, end, head)):
+        yield found[0]
+        at = found[1]
+    check_end(text, at)
+
+
+def check_end(text, at):
+    """Refuses a file that goes on after its last whole record, which ends at a place."""
     if len(text) > MOST_FILE:
         raise PacketFault(TOO_LONG)
-    if at < end:
-        raise PacketFault(TRUNCATED, end)
+    if at < len(text):
+        raise PacketFault(TRUNCATED, len(text))
 
 
 def number_at(frame, at):

@@ -1,0 +1,101 @@
+"""The usual packets of flows, taken quickly: the next bytes of a request or of an answer, and what is only acknowledged.
+
+`Quick` has the two sides of each flow in which nothing is missing. A packet that is not the next one of its side, or
+that acknowledges bytes which were not recorded, is left to the caller, and so is every packet with SYN, FIN or RST.
+"""
+from __future__ import annotations
+
+import struct
+
+from zygos_tools.recording.packets.recorded import BEFORE, ETHERNET_IPV4, MOST_FRAME, MOST_STREAM, NUMBERS, TCP, Arrival
+
+# of a frame, from its type on: that of Ethernet, version and length of the IP header, total length, fragment, protocol,
+# addresses and ports, both numbers, the length of the TCP header, and flags
+FRAME = struct.Struct(">12xHBxHxxHxBxx12sIIBB")
+LEAST, MASK = 54, NUMBERS - 1
+
+
+class Side:
+    """One direction of a session: its bytes, and the number of the next one."""
+
+    def __init__(self, session, text, base, arrival):
+        self.session, self.text, self.next = session, text, (base + len(text)) % NUMBERS
+        self.number, self.last, self.is_answer = arrival
+        self.most = 1 << 62 if self.is_answer else MOST_STREAM
+        self.other = None
+
+
+def reversed_flow(flow):
+    """How the packets of a server name a flow."""
+    return flow[4:8] + flow[:4] + flow[10:12] + flow[8:10]
+
+
+class Quick:
+    """The sides of flows, by addresses and ports as their packets have them."""
+
+    def __init__(self):
+        self.sides = {}
+
+    def forget(self, flow):
+        self.sides.pop(flow, None)
+        self.sides.pop(reversed_flow(flow), None)
+
+    def renew(self, flow, flows):
+        """Adds both sides of a flow, if nothing is missing in its session."""
+        self.forget(flow)
+        session = flows.current(flow)
+        answers = session.answers if session else None
+        if answers is None or len(session.requests.begins) > 1 or len(answers.begins) > 1:
+            return
+        number = flows.numbers[flow]
+        last = len(flows.sessions[number]) - 1
+        asked = Side(session, session.requests.texts[0], session.requests.base, (number, last, False))
+        told = Side(session, answers.texts[0], answers.base, (number, last, True))
+        asked.other, told.other = told, asked
+        self.sides[flow], self.sides[reversed_flow(flow)] = asked, told
+
+    def take(self, reading, text, at, end, record):
+        """Takes records from a place on, up to one that is not usual or not whole. Gives its place."""
+        sides, arrivals, pending, new = self.sides, reading.arrivals, reading.pending, tuple.__new__
+        with_ends, unpack, head, count = reading.with_ends, FRAME.unpack_from, record.unpack_from, 0
+        due, touched, lines = reading.due_at, reading.touched, 0
+        while at + 16 + LEAST <= end:
+            seconds, micros, size, _ = head(text, at)
+            stop = at + 16 + size
+            if size < LEAST or size > MOST_FRAME or stop > end:
+                break
+            kind, first, total, fragment, protocol, key, sequence, expected, offset, flags = unpack(text, at + 16)
+            one = sides.get(key)
+            if one is None or sequence != one.next or flags & 7 or (one.other.next - expected & MASK) >= BEFORE:
+                break
+            if kind != ETHERNET_IPV4 or first != 69 or protocol != TCP or fragment & 0x3FFF:
+                break
+            begin, finish = at + 50 + (offset >> 4) * 4, at + 30 + total
+            if begin < finish:
+                if offset < 80 or finish > stop or len(one.text) + finish - begin > one.most:
+                    break
+                payload = text[begin:finish]
+                one.text += payload
+                one.next = sequence + finish - begin & MASK
+                number, is_answer = one.number, one.is_answer
+                one.session.is_answered = is_answer
+                time = seconds * 1000000 + micros
+                if with_ends or not is_answer:
+                    arrivals.append(new(Arrival, (time, number, one.last, is_answer, len(one.text))))
+                if due is not None:
+                    touched.add(number)
+                    if is_answer:
+                        if payload[-1] == 10:
+                            pending.discard(number)
+                            if not pending and reading.is_due(time, lines):
+                                at, count = stop, count + 1
+                                break
+                    else:
+                        pending.add(number)
+                        lines += payload.count(b"\n")
+            elif begin > finish or offset < 80:
+                break
+            at, count = stop, count + 1
+        reading.number += count
+        reading.lines_sent += lines
+        return at
