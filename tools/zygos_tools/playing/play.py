@@ -27,7 +27,8 @@ At the end standard error has the number of answered commands, and how long answ
 own time included. The status is 1 if a connection failed, an answer was missing, or a signal ended it, as Ctrl-C does;
 what came back is written all the same.
 """
-import array
+from __future__ import annotations
+
 import os
 import re
 import shutil
@@ -36,6 +37,9 @@ import stat
 import sys
 import tempfile
 import time
+from array import array
+from collections.abc import Callable, Iterator
+from typing import IO, Any
 
 from zygos_tools.cli import ends
 from zygos_tools.cli.screen import Screen, hold_first
@@ -54,7 +58,7 @@ from zygos_tools.recording.targets import more_files
 SHARES = (0.5, 0.9, 0.99, 0.999)
 
 
-def opened(name):
+def opened(name: str) -> IO[bytes]:
     """A capture that can be read at any place: a file, or what comes from a pipe."""
     if name == "-" and sys.stdin is None:
         ends.stop("standard input is closed")
@@ -71,29 +75,29 @@ def opened(name):
 class Streams:
     """Where the segments of each connection are in a capture, and its close records."""
 
-    def __init__(self, file, name):
+    def __init__(self, file: int, name: str) -> None:
         self.file, part = file, reading(file, inputs.name_of(name))
         self.version, self.count = capture_head(part)
-        self.places = [array.array("Q") for _ in range(self.count)]
+        self.places = [array("Q") for _ in range(self.count)]
         for record in capture_records(part, self.version, self.count):
-            is_segment = isinstance(record, Segment)
-            length = len(record.text) if is_segment else 0
-            self.places[record.connection].append((part.place - length) << 16 | length if is_segment else 0)
+            length = len(record.text) if isinstance(record, Segment) else 0
+            place = (part.place - length) << 16 | length if isinstance(record, Segment) else 0
+            self.places[record.connection].append(place)
         if part.want(1) or part.at < len(part.text):
             raise part.fault(f"trailing at {part.place}")
 
-    def steps(self, connection):
+    def steps(self, connection: int) -> Iterator[Step]:
         """What a connection does."""
         for one in self.places[connection]:
             yield Step(connection, os.pread(self.file, one & 0xFFFF, one >> 16) if one else None, not one)
         yield Step(connection, None, False)
 
-    def steps_in_order(self):
+    def steps_in_order(self) -> Iterator[Step]:
         """What all connections do, in the order of the capture; each ends after its last record."""
         left, part = [len(places) for places in self.places], reading(self.file)
         for record in capture_records(part, *capture_head(part)):
-            number, is_segment = record.connection, isinstance(record, Segment)
-            yield Step(number, record.text if is_segment else None, not is_segment)
+            number, text = record.connection, record.text if isinstance(record, Segment) else None
+            yield Step(number, text, text is None)
             left[number] -= 1
             if not left[number]:
                 yield Step(number, None, False)
@@ -102,31 +106,32 @@ class Streams:
 class Outputs:
     """Where the output of each session is in a replies file."""
 
-    def __init__(self, file, name):
-        self.file, self.places = file, {}
+    def __init__(self, file: IO[bytes], name: str) -> None:
+        self.file = file
+        self.places: dict[tuple[int, int], tuple[int, int]] = {}
         part = reading(file.fileno(), inputs.name_of(name), kind="replies")
         for connection, session, length in replies_heads(part, replies_version(part)):
             self.places[connection, session] = part.place, length
         self.count = 1 + max((connection for connection, _ in self.places), default=-1)
 
-    def recorded(self, key):
+    def recorded(self, key: tuple[int, int]) -> Recorded:
         """What was answered in a session."""
         begin, length = self.places.get(key, (0, 0))
         return Recorded(os.pread(self.file.fileno(), min(PIECE, begin + length - at), at)
                         for at in range(begin, begin + length, PIECE))
 
 
-def seconds(word):
+def seconds(word: str) -> float | None:
     """A time; None where it is none."""
     return float(word) if re.fullmatch(r"[0-9]{1,5}(\.[0-9]{1,3})?", word) else None
 
 
-OPTIONS = {"--server": places.OPTION, "--recorded": ("a file", lambda word: word or None), "--as-is": None,
-           "--in-order": None, "--connections": ends.number(1, MOST_CONNECTIONS),
-           "--wait": ("a number of seconds", seconds)}
+OPTIONS: dict[str, ends.Option | None] = {
+    "--server": places.OPTION, "--recorded": ends.FILE, "--as-is": None, "--in-order": None,
+    "--connections": ends.number(1, MOST_CONNECTIONS), "--wait": ("a number of seconds", seconds)}
 
 
-def arguments(words):
+def arguments(words: list[str]) -> tuple[dict[str, Any], str]:
     """The values of the options, and the capture."""
     found, names = ends.options(words, OPTIONS)
     if len(names) != 1 or "--server" not in found:
@@ -136,7 +141,7 @@ def arguments(words):
     return {"--connections": MOST_CONNECTIONS, "--wait": 5.0, **found}, names[0]
 
 
-def told(screen, play, seconds):
+def told(screen: Screen, play: Play, seconds: float) -> None:
     """Says what was played."""
     times = play.times
     screen.say(f"{play.connected} connections, {times.count} commands answered in {seconds:.1f} s")
@@ -156,13 +161,14 @@ def told(screen, play, seconds):
         screen.say("interrupted: what came back so far is written")
 
 
-def told_of(screen, uniques):
+def told_of(screen: Screen, uniques: Uniques) -> None:
     """Says how many uniques were translated."""
     if uniques.translated or uniques.kept:
         screen.say(f"{uniques.translated} uniques translated, {uniques.kept} sent as they are")
 
 
-def translation(found, uniques, count):
+def translation(found: dict[str, Any], uniques: Uniques,
+                count: int) -> Callable[[int, int], AsTheyAre | SessionUniques]:
     """What translates the uniques of a connection's session, of a capture with this count of connections."""
     if "--as-is" in found:
         return lambda connection, session: AsTheyAre()
@@ -176,7 +182,7 @@ def translation(found, uniques, count):
     return lambda connection, session: SessionUniques(uniques, outputs.recorded((connection, session)))
 
 
-def interruptible(play):
+def interruptible(play: Play) -> None:
     """Plays, until all is played or a signal ends it, as Ctrl-C does; a second one ends at once."""
     ending = ends.ending_signals()
     for number in ending:
@@ -186,7 +192,7 @@ def interruptible(play):
         signal.signal(number, signal.SIG_DFL)
 
 
-def main(words):
+def main(words: list[str]) -> None:
     found, name = arguments(words)
     hold_first()
     more_files()

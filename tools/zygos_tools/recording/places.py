@@ -1,11 +1,17 @@
 """Places where servers listen, as words name them: HOST:PORT, [HOST]:PORT, or a Unix socket by its path."""
+from __future__ import annotations
+
 import contextlib
 import errno
 import os
 import re
 import socket
 import stat
+from collections.abc import Iterable
+from typing import Any
 
+# an address, as its family has it, after the family
+Address = tuple[int, Any]
 # how many connections may wait to be accepted, how long the path of a Unix socket may be, and the last port
 BACKLOG, MOST_PATH, MOST_PORT = 4096, 107, 65535
 
@@ -13,10 +19,10 @@ BACKLOG, MOST_PATH, MOST_PORT = 4096, 107, 65535
 class Place:
     """A place: what is printed of it, and its addresses, each with its family; these are looked up when asked for."""
 
-    def __init__(self, name, host=None, port=None, path=None):
+    def __init__(self, name: str, host: str | None = None, port: int | None = None, path: str | None = None) -> None:
         self.name, self.host, self.port, self.path = name, host, port, path
 
-    def addresses(self):
+    def addresses(self) -> list[Address]:
         if self.path is not None:
             return [(socket.AF_UNIX, self.path)]
         try:
@@ -26,7 +32,7 @@ class Place:
         return list(dict.fromkeys((family, address) for family, _, _, _, address in found))
 
 
-def place(word):
+def place(word: str) -> Place | None:
     """The place that a word names; None where it names none."""
     path = word[5:] if word.startswith("unix:") else word if "/" in word else None
     if path is not None:
@@ -39,15 +45,15 @@ def place(word):
 OPTION = f"HOST:PORT, [HOST]:PORT or a path with a slash, of at most {MOST_PATH} bytes", place
 
 
-def named(family, address):
+def named(family: int, address: Any) -> str:
     """An address, as a word names it."""
     if family == socket.AF_UNIX:
-        return address
+        return str(address)
     host, port = address[:2]
     return f"[{host}]:{port}" if ":" in host else f"{host}:{port}"
 
 
-def prompt(one):
+def prompt(one: socket.socket) -> socket.socket:
     """A socket that never waits, neither in its calls nor to gather bytes."""
     one.setblocking(False)
     if one.family != socket.AF_UNIX:
@@ -55,13 +61,13 @@ def prompt(one):
     return one
 
 
-def beginning(family, address):
+def beginning(family: int, address: Any) -> tuple[socket.socket, int]:
     """A socket that is being connected, and the number of the fault that it has at once: 0, or EINPROGRESS, is none."""
     one = prompt(socket.socket(family, socket.SOCK_STREAM))
     return one, one.connect_ex(address)
 
 
-def is_left(path):
+def is_left(path: str) -> bool:
     """Whether a path is a socket that nobody listens at any more."""
     try:
         if not stat.S_ISSOCK(os.stat(path).st_mode):
@@ -73,10 +79,10 @@ def is_left(path):
         return False
 
 
-def shared(found, count):
+def shared(found: Iterable[socket.socket], count: int) -> list[list[socket.socket]]:
     """For each of a number of processes, sockets that listen where these do, which are closed. The kernel gives each
     client that comes to one of them; at a Unix socket all processes listen at the same one."""
-    rows = [[] for _ in range(count)]
+    rows: list[list[socket.socket]] = [[] for _ in range(count)]
     for one in found:
         family, address = one.family, one.getsockname()
         if family == socket.AF_UNIX:
@@ -90,9 +96,10 @@ def shared(found, count):
     return rows
 
 
-def listening(one):
+def listening(one: Place) -> list[socket.socket]:
     """Sockets that listen at a place, at each of its addresses that there is."""
-    found, fault = [], None
+    found: list[socket.socket] = []
+    fault: OSError | None = None
     for family, address in one.addresses():
         try:
             found.append(bound(family, address))
@@ -110,7 +117,7 @@ def listening(one):
     return found
 
 
-def forget(found):
+def forget(found: Iterable[socket.socket]) -> None:
     """Closes sockets, and removes the paths of those that listen."""
     for one in found:
         with contextlib.suppress(OSError):
@@ -119,7 +126,7 @@ def forget(found):
         one.close()
 
 
-def bound(family, address, is_shared=False):
+def bound(family: int, address: Any, is_shared: bool = False) -> socket.socket:
     """A socket that is bound to an address, which it may share with others."""
     one = socket.socket(family, socket.SOCK_STREAM)
     try:

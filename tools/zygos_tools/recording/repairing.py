@@ -1,10 +1,14 @@
 """Completes the files of a recording that was killed: its capture, and the replies file from the spool."""
+from __future__ import annotations
+
 import os
 from collections import defaultdict
+from collections.abc import Callable, Iterator, Sequence
 from itertools import zip_longest
 
+from zygos_tools.cli.screen import Screen
 from zygos_tools.files import inputs
-from zygos_tools.files.formats import END, Close, capture_head, capture_records, capture_start, close
+from zygos_tools.files.formats import END, Close, Segment, capture_head, capture_records, capture_start, close
 from zygos_tools.files.growing import Found, Growing, reading, write_at
 from zygos_tools.files.outputs import Beside, naming, synced
 from zygos_tools.files.part import Fault
@@ -14,14 +18,14 @@ from zygos_tools.recording.parts import join, parts_of, remove_parts
 from zygos_tools.recording.targets import SPOOL, locked
 
 
-def opened(name):
+def opened(name: str) -> Found:
     """A capture that was left, and what there is in it."""
     file = os.open(name, os.O_RDWR)
     with naming(name):
         return Found(file, name)
 
 
-def complete(found, closes, version, count):
+def complete(found: Found, closes: Sequence[int], version: int, count: int) -> None:
     """Makes it a whole capture in which connections have these numbers of close records."""
     for connection, number in enumerate(closes):
         found.add(close(connection) * (number - found.closes[connection]))
@@ -29,13 +33,13 @@ def complete(found, closes, version, count):
     write_at(found.file, capture_start(count, version), 0)
 
 
-def cut(found):
+def cut(found: Found) -> str:
     """Cuts a capture after its last whole record; says what it keeps of the next one."""
     kept = found.cut()
     return f", {kept[0]} of the {kept[1]} bytes of the last segment" if kept else ""
 
 
-def closed(file, take):
+def closed(file: int, take: Callable[[Segment], object]) -> Iterator[int]:
     """The connections that close in a capture, in its order; the segments before each are given to `take`."""
     part = reading(file)
     for record in capture_records(part, *capture_head(part)):
@@ -45,9 +49,10 @@ def closed(file, take):
             take(record)
 
 
-def unanswered(sent, back):
+def unanswered(sent: int, back: int) -> int:
     """How many commands of a capture have no whole answer in a spool, in which connections close in the same order."""
-    paces, count = defaultdict(Pace), 0
+    paces: defaultdict[int, Pace] = defaultdict(Pace)
+    count = 0
     for both in zip_longest(closed(sent, lambda one: paces[one.connection].sent(one.text)),
                             closed(back, lambda one: paces[one.connection].heard(one.text))):
         for number in set(both) & set(paces):
@@ -55,7 +60,7 @@ def unanswered(sent, back):
     return count + sum(pace.owed for pace in paces.values())
 
 
-def gather(parts, capture, spool):
+def gather(parts: Sequence[str], capture: str, spool: str) -> None:
     """Makes a capture and a spool of the parts that processes left, unless that was done before."""
     held = [locked(name) for name in parts]
     if parts[0].endswith(f"{SPOOL}.0") and not os.path.lexists(spool):
@@ -66,7 +71,7 @@ def gather(parts, capture, spool):
         os.close(file)
 
 
-def repair(names, screen):
+def repair(names: Sequence[str], screen: Screen) -> None:
     """Completes the files of a recording, and says on a screen what they have."""
     capture, replies = names
     spool = replies + SPOOL
@@ -100,14 +105,14 @@ def repair(names, screen):
         screen.say(f"{missing} commands are not answered whole")
 
 
-def version_of(sent, closes, seen):
+def version_of(sent: Found, closes: Sequence[int], seen: int) -> tuple[int, int]:
     """The version and the number of connections of a capture; what its head says, where that is set."""
     if sent.is_growing():
         return 2 if any(closes) else 1, max(sent.count_seen, seen)
     return sent.version, sent.count
 
 
-def repair_capture(name, say):
+def repair_capture(name: str, say: Callable[[str], object]) -> None:
     """Completes a capture alone."""
     sent = opened(name)
     told = f"{sent.count} connections, {sum(sent.sizes)} bytes sent"
@@ -121,7 +126,7 @@ def repair_capture(name, say):
     say(f"{name}: completed: {count} connections, {sum(sent.sizes)} bytes sent{ending}")
 
 
-def check_replies(name, say):
+def check_replies(name: str, say: Callable[[str], object]) -> None:
     """Whether a replies file is whole."""
     names = [part.name for part in inputs.parts(name)]
     if names != ["replies"]:

@@ -1,4 +1,6 @@
 """What each fault of recorded packets says of a file, and what to do about it."""
+from __future__ import annotations
+
 from zygos_tools.recording.packets import recorded
 
 AGAIN = "tcpdump -r {name} -w some.pcap"
@@ -39,7 +41,7 @@ LINKS = {0: "BSD loopback", 101: "raw IP", 105: "WLAN", 113: "any interface", 12
          276: "any interface"}
 
 
-def told(fault, begin, name, port):
+def told(fault: recorded.PacketFault, begin: bytes, name: str, port: int) -> tuple[str, str]:
     """A fault of a file in words, and what to do; the file begins so, and has this name."""
     says, do = FAULTS[fault.number]
     which = WHICH.get(fault.number, "tcp port {port}").format(port=port)
