@@ -17,5 +17,5 @@ pub use answering::answers_with;
 pub use heading::{Heading, read_heading};
 pub use line::{is_error_line, is_line_with, line_length};
 pub use one::reply_kind;
-pub use reply::{may_be_said, read_reply};
+pub use reply::{may_be_said, read_reply, stores};
 pub use text::text_from;

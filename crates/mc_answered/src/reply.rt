@@ -69,7 +69,7 @@ pub(crate) fn may_say(kind: CallKind, reply: &CallReply) -> bool
 }
 
 /// Checks whether a call of this kind stores a value.
-pub(crate) fn stores(kind: CallKind) -> bool
+pub fn stores(kind: CallKind) -> bool
     ensures value { result ≡ stores kind }
 {
     matches!(

@@ -1,5 +1,6 @@
 pub mod SeriesLemmas
 pub mod ListingLemmas
 pub mod LineLemmas
+pub mod MarkedLemmas
 pub mod CutLemmas
 pub mod CountLemmas

@@ -1,3 +1,4 @@
 pub mod Cutting
 pub mod First
+pub mod Marked
 pub mod Piece

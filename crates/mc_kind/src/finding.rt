@@ -6,6 +6,7 @@ use crate::counts::first_counts;
 use crate::first::First;
 use crate::lines::first_line;
 use crate::listing::first_listing;
+use crate::marked::first_meta;
 use mc_parse::{Command, ErrorLine, Meta};
 
 /// Finds where the first answer to a command ends, whatever was said to its calls.
@@ -19,6 +20,8 @@ pub fn first_answer(command: &Command, bytes: &[u8]) -> First
             line: ErrorLine::TooLarge,
             ..
         } => First::Other,
+        Command::Meta { meta: Meta::Noop } => first_by_line(command, bytes),
+        Command::Meta { meta } => first_meta(meta, bytes),
         _ => first_by_line(command, bytes),
     }
 }

@@ -8,6 +8,7 @@ mod first;
 mod keys;
 mod lines;
 mod listing;
+mod marked;
 mod piece;
 mod text;
 

@@ -2,3 +2,4 @@ pub mod ItemLemmas
 pub mod ReadLemmas
 pub mod GotLemmas
 pub mod ToldLemmas
+pub mod MarkedLemmas

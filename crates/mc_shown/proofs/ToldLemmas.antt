@@ -102,11 +102,11 @@ one_told command kind line saids is loud one = absurd (cc)
 pub none_suited : (saids : List Said) → AreSuited [] saids
 none_suited saids i part said part_is said_is = absurd (cc)
 
-pub one_suited : (line : List ℕ) (saids : List Said) (part : Part) → IsOne (IsToldBy line) saids → ((said : Said) → IsToldBy line said → Suits part.shown said) → AreSuited (part ∷ []) saids
-one_suited line [] part one suits i found said part_is said_is = absurd one
-one_suited line (only ∷ []) part one suits zero found said part_is said_is =
+pub one_suited : (IsSuch : Said → Type 0) (saids : List Said) (part : Part) → IsOne IsSuch saids → ((said : Said) → IsSuch said → Suits part.shown said) → AreSuited (part ∷ []) saids
+one_suited IsSuch [] part one suits i found said part_is said_is = absurd one
+one_suited IsSuch (only ∷ []) part one suits zero found said part_is said_is =
     let first : part ≡ found = cc in
     let same : only ≡ said = cc in
     subst (λ (p : Part). Suits p.shown said) first (subst (Suits part.shown) same (suits only one))
-one_suited line (only ∷ []) part one suits (suc i) found said part_is said_is = absurd (cc)
-one_suited line (only ∷ next ∷ saids) part one suits i found said part_is said_is = absurd one
+one_suited IsSuch (only ∷ []) part one suits (suc i) found said part_is said_is = absurd (cc)
+one_suited IsSuch (only ∷ next ∷ saids) part one suits i found said part_is said_is = absurd one

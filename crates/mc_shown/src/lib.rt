@@ -4,6 +4,7 @@
 mod keyed;
 mod listed;
 mod listing;
+mod marked;
 mod part;
 mod showing;
 mod told;

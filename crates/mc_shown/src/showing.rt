@@ -5,6 +5,7 @@ ghost use Rattle.mc_answers.specs.Answer.{IsAnswer};
 ghost use Rattle.mc_shown.specs.Parts.{AreSuited};
 
 use crate::listing::listing_parts;
+use crate::marked::marked_shown;
 use crate::part::{Part, only_part};
 use crate::told::line_shown;
 use mc_answered::reply_kind;
@@ -20,6 +21,7 @@ pub fn shown_by(alloc: Global, command: &Command, text: &[u8]) -> Result<Vec<Par
 {
     match command {
         Command::Get { keys, unique } => listing_parts(alloc, keys.items(), *unique, text),
+        Command::Meta { meta } => only_part(alloc, Part::new(marked_shown(meta, text))),
         _ => reply_parts(alloc, command, text),
     }
 }

@@ -5,6 +5,7 @@ use Rattle.mc_shown.specs.Parts.{AreSuited}
 use Rattle.mc_shown.specs.declared.part.Part.{Part}
 use Rattle.std.specs.Prelude.{List}
 use Rattle.std.proofs.lemmas.Result.{IfOk-weaker}
+use Rattle.mc_shown.specs.Told.{IsToldBy}
 use Rattle.mc_shown.proofs.ToldLemmas.{one_told, one_suited}
 use Rattle.mc_shown.proofs.showing.reply_parts.Goals as goal
 
@@ -17,7 +18,7 @@ returns-in-Some c =
           (
           λ parts is saids answer. subst (λ (ps : List Part). AreSuited ps saids) (sym is)
           (
-          one_suited c.args.text.now saids c.new-in-Some.result (one_told c.args.command.now c.in-Some.field-0 c.args.text.now saids kind loud answer)
+          one_suited (IsToldBy c.args.text.now) saids c.new-in-Some.result (one_told c.args.command.now c.in-Some.field-0 c.args.text.now saids kind loud answer)
           (λ said one. subst (λ (x : Shown). Suits x said) (sym c.new-in-Some.ensures.value) (c.line_shown.ensures.value said one))
           )
           )

@@ -1,0 +1,25 @@
+-- The lines that answer meta commands. No public clause cites this module.
+use Rattle.std.specs.Prelude.{◌⊎◌, ℕ, Bool, false, List, codes}
+use Rattle.mc_meta.specs.Flags.{is_among}
+use Rattle.mc_parse.specs.declared.meta.Meta.{Meta}
+use Rattle.mc_parse.specs.declared.meta.Meta.TheVariants as Metas
+use Rattle.mc_reply.specs.MetaText.{value_letter}
+use Rattle.mc_answers.specs.Kinds.{IsLineWith}
+
+-- the answer to a command may show a value
+abbrev pub shows_value : Meta → Bool
+shows_value (Metas.Get key flags) = is_among flags value_letter
+shows_value meta = false
+
+-- the command stores
+abbrev pub IsSet : Meta → Type 0
+IsSet (Metas.Set key call marks) = Unit {0}
+IsSet meta = ⊥
+
+-- the line begins with a code that answers a command which shows no value
+abbrev pub IsCoded : Meta → List ℕ → Type 0
+IsCoded Metas.Noop line = IsLineWith (codes "MN") line
+IsCoded (Metas.Get key flags) line = IsLineWith (codes "HD") line ⊎ IsLineWith (codes "EN") line
+IsCoded (Metas.Set key call marks) line =
+    IsLineWith (codes "HD") line ⊎ IsLineWith (codes "NS") line ⊎ IsLineWith (codes "EX") line ⊎ IsLineWith (codes "NF") line
+IsCoded (Metas.Delete key flags) line = IsLineWith (codes "HD") line ⊎ IsLineWith (codes "NF") line
