@@ -14,7 +14,7 @@ from zygos_tools.repository import matching
 from zygos_tools.starting import LEAST
 
 # the packages of the tools whose types are checked
-TYPED = ("cli", "files", "protocol", "judging", "comparing", "showing", "playing")
+TYPED = ("cli", "files", "protocol", "judging", "comparing", "showing", "playing", "recording")
 
 
 def read(name):

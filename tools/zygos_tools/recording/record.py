@@ -40,9 +40,13 @@ the next session of the connection that closed first. If none has closed it is p
 happens to everything that comes once the disk is full or the capture has 4 GiB. It is said once, and the status is 1.
 If the server goes away, its clients are closed, and the recording goes on. A `quit` is not counted as a command.
 """
+from __future__ import annotations
+
 import functools
 import signal
 import socket
+from collections.abc import Sequence
+from typing import Any
 
 from zygos_tools.cli import ends
 from zygos_tools.cli.screen import Screen, hold_first
@@ -60,7 +64,7 @@ OPTIONS = {"--listen": places.OPTION, "--server": places.OPTION, "--connections"
            "--processes": ends.number(1, 64), "--every": windows.OPTION, "--ends": None, "--over": None, "--repair": None}
 
 
-def arguments(words):
+def arguments(words: list[str]) -> tuple[dict[str, Any], list[str]]:
     """The values of the options, and the two files."""
     found, files = ends.options(words, OPTIONS)
     if len(files) != 2 or files == ["-", "-"]:
@@ -70,7 +74,7 @@ def arguments(words):
     return {"--listen": place("127.0.0.1:11212"), "--server": place("127.0.0.1:11211"), **found}, files
 
 
-def caught():
+def caught() -> tuple[socket.socket, socket.socket]:
     """A socket that can be read when a signal came. A hangup that is ignored, as nohup has it, stays ignored."""
     one, other = socket.socketpair()
     for end in (one, other):
@@ -83,9 +87,11 @@ def caught():
     return one, other
 
 
-def begun(given, names, screen):
+def begun(given: dict[str, Any], names: Sequence[str],
+          screen: Screen) -> tuple[Recording, list[places.Address], list[socket.socket]]:
     """A recording, its server's addresses, and the sockets where clients come; all there is where it can begin."""
-    files, found = Files(names, "--over" in given), []
+    files = Files(names, "--over" in given)
+    found: list[socket.socket] = []
     try:
         addresses = given["--server"].addresses()
         found = listening(given["--listen"])
@@ -96,7 +102,7 @@ def begun(given, names, screen):
         raise
 
 
-def record(given, names):
+def record(given: dict[str, Any], names: Sequence[str]) -> bool:
     """Records until the end, and completes the files. Gives whether all was recorded."""
     screen, (woken, _) = Screen(), caught()
     recording, addresses, found = begun(given, names, screen)
@@ -117,11 +123,11 @@ def record(given, names):
     return not recording.fault and not recording.passed_on
 
 
-def record_in_parts(given, names):
+def record_in_parts(given: dict[str, Any], names: Sequence[str]) -> bool:
     """Records with several processes, or in windows. Gives whether all was recorded."""
     screen, (woken, _) = Screen(), caught()
     every = given.get("--every")
-    both = windows.Names(*names, every is not None)
+    both = windows.Names(names[0], names[1], every is not None)
     both.refuse("--over" in given)
     addresses, found = given["--server"].addresses(), listening(given["--listen"])
     places_of = " and ".join(named(one.family, one.getsockname()) for one in found)
@@ -132,7 +138,7 @@ def record_in_parts(given, names):
     return head.run(woken)
 
 
-def main(words):
+def main(words: list[str]) -> None:
     given, names = arguments(words)
     hold_first()
     if "--repair" in given:

@@ -27,9 +27,13 @@ its first requests are left out.
 If `zygos pcap` rejects the file, the report names the first error, its offset, and what to do, and nothing is written.
 The status is 1 if bytes were cut away, the file is rejected, or no packet goes to the port.
 """
+from __future__ import annotations
+
 import contextlib
 import sys
 from collections import Counter
+from collections.abc import Iterable
+from struct import Struct
 
 from zygos_tools.cli import ends
 from zygos_tools.files import inputs
@@ -39,7 +43,7 @@ from zygos_tools.files.part import Fault
 from zygos_tools.protocol import pace
 from zygos_tools.recording.packets import recorded
 from zygos_tools.recording.packets.quick import Quick, reversed_flow
-from zygos_tools.recording.packets.recorded import Flows, PacketFault, number_at
+from zygos_tools.recording.packets.recorded import Arrival, Flows, Packet, PacketFault, Record, Session, number_at
 from zygos_tools.recording.packets.report import Report, answered, refusal
 from zygos_tools.recording.packets.resuming import COMMAND, Resuming
 
@@ -50,17 +54,22 @@ OPTIONS = {"--port": ends.number(1, 65535), "--in-order": ends.FILE, "--ends": N
 class Reading:
     """What is read of a file: its flows, the faults of its frames, and the ports to which other packets go."""
 
-    def __init__(self, port, with_answers=False, with_ends=False, resumes=False):
+    def __init__(self, port: int, with_answers: bool = False, with_ends: bool = False,
+                 resumes: bool = False) -> None:
         self.port, self.with_answers, self.with_ends = port, with_answers or with_ends or resumes, with_ends
-        self.flows, self.arrivals, self.number = Resuming() if resumes else Flows(), [], 0
-        self.first, self.refused = None, 0  # the first fault, after how many records, and how many frames are refused
+        self.flows, self.number = Resuming() if resumes else Flows(), 0
+        self.arrivals: list[Arrival] = []
+        # the first fault, after how many records, and how many frames are refused
+        self.first: tuple[PacketFault, int] | None = None
+        self.refused = 0
         self.early = self.answering = 0  # bytes of the server before a flow's first request, and its packets
-        self.ports, self.asking = Counter(), Counter()
+        self.ports, self.asking = Counter[int](), Counter[int]()
         self.quick = Quick() if self.with_answers else None
         # in windows: from when on the current one may end, connections that wait for an answer, and those with new bytes
-        self.due_at, self.pending, self.touched, self.lines_sent = None, set(), set(), 0
+        self.due_at: int | None = None
+        self.pending, self.touched, self.lines_sent = set[int](), set[int](), 0
 
-    def read(self, text):
+    def read(self, text: bytes) -> None:
         """Reads a file."""
         try:
             head, end = recorded.head_of(recorded.byte_order(text)), min(len(text), recorded.MOST_FILE)
@@ -69,7 +78,7 @@ class Reading:
             self.first = self.first or (fault, self.number + 1)
         self.flows.settle()
 
-    def read_records(self, text, at, end, head, base=0):
+    def read_records(self, text: bytes, at: int, end: int, head: Struct, base: int = 0) -> int:
         """Reads the records from a place on, up to one that is not whole. Gives its place."""
         while at < end:
             at = self.quick.take(self, text, at, end, head) if self.quick else at
@@ -85,16 +94,16 @@ class Reading:
                 self.refused += 1
         return at
 
-    def take_any(self, record):
+    def take_any(self, record: Record) -> None:
         """Takes a packet that is not usual, after which its flow may be."""
         flow = self.flow_of(record.frame) if self.quick else None
-        if flow:
+        if flow and self.quick:
             self.quick.forget(flow)
         self.take(record)
-        if flow in self.flows.numbers:
+        if flow and self.quick and flow in self.flows.numbers:
             self.quick.renew(flow, self.flows)
 
-    def flow_of(self, frame):
+    def flow_of(self, frame: bytes) -> bytes | None:
         """The flow of a frame, if it is to the port or of it."""
         begin = 14 + frame[14] % 16 * 4 if len(frame) > 34 else 0
         ports = frame[begin : begin + 4]
@@ -103,20 +112,25 @@ class Reading:
             return flow
         return reversed_flow(flow) if len(ports) == 4 and number_at(ports, 0) == self.port else None
 
-    def take(self, record):
+    def take(self, record: Record) -> None:
         packet = recorded.judge(record.frame, record.at, self.port)
         if packet:
             self.flows.meet(packet, record.at)
-            self.flows.current(packet.flow).expects(packet.expected)
+            if session := self.flows.current(packet.flow):
+                session.expects(packet.expected)
             self.arrive(self.flows.arrival(packet.flow, record.time))
         elif found := recorded.tcp_in(record.frame, record.at, self.port):
             self.other(record, *found)
 
-    def arrive(self, arrival):
+    def is_due(self, time: int, lines: int) -> bool:
+        """Whether the current window ends now, at this time and after so many lines more; never, without windows."""
+        return False
+
+    def arrive(self, arrival: Arrival) -> None:
         if not self.arrivals or arrival[1:] != self.arrivals[-1][1:]:
             self.arrivals.append(arrival)
 
-    def other(self, record, begin, end):
+    def other(self, record: Record, begin: int, end: int) -> None:
         """A packet with TCP that is no part of a request."""
         frame = record.frame
         if number_at(frame, begin + 2) == self.port:
@@ -134,14 +148,14 @@ class Reading:
             if COMMAND.match(packet.payload):
                 self.asking[number_at(frame, begin + 2)] += 1
 
-    def bare(self, frame, begin):
+    def bare(self, frame: bytes, begin: int) -> None:
         """A packet to the port without bytes: its number shows how many the client has sent."""
         session = self.flows.current(frame[26:34] + frame[begin : begin + 4])
         if session and not frame[begin + 13] & 4:
             session.is_expected(int.from_bytes(frame[begin + 4 : begin + 8], "big"))
             session.expects(int.from_bytes(frame[begin + 8 : begin + 12], "big"))
 
-    def answer(self, packet, record):
+    def answer(self, packet: Packet, record: Record) -> None:
         """A packet of the server."""
         flow = reversed_flow(packet.flow)
         session = self.flows.current(flow)
@@ -160,12 +174,12 @@ class Reading:
 # ---- what is written
 
 
-def ends_of(session):
+def ends_of(session: Session) -> list[int]:
     """The places at which the answers of a session end."""
     return [session.early + answer.end for answer in pace.Answers().feed(answered(session))]
 
 
-def write(files, is_over):
+def write(files: Iterable[tuple[str, Iterable[bytes]]], is_over: bool) -> None:
     """Writes files, each of a name and its pieces: all of them, or none."""
     with contextlib.ExitStack() as opened:
         for name, pieces in files:
@@ -175,22 +189,22 @@ def write(files, is_over):
                 opened.enter_context(Beside(name, is_over)).write(pieces)
 
 
-def look(text, name, port, **how):
+def look(text: bytes, name: str, port: int, **how: bool) -> tuple[Reading, Report, str | None]:
     """What is read of a file, the report on it, and why it is refused or has nothing for the port."""
     reading = Reading(port, **how)
     reading.read(text)
     return reading, Report(reading), refusal(reading, text[:4], name)
 
 
-def main(words):
+def main(words: list[str]) -> None:
     found, files = ends.options(words, OPTIONS)
-    written = [found.get(option) for option in ("--in-order", "--replies")]
+    written: list[str | None] = [found.get(option) for option in ("--in-order", "--replies")]
     if len(files) > 1 or written == ["-", "-"]:
         ends.stop("one file is read, and at most one is written to standard output; --help says more", 2)
     if "--ends" in found and not written[0]:
         ends.stop("--ends needs --in-order, the capture in which answers end", 2)
     name = files[0] if files else "-"
-    names = [other for other in written if other not in (None, "-")]
+    names = [other for other in written if other is not None and other != "-"]
     told_apart(names, [name])
     for other in () if "--over" in found else names:
         refuse_full(other)

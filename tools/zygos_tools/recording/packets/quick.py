@@ -6,8 +6,13 @@ that acknowledges bytes which were not recorded, is left to the caller, and so i
 from __future__ import annotations
 
 import struct
+from typing import TYPE_CHECKING
 
-from zygos_tools.recording.packets.recorded import BEFORE, ETHERNET_IPV4, MOST_FRAME, MOST_STREAM, NUMBERS, TCP, Arrival
+from zygos_tools.recording.packets.recorded import (BEFORE, ETHERNET_IPV4, MOST_FRAME, MOST_STREAM, NUMBERS, TCP,
+                                                     Arrival, Flows, Session)
+
+if TYPE_CHECKING:
+    from zygos_tools.recording.packets.command import Reading
 
 # of a frame, from its type on: that of Ethernet, version and length of the IP header, total length, fragment, protocol,
 # addresses and ports, both numbers, the length of the TCP header, and flags
@@ -18,14 +23,14 @@ LEAST, MASK = 54, NUMBERS - 1
 class Side:
     """One direction of a session: its bytes, and the number of the next one."""
 
-    def __init__(self, session, text, base, arrival):
+    def __init__(self, session: Session, text: bytearray, base: int, arrival: tuple[int, int, bool]) -> None:
         self.session, self.text, self.next = session, text, (base + len(text)) % NUMBERS
         self.number, self.last, self.is_answer = arrival
         self.most = 1 << 62 if self.is_answer else MOST_STREAM
-        self.other = None
+        self.other: Side = self  # that of the other direction
 
 
-def reversed_flow(flow):
+def reversed_flow(flow: bytes) -> bytes:
     """How the packets of a server name a flow."""
     return flow[4:8] + flow[:4] + flow[10:12] + flow[8:10]
 
@@ -33,19 +38,19 @@ def reversed_flow(flow):
 class Quick:
     """The sides of flows, by addresses and ports as their packets have them."""
 
-    def __init__(self):
-        self.sides = {}
+    def __init__(self) -> None:
+        self.sides: dict[bytes, Side] = {}
 
-    def forget(self, flow):
+    def forget(self, flow: bytes) -> None:
         self.sides.pop(flow, None)
         self.sides.pop(reversed_flow(flow), None)
 
-    def renew(self, flow, flows):
+    def renew(self, flow: bytes, flows: Flows) -> None:
         """Adds both sides of a flow, if nothing is missing in its session."""
         self.forget(flow)
         session = flows.current(flow)
         answers = session.answers if session else None
-        if answers is None or len(session.requests.begins) > 1 or len(answers.begins) > 1:
+        if session is None or answers is None or len(session.requests.begins) > 1 or len(answers.begins) > 1:
             return
         number = flows.numbers[flow]
         last = len(flows.sessions[number]) - 1
@@ -54,7 +59,7 @@ class Quick:
         asked.other, told.other = told, asked
         self.sides[flow], self.sides[reversed_flow(flow)] = asked, told
 
-    def take(self, reading, text, at, end, record):
+    def take(self, reading: Reading, text: bytes, at: int, end: int, record: struct.Struct) -> int:
         """Takes records from a place on, up to one that is not usual or not whole. Gives its place."""
         sides, arrivals, pending, new = self.sides, reading.arrivals, reading.pending, tuple.__new__
         with_ends, unpack, head, count = reading.with_ends, FRAME.unpack_from, record.unpack_from, 0

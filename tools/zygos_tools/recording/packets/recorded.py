@@ -3,11 +3,14 @@
 `made` gives the capture that `zygos pcap` makes of a file, or raises its first fault. `records`, `tcp_in`, `packet_of`
 and `Flows` are its steps. All take time in proportion to the file.
 """
+from __future__ import annotations
+
 import struct
 from bisect import bisect_right
-from collections import namedtuple
+from collections.abc import Callable, Iterable, Iterator
 from itertools import groupby
 from operator import itemgetter
+from typing import NamedTuple
 
 from zygos_tools.files.formats import END, capture, capture_start, close, output, pieces, replies_start, segment
 
@@ -25,16 +28,39 @@ OF_RECORDS = range(RECORD_LENGTH, TRUNCATED)
 HASH_KEY = int("6d5a56da255b0ec24167253d43a38fb0d0ca2bcbae7b30b477cb2da38030f20c6a42b73bbeac01fa", 16)
 HASH_KEY_BITS = 320
 
-Record = namedtuple("Record", "at time frame")
-Packet = namedtuple("Packet", "flow sequence is_syn payload expected", defaults=[None])
-# how much of the requests of a session, or of its answers, had come with a packet
-Arrival = namedtuple("Arrival", "time connection session is_answer size")
+
+class Record(NamedTuple):
+    """A record of a file: its place, its time in microseconds, and its frame."""
+
+    at: int
+    time: int
+    frame: bytes
+
+
+class Packet(NamedTuple):
+    """A packet; `expected` is the number of the next byte that its sender expects."""
+
+    flow: bytes
+    sequence: int
+    is_syn: int
+    payload: bytes
+    expected: int = 0
+
+
+class Arrival(NamedTuple):
+    """How much of the requests of a session, or of its answers, had come with a packet."""
+
+    time: int
+    connection: int
+    session: int
+    is_answer: bool
+    size: int
 
 
 class PacketFault(Exception):
     """A fault by its number, with the number that its row of the table has: mostly a place."""
 
-    def __init__(self, number, at=None):
+    def __init__(self, number: int, at: int | None = None) -> None:
         super().__init__(number, at)
         self.number, self.at = number, at
 
@@ -42,7 +68,7 @@ class PacketFault(Exception):
 # ---- records and frames
 
 
-def byte_order(text):
+def byte_order(text: bytes) -> str:
     """The order of the numbers of a file, by its header."""
     if len(text) < 4:
         raise PacketFault(TRUNCATED, len(text))
@@ -61,12 +87,13 @@ def byte_order(text):
     return order
 
 
-def head_of(order):
+def head_of(order: str) -> struct.Struct:
     """The numbers before each frame of a file, in this order of their bytes."""
     return struct.Struct(order + "IIII")
 
 
-def record_at(text, at, end, head, base=0):
+def record_at(text: bytes, at: int, end: int, head: struct.Struct,
+              base: int = 0) -> tuple[Record, int] | None:
     """The record at a place, if it is whole before `end`, and the place after it: its own place, which counts from
     `base` on, the time in microseconds and the frame."""
     size = 0
@@ -82,7 +109,7 @@ def record_at(text, at, end, head, base=0):
     return Record(base + at, seconds * 1000000 + micros, text[at + 16 : stop]), stop
 
 
-def records(text):
+def records(text: bytes) -> Iterator[Record]:
     """The records of a file."""
     head, at, end = head_of(byte_order(text)), 24, min(len(text), MOST_FILE)
     while at < end and (found := record_at(text, at, end, head)):
@@ -91,7 +118,7 @@ def records(text):
     check_end(text, at)
 
 
-def check_end(text, at):
+def check_end(text: bytes, at: int) -> None:
     """Refuses a file that goes on after its last whole record, which ends at a place."""
     if len(text) > MOST_FILE:
         raise PacketFault(TOO_LONG)
@@ -99,12 +126,12 @@ def check_end(text, at):
         raise PacketFault(TRUNCATED, len(text))
 
 
-def number_at(frame, at):
+def number_at(frame: bytes, at: int) -> int:
     """The number of two bytes at a place."""
     return frame[at] << 8 | frame[at + 1]
 
 
-def tcp_in(frame, at, port):
+def tcp_in(frame: bytes, at: int, port: int) -> tuple[int, int] | None:
     """Where the TCP header begins in a frame, and where its IP packet ends; None where the frame is passed over."""
     if len(frame) < 14:
         raise PacketFault(SHORT, at)
@@ -127,7 +154,7 @@ def tcp_in(frame, at, port):
     return begin, end
 
 
-def packet_of(frame, at, begin, end):
+def packet_of(frame: bytes, at: int, begin: int, end: int) -> Packet:
     """The packet of a frame whose TCP header begins and whose IP packet ends there."""
     payload = begin + (frame[begin + 12] >> 4) * 4
     if payload < begin + 20 or payload > end:
@@ -140,7 +167,7 @@ def packet_of(frame, at, begin, end):
     return Packet(flow, sequence, frame[begin + 13] >> 1 & 1, frame[payload:end], expected)
 
 
-def judge(frame, at, port):
+def judge(frame: bytes, at: int, port: int) -> Packet | None:
     """The packet of a frame, if it goes to the port and has a SYN flag or a payload; else None."""
     found = tcp_in(frame, at, port)
     if not found or number_at(frame, found[0] + 2) != port:
@@ -159,27 +186,28 @@ class Stream:
     the packets that fill a gap and those without a new byte.
     """
 
-    def __init__(self, packet):
+    def __init__(self, packet: Packet) -> None:
         self.syn = packet.sequence if packet.is_syn else None
         self.base = (packet.sequence + packet.is_syn) % NUMBERS
         self.begins, self.texts = [0], [bytearray()]
         self.last = 0  # the span with which the stream ends
         self.late = self.again = 0
 
-    def stop(self, span):
+    def stop(self, span: int) -> int:
         return self.begins[span] + len(self.texts[span])
 
-    def size(self):
+    def size(self) -> int:
         """How many bytes the stream has."""
         return self.stop(self.last)
 
-    def end(self):
+    def end(self) -> int:
         """The offset after all bytes."""
         return self.stop(len(self.begins) - 1)
 
-    def text(self, begin=0, end=None):
+    def text(self, begin: int = 0, end: int | None = None) -> bytes:
         """The bytes of the stream, or those from one offset to another."""
-        end, found = self.size() if end is None else end, []
+        end = self.size() if end is None else end
+        found: list[bytes] = []
         span = bisect_right(self.begins, begin) - 1
         while begin < end:
             first = self.begins[span]
@@ -187,15 +215,15 @@ class Stream:
             begin, span = self.stop(span), span + 1
         return b"".join(found)
 
-    def reach(self, offset):
+    def reach(self, offset: int) -> None:
         """Notes that there were bytes up to an offset."""
         if offset > self.end():
             self.begins.append(offset)
             self.texts.append(bytearray())
 
-    def rest(self):
+    def rest(self) -> list[tuple[int, bytearray]]:
         """What comes after the stream: the offset and the bytes of each run between two gaps."""
-        found = []
+        found: list[tuple[int, bytearray]] = []
         for begin, text in zip(self.begins[self.last + 1 :], self.texts[self.last + 1 :]):
             if found and found[-1][0] + len(found[-1][1]) == begin:
                 found[-1][1].extend(text)
@@ -203,7 +231,7 @@ class Stream:
                 found.append((begin, bytearray(text)))
         return found
 
-    def offset(self, packet, at):
+    def offset(self, packet: Packet, at: int) -> int:
         """The offset of a packet's payload, which is below 0 before the session."""
         offset = (packet.sequence + packet.is_syn - self.base) % NUMBERS
         if offset >= BEFORE:
@@ -212,7 +240,7 @@ class Stream:
             raise PacketFault(FLOW_LENGTH, at)
         return offset
 
-    def meet(self, packet, at):
+    def meet(self, packet: Packet, at: int) -> None:
         """Takes a packet."""
         offset, payload, end = self.offset(packet, at), packet.payload, self.end()
         if offset < 0:
@@ -223,7 +251,7 @@ class Stream:
         while self.last + 1 < len(self.begins) and self.begins[self.last + 1] == self.size():
             self.last += 1
 
-    def put(self, offset, payload):
+    def put(self, offset: int, payload: bytes) -> int:
         """Puts a payload at an offset, where there is no byte, and says how many bytes were new."""
         if offset == self.end():
             self.texts[-1] += payload
@@ -250,10 +278,10 @@ class Stream:
 class Answers(Stream):
     """What a server sends in a session: its length has no bound."""
 
-    def offset(self, packet, at):
+    def offset(self, packet: Packet, at: int) -> int:
         return self.place(packet.sequence + packet.is_syn)
 
-    def place(self, number):
+    def place(self, number: int) -> int:
         """The offset of the byte with a sequence number: the one that is nearest to the end of the stream."""
         ahead = (number - self.base - self.size()) % NUMBERS
         return self.size() + (ahead if ahead < BEFORE else ahead - NUMBERS)
@@ -262,31 +290,32 @@ class Answers(Stream):
 class Session:
     """What a client sends, from its first packet on, and what the server answers."""
 
-    def __init__(self, packet):
-        self.requests, self.answers = Stream(packet), None
+    def __init__(self, packet: Packet) -> None:
+        self.requests = Stream(packet)
+        self.answers: Answers | None = None
         # how many bytes were sent, and how many came back, as the numbers of other packets show
         self.sent = self.heard = 0
         self.is_resumed = self.is_answered = False  # it began anew after a loss; what came last is of the server
         self.early, self.is_misfit = 0, False  # how many bytes answer earlier requests; no answer fits its request
 
-    def ends_with(self, packet):
+    def ends_with(self, packet: Packet) -> bool:
         """Whether a packet begins the next session."""
-        return packet.is_syn and self.requests.syn != packet.sequence
+        return packet.is_syn > 0 and self.requests.syn != packet.sequence
 
-    def answer(self, packet, at):
+    def answer(self, packet: Packet, at: int) -> None:
         """Takes a packet of the server; a SYN packet begins its stream."""
         if self.answers is None or packet.is_syn and self.answers.syn != packet.sequence:
             self.answers = Answers(packet)
         self.answers.meet(packet, at)
         self.is_answered |= bool(packet.payload)
 
-    def expects(self, number):
+    def expects(self, number: int) -> None:
         """Notes that the client has all bytes of the server up to the one with this sequence number."""
         place = self.answers.place(number) if self.answers else 0
         if place < self.heard + MOST_STREAM:
             self.heard = max(self.heard, place)
 
-    def is_expected(self, number):
+    def is_expected(self, number: int) -> None:
         """Notes that the client has sent all bytes up to the one with this sequence number."""
         offset = (number - self.requests.base) % NUMBERS
         if offset < MOST_STREAM:
@@ -296,7 +325,7 @@ class Session:
 # ---- flows
 
 
-def toeplitz(flow):
+def toeplitz(flow: bytes) -> int:
     """The exclusive or of the key's 32 bits from each place at which the input has a 1."""
     number = 0
     for place in range(8 * len(flow)):
@@ -308,10 +337,11 @@ def toeplitz(flow):
 class Flows:
     """The flows to a port: the connection number of each, and the sessions of each number."""
 
-    def __init__(self):
-        self.numbers, self.sessions = {}, {}
+    def __init__(self) -> None:
+        self.numbers: dict[bytes, int] = {}
+        self.sessions: dict[int, list[Session]] = {}
 
-    def number_of(self, flow, at):
+    def number_of(self, flow: bytes, at: int) -> int:
         if flow not in self.numbers:
             group = toeplitz(flow) % GROUPS
             free = [number for number in range(group, group + GROUPS * MOST_OF_GROUP, GROUPS)
@@ -322,47 +352,51 @@ class Flows:
             self.sessions[free[0]] = []
         return self.numbers[flow]
 
-    def meet(self, packet, at):
+    def meet(self, packet: Packet, at: int) -> None:
         """Takes a packet to the port."""
         found = self.sessions[self.number_of(packet.flow, at)]
         if not found or found[-1].ends_with(packet):
             found.append(Session(packet))
         found[-1].requests.meet(packet, at)
 
-    def current(self, flow):
+    def current(self, flow: bytes) -> Session | None:
         """The current session of a flow; None before its first packet."""
         return self.sessions[self.numbers[flow]][-1] if flow in self.numbers else None
 
-    def arrival(self, flow, time, is_answer=False):
+    def arrival(self, flow: bytes, time: int, is_answer: bool = False) -> Arrival:
         """How much of the current session of a flow has come, at this time."""
         number = self.numbers[flow]
         last = len(self.sessions[number]) - 1
         session = self.sessions[number][last]
-        return Arrival(time, number, last, is_answer, (session.answers if is_answer else session.requests).size())
+        stream = session.answers if is_answer else session.requests
+        return Arrival(time, number, last, is_answer, stream.size() if stream else 0)
 
-    def settle(self):
+    def settle(self) -> None:
         """All packets were met."""
 
-    def count(self):
+    def count(self) -> int:
         return max(self.sessions, default=-1) + 1
 
-    def capture(self):
+    def capture(self) -> bytes:
         """The capture that has one flow after another."""
-        made = []
+        made: list[bytes] = []
         for number in sorted(self.sessions):
             for at, session in enumerate(self.sessions[number]):
                 made += [close(number)] if at else []
                 made += pieces(number, session.requests.text())
         return capture(self.count(), made, 2)
 
-    def in_order(self, arrivals, ends_of=None):
+    def in_order(self, arrivals: Iterable[Arrival],
+                 ends_of: Callable[[Session], list[int]] = lambda _: []) -> Iterator[bytes]:
         """The bytes of the capture with the same streams, cut where in time other connections come in between.
 
         Where an answer is whole that arrived, there is a segment without bytes; `ends_of` gives the places at which the
         answers of a session end.
         """
         yield capture_start(self.count(), 2)
-        last, written, ends = {}, {}, {}
+        last: dict[int, int] = {}
+        written: dict[tuple[int, int, bool], int] = {}
+        ends: dict[tuple[int, int, bool], list[int]] = {}
         for key, some in groupby(by_time(arrivals), itemgetter(1, 2, 3)):
             number, at, is_answer = key
             if at < last.setdefault(number, at):
@@ -381,19 +415,22 @@ class Flows:
             yield segment(number, b"") * (bisect_right(ends[key], end) - bisect_right(ends[key], begin))
         yield END
 
-    def replies(self, answered):
+    def replies(self, answered: Callable[[Session], bytes]) -> Iterator[bytes]:
         """The bytes of the replies file with what the server answered in each session, as `answered` says of it."""
         yield replies_start(2)
         for number in range(self.count()):
-            for at, session in enumerate(self.sessions.get(number, [None])):
-                yield output(2, number, at, answered(session) if session else b"")
+            for at, session in enumerate(self.sessions.get(number, ())):
+                yield output(2, number, at, answered(session))
+            if number not in self.sessions:
+                yield output(2, number, 0, b"")
         yield END
 
 
-def by_time(arrivals):
+def by_time(arrivals: Iterable[Arrival]) -> list[Arrival]:
     """Arrivals by their time; requests of a connection stay in their order, and answers come after the requests that
     were before them."""
-    latest, found = {}, []
+    latest: dict[tuple[int, bool], int] = {}
+    found: list[Arrival] = []
     for one in arrivals:
         number, time = one.connection, max(one.time, latest.get((one.connection, one.is_answer), one.time))
         latest[number, True] = max(time, latest.get((number, True), time))
@@ -403,7 +440,7 @@ def by_time(arrivals):
     return sorted(found, key=lambda one: one.time)
 
 
-def made(text, port):
+def made(text: bytes, port: int) -> bytes:
     """The capture of a file, or its first fault."""
     flows = Flows()
     for record in records(text):

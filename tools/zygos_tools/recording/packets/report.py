@@ -1,24 +1,31 @@
 """The report of tools/packets: what was read of recorded packets, and why a file is refused."""
+from __future__ import annotations
+
 from collections import Counter
+from typing import TYPE_CHECKING
 
 from zygos_tools.protocol.answers import Outcome, groups
 from zygos_tools.protocol.meaning import Framer, framed
 from zygos_tools.protocol.pace import ODD, Pace
 from zygos_tools.recording.packets import recorded
 from zygos_tools.recording.packets.faults import told
+from zygos_tools.recording.packets.recorded import Session, Stream
+
+if TYPE_CHECKING:
+    from zygos_tools.recording.packets.command import Reading
 
 MOST_PORTS = 5
 
 
-def place(address, port):
+def place(address: bytes, port: bytes) -> str:
     return ".".join(map(str, address)) + f":{int.from_bytes(port, 'big')}"
 
 
-def several(count, name):
+def several(count: int, name: str) -> str:
     return f"{count} {name}" + ("" if count == 1 else "s")
 
 
-def lost_of(stream, sent=0):
+def lost_of(stream: Stream, sent: int = 0) -> int:
     """How many bytes are lost after the end of a stream."""
     if stream.end() > stream.size():
         return stream.begins[stream.last + 1] - stream.size()
@@ -26,7 +33,7 @@ def lost_of(stream, sent=0):
     return sent - stream.size() if sent > stream.size() + 1 else 0
 
 
-def cut_of(stream, sent=0):
+def cut_of(stream: Stream, sent: int = 0) -> tuple[str, int, int] | None:
     """Where a stream is cut, how many bytes are left out then, and about how many requests; None where it is whole."""
     lost = lost_of(stream, sent)
     if not lost:
@@ -39,7 +46,7 @@ def cut_of(stream, sent=0):
     return where, left, sum(1 for _, text in rest for command, _ in framed(bytes(text)) if command.verb != "fault")
 
 
-def early_of(session):
+def early_of(session: Session) -> str:
     """Which answers of a session that begins anew are left out, as text."""
     if not session.early:
         return ""
@@ -47,7 +54,7 @@ def early_of(session):
     return f"; {several(session.early, 'byte')} of the server {why}, and are left out"
 
 
-def answered(session):
+def answered(session: Session) -> bytes:
     """What the server answered to the requests of a session; if these are cut, to those that are kept."""
     text = session.answers.text()[session.early :] if session.answers else b""
     if not lost_of(session.requests, session.sent):
@@ -64,8 +71,10 @@ def answered(session):
 class Report:
     """The lines on what was read, and its sums."""
 
-    def __init__(self, reading):
-        self.lines, self.sums, self.with_answers = [], Counter(), reading.with_answers
+    def __init__(self, reading: Reading) -> None:
+        self.lines: list[str] = []
+        self.sums: Counter[str] = Counter()
+        self.with_answers = reading.with_answers
         if reading.first and reading.flows.sessions:
             self.lines.append("apart from what is refused:")
         for flow, number in sorted(reading.flows.numbers.items(), key=lambda one: one[1]):
@@ -73,8 +82,9 @@ class Report:
         if reading.flows.sessions:
             self.all(reading)
 
-    def flow(self, flow, number, sessions):
-        requests, notes = 0, []
+    def flow(self, flow: bytes, number: int, sessions: list[Session]) -> None:
+        requests = 0
+        notes: list[str] = []
         for at, session in enumerate(sessions):
             begin = "  " if len(sessions) == 1 else f"  session {at}: "
             count, more = self.session(session)
@@ -88,9 +98,10 @@ class Report:
         self.lines += notes
         self.sums.update(found, flow=1)
 
-    def session(self, session):
+    def session(self, session: Session) -> tuple[int, list[str]]:
         """How many requests a session has, and what is to be said of it."""
-        stream, notes, framer, pace = session.requests, [], Framer(), Pace()
+        stream, framer, pace = session.requests, Framer(), Pace()
+        notes: list[str] = []
         text = stream.text()
         pace.sent(text)
         if self.with_answers:
@@ -118,7 +129,7 @@ class Report:
         self.sums.update(late=stream.late, again=stream.again)
         return count, notes
 
-    def all(self, reading):
+    def all(self, reading: Reading) -> None:
         sums = self.sums
         names = "flow", "session", "request", "byte"
         self.lines.append("all: " + ", ".join(several(sums[name], name) for name in names))
@@ -136,12 +147,12 @@ class Report:
             self.lines.append(f"  {early} of the server left out, before the first request of a flow")
 
 
-def listed(ports):
+def listed(ports: Counter[int]) -> str:
     """The ports to which most packets go, to be printed."""
     return ", ".join(f"{port} ({several(count, 'packet')})" for port, count in ports.most_common(MOST_PORTS))
 
 
-def refusal(reading, begin, name):
+def refusal(reading: Reading, begin: bytes, name: str) -> str | None:
     """Why `zygos pcap` refuses the file, or makes an empty capture of it; None where it does neither."""
     if reading.first:
         fault, number = reading.first
