@@ -1,15 +1,16 @@
 -- A call more in a chain of steps at each key.
-use Rattle.std.proofs.Common.{◌≡◌, ℕ, Bool, true, false, cond, List, [], ◌∷◌, ◌++◌, Option, None, Some, refl, sym, ap, append-nil, ◌∙◌, subst}
+use Rattle.std.proofs.Common.{◌≡◌, ℕ, Bool, true, false, cond, List, [], ◌∷◌, ◌++◌, Option, None, Some, inl, refl, sym, ap, append-nil, ◌∙◌, subst}
 use Rattle.std.proofs.lemmas.List.Elements.{filter-append}
 use Rattle.mc_allows.specs.declared.said.Said.{Said}
 use Rattle.mc_allows.specs.declared.call_name.CallName.{CallName}
 use Rattle.mc_allows.specs.Allows.{Allows}
-use Rattle.mc_allows.specs.Steps.{KeyStep, made, lost, AreAllowed, item_after, unique_stored, uniques_with, IsNoneOf, IsNewUnique, HaveNewUniques}
+use Rattle.mc_allows.specs.Steps.{KeyStep, made, lost, is_same, AreAllowed, item_after, unique_stored, uniques_with, IsNoneOf, first_uniques, IsNewUnique, HaveNewUniques}
 use Rattle.mc_calls.specs.declared.call.Call.{Call}
 use Rattle.mc_calls.specs.declared.item.Item.{Item}
 use Rattle.zy_verdict.specs.Entries.{MadeCall, is_at_key, placed_at, AreStepsOf}
 use Rattle.zy_confirm.specs.declared.store.Store.{Store}
-use Rattle.zy_confirm.specs.Store.{store_shards, held_at, is_used, IsNewlyUsed, MakesCall, uniques_after, AreUsed, KeyStands, StandsAfter, HoldsNothing}
+use Rattle.zy_confirm.specs.Store.{store_shards, held_at, is_used, IsNewlyUsed, MakesCall, LosesItem, uniques_after, AreUsed, KeyStands, StandsAfter, HoldsFirst}
+use Rattle.zy_confirm.proofs.MakeLemmas.{same_key}
 
 -- ---- steps
 
@@ -36,6 +37,34 @@ uniques_push before [] name call said after = refl
 uniques_push before (made own c s a ∷ steps) name call said after = uniques_push (uniques_with before (unique_stored s a)) steps name call said after
 uniques_push before (lost ∷ steps) name call said after = uniques_push [] steps name call said after
 
+allowed_loss : (forget : Bool) (first before : Option Item) (steps : List KeyStep) → forget ≡ true → AreAllowed forget first before steps → AreAllowed forget first before (steps ++ lost ∷ [])
+allowed_loss forget first before [] may are = (inl may, tt)
+allowed_loss forget first before (made own c s a ∷ steps) may are = (are.0, allowed_loss forget first a steps may are.1)
+allowed_loss forget first before (lost ∷ steps) may are = (are.0, allowed_loss forget None None steps may are.1)
+
+item_loss : (before : Option Item) (steps : List KeyStep) → item_after before (steps ++ lost ∷ []) ≡ None
+item_loss before [] = refl
+item_loss before (made own c s a ∷ steps) = item_loss a steps
+item_loss before (lost ∷ steps) = item_loss None steps
+
+new_loss : (before : List ℕ) (steps : List KeyStep) → HaveNewUniques before steps → HaveNewUniques before (steps ++ lost ∷ [])
+new_loss before [] have = tt
+new_loss before (made own c s a ∷ steps) have = (have.0, new_loss (uniques_with before (unique_stored s a)) steps have.1)
+new_loss before (lost ∷ steps) have = new_loss [] steps have
+
+uniques_loss : (before : List ℕ) (steps : List KeyStep) → uniques_after before (steps ++ lost ∷ []) ≡ []
+uniques_loss before [] = refl
+uniques_loss before (made own c s a ∷ steps) = uniques_loss (uniques_with before (unique_stored s a)) steps
+uniques_loss before (lost ∷ steps) = uniques_loss [] steps
+
+steps_loss : (entries : List MadeCall) (steps : List KeyStep) → AreStepsOf entries steps → AreStepsOf entries (steps ++ lost ∷ [])
+steps_loss [] [] are = tt
+steps_loss [] (made own c s a ∷ steps) are = absurd are
+steps_loss [] (lost ∷ steps) are = steps_loss [] steps are
+steps_loss (x ∷ entries) [] are = absurd are
+steps_loss (x ∷ entries) (made own c s a ∷ steps) are = (are.0, are.1, are.2, steps_loss entries steps are.3)
+steps_loss (x ∷ entries) (lost ∷ steps) are = steps_loss (x ∷ entries) steps are
+
 steps_push : (entries : List MadeCall) (steps : List KeyStep) (e : MadeCall) (after : Option Item) → AreStepsOf entries steps
     → AreStepsOf (entries ++ e ∷ []) (steps ++ made e.named.name e.named.call.call e.said after ∷ [])
 steps_push [] [] e after are = (refl, refl, refl, tt)
@@ -47,66 +76,102 @@ steps_push (x ∷ entries) (lost ∷ steps) e after are = steps_push (x ∷ entr
 
 -- ---- uniques
 
-used_on : (old new : Store) → ((unique : ℕ) → is_used old unique ≡ true → is_used new unique ≡ true) → (uniques : List ℕ) → AreUsed old uniques → AreUsed new uniques
-used_on old new more [] are = tt
-used_on old new more (unique ∷ uniques) are = (more unique are.0, used_on old new more uniques are.1)
+used_on : (old new : Store) (key : List ℕ) → ((unique : ℕ) → is_used old key unique ≡ true → is_used new key unique ≡ true) → (uniques : List ℕ) → AreUsed old key uniques → AreUsed new key uniques
+used_on old new key more [] are = tt
+used_on old new key more (unique ∷ uniques) are = (more unique are.0, used_on old new key more uniques are.1)
 
-none_of : (store : Store) (unique : ℕ) → is_used store unique ≡ false → (uniques : List ℕ) → AreUsed store uniques → IsNoneOf uniques unique
-none_of store unique fresh [] are = tt
-none_of store unique fresh (one ∷ uniques) are =
-    (λ same. let both : true ≡ false = sym are.0 ∙ ap (is_used store) (sym same) ∙ fresh in cc, none_of store unique fresh uniques are.1)
+none_of : (store : Store) (key : List ℕ) (unique : ℕ) → is_used store key unique ≡ false → (uniques : List ℕ) → AreUsed store key uniques → IsNoneOf uniques unique
+none_of store key unique fresh [] are = tt
+none_of store key unique fresh (one ∷ uniques) are =
+    (λ same. let both : true ≡ false = sym are.0 ∙ ap (is_used store key) (sym same) ∙ fresh in cc, none_of store key unique fresh uniques are.1)
 
-new_of : (old new : Store) (given : Option ℕ) (uniques : List ℕ) → IsNewlyUsed old new given → AreUsed old uniques → IsNewUnique uniques given
-new_of old new None uniques fresh are = tt
-new_of old new (Some unique) uniques fresh are = none_of old unique fresh.0 uniques are
+new_of : (old new : Store) (key : List ℕ) (given : Option ℕ) (uniques : List ℕ) → IsNewlyUsed old new key given → AreUsed old key uniques → IsNewUnique uniques given
+new_of old new key None uniques fresh are = tt
+new_of old new key (Some unique) uniques fresh are = none_of old key unique fresh.0 uniques are
 
-used_with : (old new : Store) (given : Option ℕ) (uniques : List ℕ) → IsNewlyUsed old new given → AreUsed new uniques → AreUsed new (uniques_with uniques given)
-used_with old new None uniques fresh are = are
-used_with old new (Some unique) uniques fresh are = (fresh.1, are)
+used_with : (old new : Store) (key : List ℕ) (given : Option ℕ) (uniques : List ℕ) → IsNewlyUsed old new key given → AreUsed new key uniques → AreUsed new key (uniques_with uniques given)
+used_with old new key None uniques fresh are = are
+used_with old new key (Some unique) uniques fresh are = (fresh.1, are)
 
 -- ---- one key
 
-module _ (old new : Store) (e : MadeCall) (makes : MakesCall old new e.named.call e.said) (key : List ℕ) where
+module _ (forget : Bool) (first : Option Item) (old new : Store) (e : MadeCall) (makes : MakesCall old new e.named.call e.said) (key : List ℕ) where
+  abbrev given : List ℕ
+  given = first_uniques first
+
   -- a call at the key is one more step
-  stands_here : (entries : List MadeCall) (steps : List KeyStep) → is_at_key (store_shards old) key e.named.call ≡ true → KeyStands old key entries steps
-      → KeyStands new key (entries ++ e ∷ []) (steps ++ made e.named.name e.named.call.call e.said (held_at new key) ∷ [])
+  stands_here : (entries : List MadeCall) (steps : List KeyStep) → is_at_key (store_shards old) key e.named.call ≡ true → KeyStands forget first old key entries steps
+      → KeyStands forget first new key (entries ++ e ∷ []) (steps ++ made e.named.name e.named.call.call e.said (held_at new key) ∷ [])
   stands_here entries steps about stands =
       let fresh = makes.fresh key about in
       record {
         calls = steps_push entries steps e (held_at new key) stands.calls;
-        allowed = allowed_push false None None steps e.named.name e.named.call.call e.said (held_at new key) stands.allowed
+        allowed = allowed_push forget first first steps e.named.name e.named.call.call e.said (held_at new key) stands.allowed
             (subst (λ (i : Option Item). Allows i e.named.call.call e.said (held_at new key)) (sym stands.ends) (makes.allowed key about));
-        ends = item_push None steps e.named.name e.named.call.call e.said (held_at new key);
-        new = new_push [] steps e.named.name e.named.call.call e.said (held_at new key) stands.new (new_of old new (unique_stored e.said (held_at new key)) (uniques_after [] steps) fresh stands.used);
-        used = subst (AreUsed new) (sym (uniques_push [] steps e.named.name e.named.call.call e.said (held_at new key)))
-            (used_with old new (unique_stored e.said (held_at new key)) (uniques_after [] steps) fresh (used_on old new makes.used (uniques_after [] steps) stands.used));
+        ends = item_push first steps e.named.name e.named.call.call e.said (held_at new key);
+        new = new_push given steps e.named.name e.named.call.call e.said (held_at new key) stands.new (new_of old new key (unique_stored e.said (held_at new key)) (uniques_after given steps) fresh stands.used);
+        used = subst (AreUsed new key) (sym (uniques_push given steps e.named.name e.named.call.call e.said (held_at new key)))
+            (used_with old new key (unique_stored e.said (held_at new key)) (uniques_after given steps) fresh (used_on old new key (makes.used key) (uniques_after given steps) stands.used));
       }
 
   -- another call is none
-  stands_else : (entries : List MadeCall) (steps : List KeyStep) → is_at_key (store_shards old) key e.named.call ≡ false → KeyStands old key entries steps → KeyStands new key entries steps
+  stands_else : (entries : List MadeCall) (steps : List KeyStep) → is_at_key (store_shards old) key e.named.call ≡ false → KeyStands forget first old key entries steps → KeyStands forget first new key entries steps
   stands_else entries steps differ stands = record {
     calls = stands.calls;
     allowed = stands.allowed;
     ends = stands.ends ∙ sym (makes.others key differ);
     new = stands.new;
-    used = used_on old new makes.used (uniques_after [] steps) stands.used;
+    used = used_on old new key (makes.used key) (uniques_after given steps) stands.used;
   }
 
-  stands_by : (b : Bool) → is_at_key (store_shards old) key e.named.call ≡ b → (entries : List MadeCall) (steps : List KeyStep) → KeyStands old key entries steps
-      → (more : List KeyStep) × KeyStands new key (entries ++ cond b (e ∷ []) []) more
+  stands_by : (b : Bool) → is_at_key (store_shards old) key e.named.call ≡ b → (entries : List MadeCall) (steps : List KeyStep) → KeyStands forget first old key entries steps
+      → (more : List KeyStep) × KeyStands forget first new key (entries ++ cond b (e ∷ []) []) more
   stands_by true about entries steps stands = (steps ++ made e.named.name e.named.call.call e.said (held_at new key) ∷ [], stands_here entries steps about stands)
   stands_by false differ entries steps stands =
-      (steps, subst (λ (l : List MadeCall). KeyStands new key l steps) (sym (append-nil entries)) (stands_else entries steps differ stands))
+      (steps, subst (λ (l : List MadeCall). KeyStands forget first new key l steps) (sym (append-nil entries)) (stands_else entries steps differ stands))
+
+module _ (forget : Bool) (first : Option Item) (old new : Store) (own : List ℕ) (loses : LosesItem old new own) (key : List ℕ) where
+  -- the item of the key was lost
+  lost_here : (entries : List MadeCall) (steps : List KeyStep) → key ≡ own → forget ≡ true → KeyStands forget first old key entries steps → KeyStands forget first new key entries (steps ++ lost ∷ [])
+  lost_here entries steps same may stands = record {
+    calls = steps_loss entries steps stands.calls;
+    allowed = allowed_loss forget first first steps may stands.allowed;
+    ends = item_loss first steps ∙ sym (ap (held_at new) same ∙ loses.here);
+    new = new_loss (first_uniques first) steps stands.new;
+    used = subst (AreUsed new key) (sym (uniques_loss (first_uniques first) steps)) tt;
+  }
+
+  -- the item of another key was lost
+  lost_else : (entries : List MadeCall) (steps : List KeyStep) → is_same key own ≡ false → KeyStands forget first old key entries steps → KeyStands forget first new key entries steps
+  lost_else entries steps differ stands = record {
+    calls = stands.calls;
+    allowed = stands.allowed;
+    ends = stands.ends ∙ sym (loses.others key differ);
+    new = stands.new;
+    used = used_on old new key (loses.used key differ) (uniques_after (first_uniques first) steps) stands.used;
+  }
+
+  lost_by : (b : Bool) → is_same key own ≡ b → (key ≡ own → forget ≡ true) → (entries : List MadeCall) (steps : List KeyStep) → KeyStands forget first old key entries steps
+      → (more : List KeyStep) × KeyStands forget first new key entries more
+  lost_by true same may entries steps stands = let is = same_key key own same in (steps ++ lost ∷ [], lost_here entries steps is (may is) stands)
+  lost_by false differ may entries steps stands = (steps, lost_else entries steps differ stands)
 
 -- ---- all keys
 
-pub stands_on : (old new : Store) (entries : List MadeCall) (e : MadeCall) → MakesCall old new e.named.call e.said → StandsAfter old entries → StandsAfter new (entries ++ e ∷ [])
-stands_on old new entries e makes stands key =
-    let at = λ (x : MadeCall). is_at_key (store_shards old) key x.named.call in
-    let more = stands_by old new e makes key (at e) refl (placed_at (store_shards old) key entries) (stands key).0 (stands key).1 in
-    let same : placed_at (store_shards new) key (entries ++ e ∷ []) ≡ placed_at (store_shards old) key entries ++ cond (at e) (e ∷ []) [] =
-    ap (λ (n : ℕ). placed_at n key (entries ++ e ∷ [])) makes.shards ∙ filter-append at entries (e ∷ []) in
-    (more.0, subst (λ (l : List MadeCall). KeyStands new key l more.0) (sym same) more.1)
+module _ (may_lose : List ℕ → Bool) (first : List ℕ → Option Item) where
+  pub stands_on : (old new : Store) (entries : List MadeCall) (e : MadeCall) → MakesCall old new e.named.call e.said → StandsAfter may_lose first old entries → StandsAfter may_lose first new (entries ++ e ∷ [])
+  stands_on old new entries e makes stands key =
+      let at = λ (x : MadeCall). is_at_key (store_shards old) key x.named.call in
+      let more = stands_by (may_lose key) (first key) old new e makes key (at e) refl (placed_at (store_shards old) key entries) (stands key).0 (stands key).1 in
+      let same : placed_at (store_shards new) key (entries ++ e ∷ []) ≡ placed_at (store_shards old) key entries ++ cond (at e) (e ∷ []) [] =
+      ap (λ (n : ℕ). placed_at n key (entries ++ e ∷ [])) makes.shards ∙ filter-append at entries (e ∷ []) in
+      (more.0, subst (λ (l : List MadeCall). KeyStands (may_lose key) (first key) new key l more.0) (sym same) more.1)
 
-pub nothing_stands : (shards : ℕ) (store : Store) → HoldsNothing shards store → StandsAfter store []
-nothing_stands shards store holds key = ([], record { calls = tt; allowed = tt; ends = sym (holds.none key); new = tt; used = tt })
+  pub stands_without : (old new : Store) (entries : List MadeCall) (own : List ℕ) → LosesItem old new own → may_lose own ≡ true → StandsAfter may_lose first old entries → StandsAfter may_lose first new entries
+  stands_without old new entries own loses may stands key =
+      let more = lost_by (may_lose key) (first key) old new own loses key (is_same key own) refl (λ same. ap may_lose same ∙ may) (placed_at (store_shards old) key entries) (stands key).0 (stands key).1 in
+      let same : placed_at (store_shards new) key entries ≡ placed_at (store_shards old) key entries = ap (λ (n : ℕ). placed_at n key entries) loses.shards in
+      (more.0, subst (λ (l : List MadeCall). KeyStands (may_lose key) (first key) new key l more.0) (sym same) more.1)
+
+  pub nothing_stands : (store : Store) → HoldsFirst first store → StandsAfter may_lose first store []
+  nothing_stands store holds key = ([], record { calls = tt; allowed = tt; ends = sym (holds.held key); new = tt; used = holds.used key })

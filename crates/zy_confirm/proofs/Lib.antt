@@ -4,5 +4,4 @@ pub mod ChainLemmas
 pub mod ChooseLemmas
 pub mod MakeLemmas
 pub mod TimingLemmas
-pub mod WalkLemmas
-pub mod CutLemmas
+pub mod BeginLemmas

@@ -28,7 +28,7 @@ same_by key other Less same is = absurd (cc)
 same_by key other Greater same is = absurd (cc)
 
 -- a key that is the same has the same bytes
-same_key : (key other : List ℕ) → is_same key other ≡ true → key ≡ other
+pub same_key : (key other : List ℕ) → is_same key other ≡ true → key ≡ other
 same_key key other is = same_by key other (slice_cmp nat_cmp key other) refl is
 
 -- a call with a key is about that key only
@@ -60,8 +60,8 @@ module _ (old new : Store) (call : ShardCall) (own : List ℕ) (unique : ℕ) (o
   allowed_own : Allows (held_at old own) call.call o.said (held_at new own)
   allowed_own = subst (Allows (held_at old own) call.call o.said) (sym changes.here) chosen.allowed
 
-  fresh_own : IsNewlyUsed old new (unique_stored o.said (held_at new own))
-  fresh_own = subst (IsNewlyUsed old new) (sym (ap (unique_stored o.said) changes.here ∙ chosen.given)) changes.fresh
+  fresh_own : IsNewlyUsed old new own (unique_stored o.said (held_at new own))
+  fresh_own = subst (IsNewlyUsed old new own) (sym (ap (unique_stored o.said) changes.here ∙ chosen.given)) changes.fresh
 
   others_kept : (key : List ℕ) → is_at_key (store_shards old) key call ≡ false → held_at new key ≡ held_at old key
   others_kept key differ =
@@ -79,7 +79,7 @@ module _ (old new : Store) (call : ShardCall) (own : List ℕ) (unique : ℕ) (o
   made_at = record {
     shards = changes.shards;
     allowed = λ key about. subst (λ (k : List ℕ). Allows (held_at old k) call.call o.said (held_at new k)) (at_own key about) allowed_own;
-    fresh = λ key about. subst (λ (k : List ℕ). IsNewlyUsed old new (unique_stored o.said (held_at new k))) (at_own key about) fresh_own;
+    fresh = λ key about. subst (λ (k : List ℕ). IsNewlyUsed old new k (unique_stored o.said (held_at new k))) (at_own key about) fresh_own;
     others = others_kept;
     used = changes.used;
   }

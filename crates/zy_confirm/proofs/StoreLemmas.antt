@@ -13,7 +13,7 @@ use Rattle.mc_calls.specs.declared.item.Item.{Item}
 use Rattle.mc_calls.specs.Key.{shard_of}
 use Rattle.zy_confirm.specs.declared.store.Store.{Store}
 use Rattle.zy_confirm.specs.declared.outcome.After.TheVariants.{Put, Gone}
-use Rattle.zy_confirm.specs.Store.{item_on_shard, store_shards, held_at, is_used, ChangesAt}
+use Rattle.zy_confirm.specs.Store.{item_on_shard, store_shards, held_at, ChangesAt, LosesItem}
 
 pub set_same : {A : Type 0} (xs : List A) (i : ℕ) (y : A) → i < length xs → slice_get (slice_set xs i y) i ≡ Some y
 set_same [] i y within = absurd (omega arith)
@@ -79,15 +79,15 @@ is_not false is = refl
 
 module _ (old new : Store) (key : List ℕ) (s : ℕ) (items items' : BTreeMap (List ℕ) Item) (within : s < store_shards old) (own : s ≡ shard_of key (store_shards old))
     (was : slice_get old.shards.items s ≡ Some items) (is : new.shards.items ≡ slice_set old.shards.items s items') where
-  pub put_changes : (item : Item) → Updates (slice_cmp nat_cmp) items items' key (Some item) → true ≡ not (is_used old item.unique)
-      → ((one : ℕ) → is_used new one ≡ cond (is_at (nat_cmp item.unique) one) true (is_used old one)) → is_used new item.unique ≡ true
+  pub put_changes : (item : Item) → Updates (slice_cmp nat_cmp) items items' key (Some item) → true ≡ not (contains nat_cmp old.used item.unique)
+      → ((one : ℕ) → contains nat_cmp new.used one ≡ cond (is_at (nat_cmp item.unique) one) true (contains nat_cmp old.used one)) → contains nat_cmp new.used item.unique ≡ true
       → ChangesAt old new key item.unique (Put item.flags item.value)
   put_changes item updates fresh used given = record {
     shards = same_count old new s items items' within was is;
     here = held_here old new s items items' within was is key (sym own) ∙ updates.1;
     others = λ other differ. held_else old new s items items' within was is key (Some item) updates.0 other differ;
-    used = λ one known. used one ∙ kept_true (is_at (nat_cmp item.unique) one) (is_used old one) known;
-    fresh = (is_not (is_used old item.unique) fresh, given);
+    used = λ any one known. used one ∙ kept_true (is_at (nat_cmp item.unique) one) (contains nat_cmp old.used one) known;
+    fresh = (is_not (contains nat_cmp old.used item.unique) fresh, given);
   }
 
   pub gone_changes : Updates (slice_cmp nat_cmp) items items' key None → new.used ≡ old.used → ChangesAt old new key 0 Gone
@@ -95,9 +95,13 @@ module _ (old new : Store) (key : List ℕ) (s : ℕ) (items items' : BTreeMap (
     shards = same_count old new s items items' within was is;
     here = held_here old new s items items' within was is key (sym own) ∙ updates.1;
     others = λ other differ. held_else old new s items items' within was is key None updates.0 other differ;
-    used = λ one known. ap (λ u. contains nat_cmp u one) used ∙ known;
+    used = λ any one known. ap (λ u. contains nat_cmp u one) used ∙ known;
     fresh = tt;
   }
+
+-- a removal is a loss
+pub gone_loses : (old new : Store) (key : List ℕ) → ChangesAt old new key 0 Gone → LosesItem old new key
+gone_loses old new key changes = record { shards = changes.shards; here = changes.here; others = changes.others; used = λ other differ. changes.used other }
 
 -- ---- no items
 

@@ -76,7 +76,7 @@ module _ (records : List Record) (conn session : ℕ) (sent marks : List ℕ) (a
       (λ early. let first = (are_marks.each number m is).1.first moment early in absurd (omega (arith, first, come)))
       (λ late. omega (arith, late))
 
-  pub fits : length answered ≡ length sent → AreMatched sent marks answered (length answered) → length marks ≤ trues answered → (moment : ℕ) → MarksFitIn records conn session answered moment
+  pub fits : length answered ≤ length sent → AreMatched sent marks answered (length answered) → length marks ≤ trues answered → (moment : ℕ) → MarksFitIn records conn session answered moment
   fits size matched enough moment = by_count (marks_at records conn session moment) refl
     where
       by_count : (count : ℕ) → marks_at records conn session moment ≡ count → count ≤ trues (take (sent_in records conn session moment) answered)

@@ -1,11 +1,12 @@
 -- What a call does at its key, with what its server chose. No public clause cites this module.
-use Rattle.std.specs.Prelude.{◌≡◌, ℕ, List, length, Option, None, Some}
+use Rattle.std.specs.Prelude.{◌≡◌, ℕ, ◌+◌, ◌<◌, true, List, length, Option, None, Some}
 use Rattle.mc_allows.specs.declared.said.Said.TheVariants.{Replied}
-use Rattle.mc_allows.specs.Values.{IsNumberText}
-use Rattle.mc_allows.specs.Allows.{Allows}
+use Rattle.mc_allows.specs.Values.{may_read_none, IsNumberText}
+use Rattle.mc_allows.specs.Allows.{Allows, IsRefusal, sure_limit}
 use Rattle.mc_allows.specs.Steps.{unique_stored}
 use Rattle.mc_calls.specs.declared.call.Call.{Call}
-use Rattle.mc_calls.specs.declared.call_reply.CallReply.TheVariants.{Number}
+use Rattle.mc_calls.specs.declared.call_reply.CallReply.{CallReply}
+use Rattle.mc_calls.specs.declared.call_reply.CallReply.TheVariants.{Number, NotNumber}
 use Rattle.mc_calls.specs.declared.item.Item.{Item}
 use Rattle.zy_confirm.specs.declared.outcome.After.{After}
 use Rattle.zy_confirm.specs.declared.outcome.After.TheVariants.{Same, Gone, Put}
@@ -36,3 +37,15 @@ pub record IsCounted (item : Item) (number : ℕ) (o : Outcome) : Type 0 where
   pub value : List ℕ
   pub text : IsNumberText number (length item.value) value
   pub is : o ≡ record { said = Replied (Number number); after = Put item.flags value }
+
+-- the value to which a piece was to be joined is long with it, and was not joined
+pub record IsJoinRefused (item : Item) (piece : List ℕ) (o : Outcome) : Type 0 where
+  pub reply : CallReply
+  pub refusal : IsRefusal reply
+  pub long : sure_limit < length item.value + length piece
+  pub is : o ≡ record { said = Replied reply; after = Same }
+
+-- no number was found in the item's value
+pub record IsNotCounted (item : Item) (o : Outcome) : Type 0 where
+  pub none : may_read_none item.value ≡ true
+  pub is : o ≡ record { said = Replied NotNumber; after = Same }

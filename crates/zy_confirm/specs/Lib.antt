@@ -1,4 +1,3 @@
 pub mod Choosing
 pub mod Store
-pub mod Walk
-pub mod Cutting
+pub mod NextText

@@ -7,7 +7,8 @@ use Rattle.std.specs.BTreeMap.{BTreeMap, get}
 use Rattle.std.specs.BTreeSet.{contains}
 use Rattle.mc_allows.specs.declared.said.Said.{Said}
 use Rattle.mc_allows.specs.Allows.{Allows}
-use Rattle.mc_allows.specs.Steps.{KeyStep, made, lost, is_same, AreAllowed, item_after, unique_stored, uniques_with, HaveNewUniques}
+use Rattle.mc_allows.specs.Steps.{KeyStep, made, lost, is_same, AreAllowed, item_after}
+use Rattle.mc_allows.specs.Steps.{unique_stored, uniques_with, first_uniques, HaveNewUniques}
 use Rattle.mc_calls.specs.declared.item.Item.{Item}
 use Rattle.mc_calls.specs.Key.{shard_of}
 use Rattle.mc_parse.specs.declared.shard_call.ShardCall.{ShardCall}
@@ -31,14 +32,24 @@ store_shards store = length store.shards.items
 abbrev pub held_at : Store → List ℕ → Option Item
 held_at store key = item_on_shard (slice_get store.shards.items (shard_of key (store_shards store))) key
 
--- the unique was given to an item
-abbrev pub is_used : Store → ℕ → Bool
-is_used store unique = contains nat_cmp store.used unique
+-- the unique was given to an item of a key since the last loss of one, or to another item
+abbrev pub is_used : Store → List ℕ → ℕ → Bool
+is_used store key unique = contains nat_cmp store.used unique
+
+-- each of these uniques was given to an item of a key
+abbrev pub AreUsed : Store → List ℕ → List ℕ → Type 0
+AreUsed store key [] = Unit {0}
+AreUsed store key (unique ∷ uniques) = (is_used store key unique ≡ true) × AreUsed store key uniques
 
 -- a store of this many shards without items
 pub record HoldsNothing (shards : ℕ) (store : Store) : Type 0 where
   pub count : store_shards store ≡ shards
   pub none : (key : List ℕ) → held_at store key ≡ None
+
+-- a store with these items, whose uniques were given
+pub record HoldsFirst (first : List ℕ → Option Item) (store : Store) : Type 0 where
+  pub held : (key : List ℕ) → held_at store key ≡ first key
+  pub used : (key : List ℕ) → AreUsed store key (first_uniques (first key))
 
 -- ---- one call
 
@@ -47,25 +58,37 @@ abbrev pub IsOnItsShard : ℕ → Option (List ℕ) → ℕ → Type 0
 IsOnItsShard shards None shard = shard < shards
 IsOnItsShard shards (Some key) shard = shard ≡ shard_of key shards
 
--- the unique of an item that was stored was not given before, and is now
-abbrev pub IsNewlyUsed : Store → Store → Option ℕ → Type 0
-IsNewlyUsed before after None = Unit {0}
-IsNewlyUsed before after (Some unique) = (is_used before unique ≡ false) × (is_used after unique ≡ true)
+-- the unique of an item that was stored at a key was not given to one of it before, and is now
+abbrev pub IsNewlyUsed : Store → Store → List ℕ → Option ℕ → Type 0
+IsNewlyUsed before after key None = Unit {0}
+IsNewlyUsed before after key (Some unique) = (is_used before key unique ≡ false) × (is_used after key unique ≡ true)
+
+-- the uniques that were given stay so
+abbrev pub KeepsUniques : Store → Store → Type 0
+KeepsUniques before after = (key : List ℕ) (unique : ℕ) → is_used before key unique ≡ true → is_used after key unique ≡ true
 
 -- a store was changed at one key only, where an item that was stored got this unique
 pub record ChangesAt (before after : Store) (key : List ℕ) (unique : ℕ) (change : After) : Type 0 where
   pub shards : store_shards after ≡ store_shards before
   pub here : held_at after key ≡ after_by (held_at before key) unique change
   pub others : (other : List ℕ) → is_same other key ≡ false → held_at after other ≡ held_at before other
-  pub used : (one : ℕ) → is_used before one ≡ true → is_used after one ≡ true
-  pub fresh : IsNewlyUsed before after (unique_given unique change)
+  pub used : KeepsUniques before after
+  pub fresh : IsNewlyUsed before after key (unique_given unique change)
+
+-- the item of a key was lost, if there was one
+pub record LosesItem (before after : Store) (key : List ℕ) : Type 0 where
+  pub shards : store_shards after ≡ store_shards before
+  pub here : held_at after key ≡ None
+  pub others : (other : List ℕ) → is_same other key ≡ false → held_at after other ≡ held_at before other
+  pub used : (other : List ℕ) → is_same other key ≡ false → (unique : ℕ) → is_used before other unique ≡ true
+      → is_used after other unique ≡ true
 
 -- the items of one shard were removed
 pub record Clears (before after : Store) (shard : ℕ) : Type 0 where
   pub shards : store_shards after ≡ store_shards before
   pub here : (key : List ℕ) → shard_of key (store_shards before) ≡ shard → held_at after key ≡ None
   pub others : (key : List ℕ) → (shard_of key (store_shards before) ≡ shard → ⊥) → held_at after key ≡ held_at before key
-  pub used : (one : ℕ) → is_used before one ≡ true → is_used after one ≡ true
+  pub used : KeepsUniques before after
 
 -- a call that was answered so led from one store to another
 pub record MakesCall (before after : Store) (call : ShardCall) (said : Said) : Type 0 where
@@ -73,9 +96,9 @@ pub record MakesCall (before after : Store) (call : ShardCall) (said : Said) : T
   pub allowed : (key : List ℕ) → is_at_key (store_shards before) key call ≡ true
       → Allows (held_at before key) call.call said (held_at after key)
   pub fresh : (key : List ℕ) → is_at_key (store_shards before) key call ≡ true
-      → IsNewlyUsed before after (unique_stored said (held_at after key))
+      → IsNewlyUsed before after key (unique_stored said (held_at after key))
   pub others : (key : List ℕ) → is_at_key (store_shards before) key call ≡ false → held_at after key ≡ held_at before key
-  pub used : (unique : ℕ) → is_used before unique ≡ true → is_used after unique ≡ true
+  pub used : KeepsUniques before after
 
 -- ---- chains
 
@@ -85,20 +108,16 @@ uniques_after before [] = before
 uniques_after before (made name call said after ∷ steps) = uniques_after (uniques_with before (unique_stored said after)) steps
 uniques_after before (lost ∷ steps) = uniques_after [] steps
 
--- each of these uniques was given
-abbrev pub AreUsed : Store → List ℕ → Type 0
-AreUsed store [] = Unit {0}
-AreUsed store (unique ∷ uniques) = (is_used store unique ≡ true) × AreUsed store uniques
-
--- the entries at a key are allowed steps from no item to what the store has
-pub record KeyStands (store : Store) (key : List ℕ) (entries : List MadeCall) (steps : List KeyStep) : Type 0 where
+-- the entries at a key that had this first, and whose items may be lost or not, are allowed steps to what the store has
+pub record KeyStands (forget : Bool) (first : Option Item) (store : Store) (key : List ℕ) (entries : List MadeCall)
+    (steps : List KeyStep) : Type 0 where
   pub calls : AreStepsOf entries steps
-  pub allowed : AreAllowed false None None steps
-  pub ends : item_after None steps ≡ held_at store key
-  pub new : HaveNewUniques [] steps
-  pub used : AreUsed store (uniques_after [] steps)
+  pub allowed : AreAllowed forget first first steps
+  pub ends : item_after first steps ≡ held_at store key
+  pub new : HaveNewUniques (first_uniques first) steps
+  pub used : AreUsed store key (uniques_after (first_uniques first) steps)
 
--- the same at each key
-abbrev pub StandsAfter : Store → List MadeCall → Type 0
-StandsAfter store entries = (key : List ℕ) → (steps : List KeyStep)
-    × KeyStands store key (placed_at (store_shards store) key entries) steps
+-- the same at each key, if the items of these keys may be lost
+abbrev pub StandsAfter : (List ℕ → Bool) → (List ℕ → Option Item) → Store → List MadeCall → Type 0
+StandsAfter may_lose first store entries = (key : List ℕ) → (steps : List KeyStep)
+    × KeyStands (may_lose key) (first key) store key (placed_at (store_shards store) key entries) steps

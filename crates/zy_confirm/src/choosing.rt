@@ -4,7 +4,9 @@ ghost use Rattle.mc_calls.specs.declared.call.Call.TheVariants.{Cas};
 ghost use Rattle.zy_confirm.specs.Choosing.{IsAnyChosen};
 
 use crate::counting::{count_down, count_up};
+use crate::failing::fail;
 use crate::outcome::{After, Outcome};
+use crate::refusing::refuse;
 use mc_allows::Said;
 use mc_calls::{Call, CallReply, Item};
 use std::alloc::Global;
@@ -25,7 +27,10 @@ pub(crate) fn choose(
         (Choice::Plain | Choice::Padded | Choice::Read(_), Some(item)) => {
             with(alloc, call, item, choice)
         }
-        _ => Ok(None),
+        (Choice::Failed, _) => Ok(fail(call, false)),
+        (Choice::FailedAndGone, _) => Ok(fail(call, true)),
+        (_, Some(item)) => Ok(refuse(call, item, choice)),
+        (_, None) => Ok(None),
     }
 }
 
@@ -78,8 +83,8 @@ fn with(
     }
 }
 
-// Gives this reply, and leaves the key as it is.
-fn say(reply: CallReply) -> Outcome
+/// Gives this reply, and leaves the key as it is.
+pub(crate) fn say(reply: CallReply) -> Outcome
     ensures value { result ≡ record { said = Said.Replied reply; after = After.Same } }
 {
     Outcome {

@@ -1,7 +1,7 @@
 //! The items of a server at a point of an order.
 ghost use Rattle.std.specs.Prelude.{◌≡◌, ◌<◌, None, true, option_copied, IfOk, OnOk};
 ghost use Rattle.mc_calls.specs.Key.{shard_of};
-ghost use Rattle.zy_confirm.specs.Store.{store_shards, held_at, ChangesAt, Clears, HoldsNothing};
+ghost use Rattle.zy_confirm.specs.Store.{store_shards, held_at, ChangesAt, LosesItem, Clears, HoldsNothing};
 
 use crate::outcome::After;
 use mc_calls::Item;
@@ -77,8 +77,8 @@ impl Store {
         }
     }
 
-    // Puts an item at a key, which is on this shard, if its unique is new.
-    fn put(&mut self, shard: u32, key: &Blob, item: Item) -> Result<bool, NoMemory>
+    /// Puts an item at a key, which is on this shard, if its unique is new. Returns whether it is.
+    pub fn put(&mut self, shard: u32, key: &Blob, item: Item) -> Result<bool, NoMemory>
         requires within { shard < store_shards self.old }
         requires own { shard ≡ shard_of key.now (store_shards self.old) }
         ensures changed { IfOk result (λ new. new ≡ true
@@ -121,6 +121,15 @@ impl Store {
         ensures changed { ChangesAt self.old self.new key.now 0 After.Gone }
     {
         drop(self.shards[shard as usize].remove(key));
+    }
+
+    /// Loses the item of a key, which is on this shard.
+    pub fn lose(&mut self, shard: u32, key: &Blob)
+        requires within { shard < store_shards self.old }
+        requires own { shard ≡ shard_of key.now (store_shards self.old) }
+        ensures lost { LosesItem self.old self.new key.now }
+    {
+        self.remove(shard, key);
     }
 
     // Removes all items of a shard.

@@ -8,9 +8,9 @@ ghost use Rattle.zy_times.specs.Times.{trues, number_if};
 ghost use Rattle.zy_verdict.specs.Numbers.{ended_among};
 
 /// Checks whether the marks of a session fit, by the moments at which its commands were sent and
-/// its marks came.
+/// its marks came. Commands past the end of the flags are not answered.
 pub fn marks_fit(sent: &[u32], marks: &[u32], answered: &[bool]) -> bool
-    requires size { length answered.now ≡ length sent.now }
+    requires size { length answered.now ≤ length sent.now }
     ensures fit { result ≡ true → (records : List Record) (conn session : ℕ)
         → AreRises (sent_in records conn session) (length records) sent.now
         → AreRises (marks_at records conn session) (length records) marks.now
