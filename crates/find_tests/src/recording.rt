@@ -3,7 +3,8 @@ use mc_allows::{CallName, Shown};
 use mc_calls::{Call, CallReply};
 use std::alloc::Global;
 use zy_base::{Blob, NoMemory};
-use zy_find::{Found, Observed, Rules, find};
+use zy_find::{Found, Rules, find};
+use zy_refute::Observed;
 use zy_verdict::Placement;
 
 /// What a call does, and what its answer shows.

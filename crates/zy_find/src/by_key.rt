@@ -1,9 +1,9 @@
 //! The calls at each key.
 
-use crate::observed::Observed;
 use mc_calls::Call;
 use std::alloc::Global;
 use zy_base::{Blob, NoMemory};
+use zy_refute::Observed;
 
 // A call and its key.
 #[derive(PartialEq, Eq, PartialOrd, Ord, Drop)]

@@ -1,12 +1,12 @@
 //! What a key has after a call, if what its answer shows can be so.
 
 use crate::held::{Held, Known};
-use crate::observed::Observed;
 use crate::order::Rules;
 use mc_allows::{Shown, padded_number};
 use mc_calls::{Call, CallReply};
 use std::alloc::Global;
 use zy_base::{Blob, NoMemory, VALUE_LIMIT, number_text};
+use zy_refute::Observed;
 use zy_verdict::Choice;
 
 /// What a key has after a call, and what the server chose.

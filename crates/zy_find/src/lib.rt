@@ -7,12 +7,11 @@ mod deciding;
 mod held;
 mod merging;
 mod numbering;
-mod observed;
 mod order;
 mod ordering;
 mod quick;
 mod searching;
+mod sessions;
 
-pub use observed::Observed;
 pub use order::{Found, Rules};
 pub use ordering::find;

@@ -1,10 +1,11 @@
 //! One order of all calls, from those at the keys.
 
-use crate::observed::Observed;
 use crate::order::{Found, Placed};
+use crate::sessions::are_of_one_session;
 use mc_calls::Call;
 use std::alloc::Global;
 use zy_base::NoMemory;
+use zy_refute::Observed;
 use zy_verdict::{Choice, Order, Placement};
 
 // The order of a key: how many of its calls are merged, and the moment of the last of them.
@@ -131,7 +132,7 @@ fn follows(observed: &[Observed], call: usize) -> bool {
         call.checked_sub(1).and_then(|before| observed.get(before)),
         observed.get(call),
     ) {
-        (Some(before), Some(one)) => before.is_beside(one),
+        (Some(before), Some(one)) => are_of_one_session(before, one),
         _ => false,
     }
 }

@@ -3,12 +3,13 @@
 use crate::by_key::by_key;
 use crate::merging::merge;
 use crate::numbering::Numbering;
-use crate::observed::Observed;
 use crate::order::{Found, Placed, Rules};
 use crate::quick::{Run, run_through};
 use crate::searching::look_for;
+use crate::sessions::end_of;
 use std::alloc::Global;
 use zy_base::NoMemory;
+use zy_refute::Observed;
 
 /// Looks for an order of the calls of a recording. The calls of each session stand together, in their
 /// order. At most `most` steps are taken at a key for each of its calls. May answer `NoMemory`.
@@ -96,7 +97,7 @@ fn sorted(
     for call in list {
         let time = match observed.get(*call) {
             Some(one) if by == By::Sending => one.sent,
-            Some(one) => one.end(),
+            Some(one) => end_of(one),
             None => u64::MAX,
         };
         timed.push((time, *call))?;

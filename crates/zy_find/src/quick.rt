@@ -2,11 +2,11 @@
 
 use crate::deciding::{Decided, decide};
 use crate::held::Held;
-use crate::observed::Observed;
 use crate::order::{Placed, Rules};
 use std::alloc::Global;
 use std::mem;
 use zy_base::NoMemory;
+use zy_refute::Observed;
 use zy_verdict::Choice;
 
 /// What is known of the unique that a call gave.

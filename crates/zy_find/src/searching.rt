@@ -2,11 +2,12 @@
 //! verifying concurrent objects", 1993).
 
 use crate::deciding::Decided;
-use crate::observed::Observed;
 use crate::order::Rules;
 use crate::quick::Run;
+use crate::sessions::{are_of_one_session, end_of};
 use std::alloc::Global;
 use zy_base::NoMemory;
+use zy_refute::Observed;
 
 // Where the search may go back to: how many calls were made, and where the next choice begins.
 #[derive(Clone, Copy)]
@@ -98,7 +99,7 @@ fn is_sure(observed: &[Observed], call: usize) -> bool {
 fn is_blocked(observed: &[Observed], waiting: &[usize], one: &Observed) -> bool {
     for call in waiting {
         if let Some(other) = observed.get(*call)
-            && other.is_beside(one)
+            && are_of_one_session(other, one)
         {
             return true;
         }
@@ -179,7 +180,7 @@ impl Search {
             if self.is_made(at) {
                 continue;
             }
-            until = until.min(one.end());
+            until = until.min(end_of(one));
             let blocked = is_blocked(observed, &waiting, one);
             waiting.push(list[at])?;
             if blocked {
