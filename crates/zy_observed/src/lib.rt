@@ -1,0 +1,8 @@
+//! Calls as a recording shows them, and which of its keys have no course.
+#![tactic(auto)]
+
+mod laws;
+mod refuting;
+
+pub use laws::a_course_is_an_order;
+pub use refuting::{Refuted, Rule, refute_key};
