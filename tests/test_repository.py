@@ -13,8 +13,8 @@ from checks import LONGEST, TOP, built_program, cases, fail, run, same, skip, wr
 from zygos_tools.repository import matching
 from zygos_tools.starting import LEAST
 
-# the packages of the tools whose types are checked
-TYPED = ("cli", "files", "protocol", "judging", "comparing", "showing", "playing", "recording")
+# the packages of the tools: each imports only those before it
+PACKAGES = ("files", "protocol", "cli", "recording", "judging", "comparing", "showing", "playing", "trying")
 
 
 def read(name):
@@ -128,14 +128,24 @@ def is_annotated(node):
     return isinstance(node, ast.AnnAssign) or is_argument or bool(getattr(node, "returns", None))
 
 
+def packages():
+    """Packages are imported one way only: none imports one that comes after it."""
+    same("all packages are listed", sorted(PACKAGES), sorted(
+        os.path.basename(os.path.dirname(path)) for path in glob.glob(f"{TOP}/tools/zygos_tools/*/__init__.py")))
+    for at, name in enumerate(PACKAGES):
+        for path in glob.glob(f"{TOP}/tools/zygos_tools/{name}/**/*.py", recursive=True):
+            imported = re.findall(r"^ *(?:from|import) zygos_tools(?:\.| import )(\w+)", read(path), re.M)
+            same(f"{path}: imports of later packages", set(), set(imported) & set(PACKAGES[at + 1 :]))
+
+
 def types():
-    """mypy finds nothing in the packages with types, in its strict mode."""
+    """mypy finds nothing in any package, in its strict mode."""
     if not shutil.which("mypy"):
         skip("mypy is not installed (Debian: mypy)")
-    words = [word for name in TYPED for word in ("-p", f"zygos_tools.{name}")]
+    words = [word for name in PACKAGES for word in ("-p", f"zygos_tools.{name}")]
     ran = subprocess.run(["mypy", "--strict", "--python-version", "%d.%d" % LEAST, "--no-error-summary", "--cache-dir", "/dev/null", *words], check=False,
                          capture_output=True, timeout=LONGEST, cwd=os.path.join(TOP, "tools"))
-    places = tuple(f"zygos_tools/{name}/" for name in TYPED)
+    places = tuple(f"zygos_tools/{name}/" for name in PACKAGES)
     found = [line for line in (ran.stdout + ran.stderr).decode().splitlines() if line.startswith(places)]
     same("what mypy finds", [], found)
 
@@ -177,7 +187,7 @@ def gates():
                  process.stdout.read().splitlines()[-1])
 
 
-Tests = cases(pages, listed_crates, upkeep, english, instructions, flakes, old_pythons, types, gates)
+Tests = cases(pages, listed_crates, upkeep, english, instructions, flakes, old_pythons, packages, types, gates)
 
 if __name__ == "__main__":
     unittest.main()

@@ -1,14 +1,24 @@
 """What clients send: commands of chosen kinds on the same keys."""
+from __future__ import annotations
+
+import random
+from collections.abc import Iterable, Sequence
+
+from zygos_tools.files.formats import Reply
+from zygos_tools.protocol.meaning import Command
+
+
 class Client:
     """What a client sends: commands of these kinds on these keys."""
 
     # a unique of no item
     nobodys = 99999
 
-    def __init__(self, number, draw, keys, kinds):
-        self.number, self.draw, self.keys, self.kinds, self.sent, self.uniques = number, draw, keys, kinds.split(), 0, {}
+    def __init__(self, number: int, draw: random.Random, keys: Sequence[bytes], kinds: str) -> None:
+        self.number, self.draw, self.keys, self.kinds, self.sent = number, draw, keys, kinds.split(), 0
+        self.uniques: dict[bytes, int] = {}
 
-    def command(self):
+    def command(self) -> bytes:
         """The bytes of the next command."""
         draw, kind, key = self.draw, self.draw.choice(self.kinds), self.draw.choice(self.keys)
         self.sent += 1
@@ -29,14 +39,14 @@ class Client:
             return self.quiet(key, value)
         return SENT[kind] % {b"key": key, b"flags": flags, b"size": size, b"value": value, b"amount": draw.choice((1, 7))}
 
-    def quiet(self, key, value):
+    def quiet(self, key: bytes, value: bytes) -> bytes:
         """A batch of quiet meta commands on different keys."""
         some = self.draw.sample(self.keys, min(3, len(self.keys)))
         lines = [b"mg %s v k q\r\n", b"ms %%s %d k q\r\n%s\r\n" % (len(value), value), b"md %s k q\r\n",
                  b"ms %%s %d k q ME\r\n%s\r\n" % (len(value), value)]
         return b"".join(self.draw.choice(lines) % key for key in some) + b"mn\r\n"
 
-    def learn(self, command, replies):
+    def learn(self, command: Command, replies: Iterable[Reply]) -> None:
         for key, reply in zip(command.keys, replies):
             if command.verb == "gets" and reply.name == "hit":
                 self.uniques[key] = reply.unique

@@ -30,7 +30,8 @@ from zygos_tools.cli import ends
 from zygos_tools.recording import places
 from zygos_tools.trying.servers import FAULTS, Server
 
-OPTIONS = {"--listen": places.OPTION, "--connections": ends.number(1, 10**9), "--seed": ends.number(0)}
+OPTIONS: dict[str, ends.Option | None] = {
+    "--listen": places.OPTION, "--connections": ends.number(1, 10**9), "--seed": ends.number(0)}
 
 
 async def serve(server: Server, listening: list[socket.socket], most: int | None) -> None:
@@ -56,7 +57,7 @@ def main(words: list[str]) -> None:
     if len(faults) > 1 or not set(faults) <= set(FAULTS):
         ends.stop(f"one fault is taken, of {', '.join(FAULTS)}; --help says more", 2)
     server = FAULTS[faults[0]] if faults else Server
-    listening = places.listening(given.get("--listen") or places.place("127.0.0.1:0"))
+    listening = places.listening(given.get("--listen") or places.Place("127.0.0.1:0", "127.0.0.1", 0))
     ends.handle_endings(signal.SIG_DFL)  # there is nothing to complete
     asyncio.run(serve(server(given.get("--seed", 1)), listening, given.get("--connections")))
     places.forget(listening)

@@ -34,17 +34,18 @@ import re
 import signal
 import socket
 import time
-from collections.abc import Sequence
 from typing import Any, NamedTuple
 
 from zygos_tools.cli import ends
-from zygos_tools.protocol.pace import NEVER, Answers, Commands, Pending
+from zygos_tools.protocol.pace import NEVER, Answers, Command, Commands, Pending
 from zygos_tools.recording import places
 from zygos_tools.trying.clients import KINDS, Client
 
-KINDS_OF = "names of commands, separated by spaces", lambda word: word if word and set(word.split()) <= set(KINDS) else None
-OPTIONS = {**dict.fromkeys(("--clients", "--commands", "--keys", "--in-flight"), ends.number(1)), "--seed": ends.number(0),
-           "--kinds": KINDS_OF}
+KINDS_OF: ends.Option = ("names of commands, separated by spaces",
+                         lambda word: word if word and set(word.split()) <= set(KINDS) else None)
+OPTIONS: dict[str, ends.Option | None] = {
+    **dict.fromkeys(("--clients", "--commands", "--keys", "--in-flight"), ends.number(1)), "--seed": ends.number(0),
+    "--kinds": KINDS_OF}
 SHOWN = re.compile(rb"VALUE ([^ ]+) [0-9]+ [0-9]+ ([0-9]+)\r\n")
 # the seconds in which a server may begin to listen, and after how many the clients look again
 PATIENCE, PAUSE = 30, 0.05
@@ -65,13 +66,13 @@ class Load(NamedTuple):
 class Sent(NamedTuple):
     """A command that waits for its answer."""
 
-    command: Any
+    command: Command
 
 
 class Skewed(random.Random):
     """Draws the first keys of a list much more often than the last ones."""
 
-    def choice(self, seq: Sequence[Any]) -> Any:
+    def choice(self, seq: Any) -> Any:
         if seq and isinstance(seq[0], bytes):
             return seq[min(int(self.paretovariate(0.7)) - 1, self.randrange(len(seq)))]
         return super().choice(seq)
@@ -108,7 +109,8 @@ async def run_client(place: places.Place, number: int, load: Load, until: float)
     one = Client(number, draw, [b"key:%d" % at for at in range(load.keys)], load.kinds)
     # a long recording has more stores than a simulated one
     one.nobodys = (1 << 63) - 1
-    commands, answers, pending, left = Commands(), Answers(), Pending(), load.commands
+    commands, answers, left = Commands(), Answers(), load.commands
+    pending: Pending[Sent] = Pending()
     while left:
         count = min(left, draw.randint(1, load.in_flight))
         text = b"".join(one.command() for _ in range(count))

@@ -126,7 +126,7 @@ class Swapped(Server):
 
     async def swapped(self, text: bytes) -> bytes:
         """The answer of another client, or this one if no other client reads."""
-        taken = asyncio.get_running_loop().create_future()
+        taken: asyncio.Future[bytes] = asyncio.get_running_loop().create_future()
         self.held = text, taken
         await asyncio.wait([taken], timeout=PATIENCE)
         if taken.done():
