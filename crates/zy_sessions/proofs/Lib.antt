@@ -1,0 +1,5 @@
+pub mod StreamLemmas
+pub mod KeyLemmas
+pub mod NoteLemmas
+pub mod MomentLemmas
+pub mod OtherLemmas

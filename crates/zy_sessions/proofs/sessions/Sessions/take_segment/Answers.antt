@@ -1,0 +1,20 @@
+use Rattle.std.proofs.Common.{refl, arith}
+use Rattle.std.proofs.lemmas.Option.{slice_get_read}
+use Rattle.zy_capture.specs.declared.record.Record.TheVariants as Kinds
+use Rattle.zy_sessions.proofs.NoteLemmas.{sessions_more}
+use Rattle.zy_sessions.proofs.sessions.Sessions.take_segment.Goals as goal
+
+pub returns : goal.returns
+returns c = record {
+  kept = λ count records h.
+      let old = c.args.self.now in
+      let s = c.args.segment.now in
+      let size = h.count_is in
+      let before = h.now in
+      let next = c.requires.next in
+      let within = c.requires.within in
+      let line = c.index_mut.result.now in
+      let held = h.each s.conn line (slice_get_read old.lines.items _ s.conn line refl within c.index_mut.ensures.value) in
+      sessions_more old _ count records (Kinds.Segment s) c.take.new.self h (omega (arith, size, within)) next refl (c.in_ok-take.ensures.kept records held (omega (arith, next, before)))
+      (c.in_ok-take.ensures.lasting records held h.lasting);
+}
