@@ -1,0 +1,29 @@
+-- What is found of the outputs of a recording.
+use Rattle.std.specs.Prelude.{ℕ, Bool, List}
+use Rattle.zy_capture.specs.declared.record.Record.{Record}
+use Rattle.zy_capture.specs.Outputs.{AllOutputs}
+use Rattle.zy_verdict.specs.Recorded.{Recorded}
+use Rattle.zy_verdict.specs.Explained.{IsExplained}
+use Rattle.zy_observed.specs.Shown.{AreShown}
+use Rattle.zy_outputs.specs.declared.observing.Observing.{Observing}
+use Rattle.zy_outputs.specs.declared.observing.Observing.TheVariants.{Kind, Surplus, EarlyEnd, Other, Calls}
+
+-- the recording of a capture's records and of outputs, by a server that may be so
+abbrev pub recorded_of : ℕ → List Record → AllOutputs → ℕ → Bool → Bool → Recorded
+recorded_of count records outputs shards warm forget =
+    record {
+      count = count;
+      records = records;
+      outputs = outputs.sessions;
+      shards = shards;
+      warm = warm;
+      forget = forget;
+    }
+
+-- a recording with a refuted output is not explained; otherwise these are its calls, with what it shows of them
+abbrev pub IsObserving : Recorded → Observing → Type 0
+IsObserving r (Kind conn session index) = IsExplained r → ⊥
+IsObserving r (Surplus conn session) = IsExplained r → ⊥
+IsObserving r (EarlyEnd moment) = IsExplained r → ⊥
+IsObserving r (Other conn session index) = Unit {0}
+IsObserving r (Calls calls) = AreShown r calls.items
