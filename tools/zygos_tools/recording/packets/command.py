@@ -34,30 +34,34 @@ import sys
 from collections import Counter
 from collections.abc import Iterable
 from struct import Struct
+from typing import Any
 
 from zygos_tools.cli import ends
 from zygos_tools.files import inputs
 from zygos_tools.files.kinds import is_packets
 from zygos_tools.files.outputs import Beside, refuse_full, told_apart
 from zygos_tools.files.part import Fault
-from zygos_tools.protocol import pace
+from zygos_tools.recording import windows
 from zygos_tools.recording.packets import recorded
-from zygos_tools.recording.packets.quick import Quick, reversed_flow
+from zygos_tools.recording.packets.quick import Quick, answer_ends, reversed_flow
 from zygos_tools.recording.packets.recorded import Arrival, Flows, Packet, PacketFault, Record, Session, number_at
 from zygos_tools.recording.packets.report import Report, answered, refusal
 from zygos_tools.recording.packets.resuming import COMMAND, Resuming
+from zygos_tools.recording.packets.windowed import Carried, CarriedResuming, Window
+from zygos_tools.recording.packets.windowed import Files as Windowed
 
-OPTIONS = {"--port": ends.number(1, 65535), "--in-order": ends.FILE, "--ends": None, "--resume": None,
-           "--replies": ends.FILE, "--over": None}
+OPTIONS = {"--port": ends.number(1, 65535), "--every": windows.OPTION, "--in-order": ends.FILE, "--ends": None,
+           "--resume": None, "--replies": ends.FILE, "--over": None}
 
 
 class Reading:
     """What is read of a file: its flows, the faults of its frames, and the ports to which other packets go."""
 
-    def __init__(self, port: int, with_answers: bool = False, with_ends: bool = False,
-                 resumes: bool = False) -> None:
+    def __init__(self, port: int, with_answers: bool = False, with_ends: bool = False, resumes: bool = False,
+                 window: Window | None = None) -> None:
         self.port, self.with_answers, self.with_ends = port, with_answers or with_ends or resumes, with_ends
-        self.flows, self.number = Resuming() if resumes else Flows(), 0
+        self.window, self.number = window, 0
+        self.flows = window.flows if window else Resuming() if resumes else Flows()
         self.arrivals: list[Arrival] = []
         # the first fault, after how many records, and how many frames are refused
         self.first: tuple[PacketFault, int] | None = None
@@ -65,9 +69,6 @@ class Reading:
         self.early = self.answering = 0  # bytes of the server before a flow's first request, and its packets
         self.ports, self.asking = Counter[int](), Counter[int]()
         self.quick = Quick() if self.with_answers else None
-        # in windows: from when on the current one may end, connections that wait for an answer, and those with new bytes
-        self.due_at: int | None = None
-        self.pending, self.touched, self.lines_sent = set[int](), set[int](), 0
 
     def read(self, text: bytes) -> None:
         """Reads a file."""
@@ -82,6 +83,8 @@ class Reading:
         """Reads the records from a place on, up to one that is not whole. Gives its place."""
         while at < end:
             at = self.quick.take(self, text, at, end, head) if self.quick else at
+            if self.window and self.window.is_over:
+                break
             found = recorded.record_at(text, at, end, head, base) if at < end else None
             if not found:
                 break
@@ -100,8 +103,17 @@ class Reading:
         if flow and self.quick:
             self.quick.forget(flow)
         self.take(record)
+        if flow and self.window:
+            self.take_flags(record.frame, flow, self.window)
         if flow and self.quick and flow in self.flows.numbers:
             self.quick.renew(flow, self.flows)
+
+    @staticmethod
+    def take_flags(frame: bytes, flow: bytes, window: Window) -> None:
+        """A flow ends with FIN or RST of either side."""
+        begin = 14 + frame[14] % 16 * 4
+        if len(frame) > begin + 13 and frame[begin + 13] & 5:
+            window.flows.close(flow)
 
     def flow_of(self, frame: bytes) -> bytes | None:
         """The flow of a frame, if it is to the port or of it."""
@@ -119,12 +131,10 @@ class Reading:
             if session := self.flows.current(packet.flow):
                 session.expects(packet.expected)
             self.arrive(self.flows.arrival(packet.flow, record.time))
+            if self.window and packet.payload:
+                self.window.note(self.flows.numbers[packet.flow], False, packet.payload)
         elif found := recorded.tcp_in(record.frame, record.at, self.port):
             self.other(record, *found)
-
-    def is_due(self, time: int, lines: int) -> bool:
-        """Whether the current window ends now, at this time and after so many lines more; never, without windows."""
-        return False
 
     def arrive(self, arrival: Arrival) -> None:
         if not self.arrivals or arrival[1:] != self.arrivals[-1][1:]:
@@ -169,6 +179,8 @@ class Reading:
         session.answer(packet, record.at)
         if self.with_ends:
             self.arrive(self.flows.arrival(flow, record.time, is_answer=True))
+        if self.window and packet.payload:
+            self.window.note(self.flows.numbers[flow], True, packet.payload)
 
 
 # ---- what is written
@@ -176,7 +188,7 @@ class Reading:
 
 def ends_of(session: Session) -> list[int]:
     """The places at which the answers of a session end."""
-    return [session.early + answer.end for answer in pace.Answers().feed(answered(session))]
+    return [session.early + end for end in answer_ends(answered(session))]
 
 
 def write(files: Iterable[tuple[str, Iterable[bytes]]], is_over: bool) -> None:
@@ -189,20 +201,45 @@ def write(files: Iterable[tuple[str, Iterable[bytes]]], is_over: bool) -> None:
                 opened.enter_context(Beside(name, is_over)).write(pieces)
 
 
-def look(text: bytes, name: str, port: int, **how: bool) -> tuple[Reading, Report, str | None]:
+def look(text: bytes, name: str, port: int, **how: Any) -> tuple[Reading, Report, str | None]:
     """What is read of a file, the report on it, and why it is refused or has nothing for the port."""
     reading = Reading(port, **how)
     reading.read(text)
     return reading, Report(reading), refusal(reading, text[:4], name)
 
 
+def read_windows(found: dict[str, Any], names: list[str]) -> int:
+    """Reads files in windows, and writes those. Gives the status."""
+    kind = CarriedResuming if "--resume" in found else Carried
+    both = windows.Names(found["--in-order"], found["--replies"], True)
+    both.refuse("--over" in found)
+
+    def begin(carried: dict[bytes, tuple[int, int]], time: int | None) -> Reading:
+        return Reading(found.get("--port", 11211), with_answers=True, with_ends="--ends" in found,
+                       window=Window(found["--every"], kind(carried), time))
+
+    def write_window(reading: Reading, number: int) -> int:
+        report, names_of = Report(reading), both.window(number)
+        report.note_window(names_of[0])
+        write([(names_of[0], reading.flows.in_order(reading.arrivals, ends_of)),
+               (names_of[1], reading.flows.replies(answered))], True)
+        print(*report.lines, sep="\n")
+        return int(bool(report.sums["cut"]))
+
+    return Windowed(names, begin, write_window).read()
+
+
 def main(words: list[str]) -> None:
     found, files = ends.options(words, OPTIONS)
     written: list[str | None] = [found.get(option) for option in ("--in-order", "--replies")]
-    if len(files) > 1 or written == ["-", "-"]:
+    if len(files) > 1 and "--every" not in found or written == ["-", "-"]:
         ends.stop("one file is read, and at most one is written to standard output; --help says more", 2)
     if "--ends" in found and not written[0]:
         ends.stop("--ends needs --in-order, the capture in which answers end", 2)
+    if "--every" in found:
+        if None in written or "-" in written:
+            ends.stop("--every needs --in-order and --replies, and both write files", 2)
+        ends.end(read_windows(found, files or ["-"]))
     name = files[0] if files else "-"
     names = [other for other in written if other is not None and other != "-"]
     told_apart(names, [name])

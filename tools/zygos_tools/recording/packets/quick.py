@@ -5,9 +5,11 @@ that acknowledges bytes which were not recorded, is left to the caller, and so i
 """
 from __future__ import annotations
 
+import re
 import struct
 from typing import TYPE_CHECKING
 
+from zygos_tools.protocol.pace import Answers
 from zygos_tools.recording.packets.recorded import (BEFORE, ETHERNET_IPV4, MOST_FRAME, MOST_STREAM, NUMBERS, TCP,
                                                      Arrival, Flows, Session)
 
@@ -18,6 +20,37 @@ if TYPE_CHECKING:
 # addresses and ports, both numbers, the length of the TCP header, and flags
 FRAME = struct.Struct(">12xHBxHxxHxBxx12sIIBB")
 LEAST, MASK = 54, NUMBERS - 1
+# a line that is an answer or begins a block; its groups are the lengths of blocks, after which the answer goes on or ends
+LINE = re.compile(rb"(?:VALUE [^ \0\n]+ [0-9]+ ([0-9]{1,9})(?: [0-9]+)?|VA ([0-9]{1,9})(?: [^\n]*)?|[0-9]+|END|STORED"
+                  rb"|NOT_STORED|NOT_FOUND|DELETED|EXISTS|TOUCHED|OK|(?:HD|EN|NF|NS|EX|MN)(?: [^\n]*)?|VERSION [^\n]*"
+                  rb"|(?:CLIENT_|SERVER_)?ERROR(?: [^\n]*)?)\r\n").match
+
+
+def answer_ends(text: bytes) -> list[int]:
+    """The places at which answers end."""
+    found: list[int] = []
+    at, size = 0, len(text)
+    while at < size:
+        line = LINE(text, at)
+        if line is None:
+            break
+        end, group = line.end(), line.lastindex
+        if group:
+            end += int(line[group]) + 2
+            if end > size:
+                break
+        at = end
+        if group != 1:
+            found.append(at)
+    return found + [at + answer.end for answer in Answers().feed(text[at:])] if at < size else found
+
+
+def is_later(text: bytes, at: int, end: int, head: struct.Struct, time: int) -> bool:
+    """Whether the next record is there, and has a later time."""
+    if at + 16 > end:
+        return False
+    seconds, micros, _, _ = head.unpack_from(text, at)
+    return bool(seconds * 1000000 + micros > time)
 
 
 class Side:
@@ -61,9 +94,8 @@ class Quick:
 
     def take(self, reading: Reading, text: bytes, at: int, end: int, record: struct.Struct) -> int:
         """Takes records from a place on, up to one that is not usual or not whole. Gives its place."""
-        sides, arrivals, pending, new = self.sides, reading.arrivals, reading.pending, tuple.__new__
+        sides, arrivals, window, new = self.sides, reading.arrivals, reading.window, tuple.__new__
         with_ends, unpack, head, count = reading.with_ends, FRAME.unpack_from, record.unpack_from, 0
-        due, touched, lines = reading.due_at, reading.touched, 0
         while at + 16 + LEAST <= end:
             seconds, micros, size, _ = head(text, at)
             stop = at + 16 + size
@@ -87,20 +119,13 @@ class Quick:
                 time = seconds * 1000000 + micros
                 if with_ends or not is_answer:
                     arrivals.append(new(Arrival, (time, number, one.last, is_answer, len(one.text))))
-                if due is not None:
-                    touched.add(number)
-                    if is_answer:
-                        if payload[-1] == 10:
-                            pending.discard(number)
-                            if not pending and reading.is_due(time, lines):
-                                at, count = stop, count + 1
-                                break
-                    else:
-                        pending.add(number)
-                        lines += payload.count(b"\n")
+                if window is not None:
+                    window.note(number, is_answer, payload)
+                    if is_answer and not window.pending and is_later(text, stop, end, record, time) and window.look(time):
+                        at, count = stop, count + 1
+                        break
             elif begin > finish or offset < 80:
                 break
             at, count = stop, count + 1
         reading.number += count
-        reading.lines_sent += lines
         return at

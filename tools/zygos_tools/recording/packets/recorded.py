@@ -8,13 +8,17 @@ from __future__ import annotations
 import struct
 from bisect import bisect_right
 from collections.abc import Callable, Iterable, Iterator
-from itertools import groupby
 from operator import itemgetter
 from typing import NamedTuple
 
-from zygos_tools.files.formats import END, capture, capture_start, close, output, pieces, replies_start, segment
+from zygos_tools.files.formats import (END, MOST_SEGMENT, SEGMENT, capture, capture_start, close, output, pieces,
+                                       replies_start)
 
 MOST_FILE = (1 << 32) - 1
+# how many bytes the header of a file has, and with the times of the first record
+HEADER, FIRST = 24, 40
+# how many bytes of a capture are made at once
+MOST_MADE = 1 << 20
 MOST_FRAME, GROUPS, MOST_OF_GROUP = 262144, 128, 32
 ETHERNET, ETHERNET_IPV4, IPV4, IPV6, VLAN, TCP = 1, 0x800, b"\x08\x00", b"\x86\xdd", b"\x81\x00", 6
 # numbers of TCP are counted modulo NUMBERS; offsets from BEFORE on lie before a session
@@ -64,6 +68,9 @@ class PacketFault(Exception):
         super().__init__(number, at)
         self.number, self.at = number, at
 
+
+# a side of a session: the connection, the session, and whether it is that of the server
+Key = tuple[int, int, bool]
 
 # ---- records and frames
 
@@ -206,6 +213,8 @@ class Stream:
 
     def text(self, begin: int = 0, end: int | None = None) -> bytes:
         """The bytes of the stream, or those from one offset to another."""
+        if not self.last:  # the first span has all of the stream
+            return bytes(self.texts[0][begin:end])
         end = self.size() if end is None else end
         found: list[bytes] = []
         span = bisect_right(self.begins, begin) - 1
@@ -296,6 +305,7 @@ class Session:
         # how many bytes were sent, and how many came back, as the numbers of other packets show
         self.sent = self.heard = 0
         self.is_resumed = self.is_answered = False  # it began anew after a loss; what came last is of the server
+        self.is_carried = False  # it goes on from the window before
         self.early, self.is_misfit = 0, False  # how many bytes answer earlier requests; no answer fits its request
 
     def ends_with(self, packet: Packet) -> bool:
@@ -393,27 +403,20 @@ class Flows:
         Where an answer is whole that arrived, there is a segment without bytes; `ends_of` gives the places at which the
         answers of a session end.
         """
-        yield capture_start(self.count(), 2)
-        last: dict[int, int] = {}
-        written: dict[tuple[int, int, bool], int] = {}
-        ends: dict[tuple[int, int, bool], list[int]] = {}
-        for key, some in groupby(by_time(arrivals), itemgetter(1, 2, 3)):
-            number, at, is_answer = key
-            if at < last.setdefault(number, at):
+        made, writing = bytearray(capture_start(self.count(), 2)), Writing(self.sessions, ends_of)
+        key: Key | None = None
+        end = 0
+        for one in by_time(arrivals):
+            if one[1:4] == key:
+                end = max(end, one[4])
                 continue
-            session = self.sessions[number][at]
-            if at > last[number]:
-                yield close(number)
-                last[number] = at
-            begin, end = written.get(key, 0), max(one.size for one in some)
-            written[key] = end
-            if not is_answer:
-                yield from pieces(number, session.requests.text(begin, end))
-                continue
-            if key not in ends:
-                ends[key] = ends_of(session)
-            yield segment(number, b"") * (bisect_right(ends[key], end) - bisect_right(ends[key], begin))
-        yield END
+            if key:
+                made += writing.records(key, end)
+                if len(made) > MOST_MADE:
+                    yield bytes(made)
+                    made.clear()
+            key, end = one[1:4], one[4]
+        yield bytes(made + (writing.records(key, end) if key else b"") + END)
 
     def replies(self, answered: Callable[[Session], bytes]) -> Iterator[bytes]:
         """The bytes of the replies file with what the server answered in each session, as `answered` says of it."""
@@ -429,15 +432,60 @@ class Flows:
 def by_time(arrivals: Iterable[Arrival]) -> list[Arrival]:
     """Arrivals by their time; requests of a connection stay in their order, and answers come after the requests that
     were before them."""
-    latest: dict[tuple[int, bool], int] = {}
+    asked: dict[int, int] = {}
+    told: dict[int, int] = {}
     found: list[Arrival] = []
     for one in arrivals:
-        number, time = one.connection, max(one.time, latest.get((one.connection, one.is_answer), one.time))
-        latest[number, True] = max(time, latest.get((number, True), time))
-        if not one.is_answer:
-            latest[number, False] = time
-        found.append(one._replace(time=time))
-    return sorted(found, key=lambda one: one.time)
+        time, number = one[0], one[1]
+        latest = (told if one[3] else asked).get(number, time)
+        if time < latest:
+            time, one = latest, one._replace(time=latest)
+        if not one[3]:
+            asked[number] = time
+        if time >= told.get(number, time):
+            told[number] = time
+        found.append(one)
+    return sorted(found, key=itemgetter(0))
+
+
+class Writing:
+    """Makes the records of a capture in order, of the sessions of each connection."""
+
+    def __init__(self, sessions: dict[int, list[Session]], ends_of: Callable[[Session], list[int]] | None) -> None:
+        self.sessions, self.ends_of = sessions, ends_of
+        self.last: dict[int, int] = {}  # the current session of each connection
+        # of each side of a session, how much was written, and how many of its ends, with these
+        self.written: dict[Key, int] = {}
+        self.ends: dict[Key, tuple[int, list[int]]] = {}
+
+    def records(self, key: Key, end: int) -> bytes:
+        """The records of a side of a session up to a number of its bytes."""
+        number, at, is_answer = key
+        last = self.last.setdefault(number, at)
+        if at < last:
+            return b""
+        before = b""
+        if at > last:
+            before, self.last[number] = close(number), at
+        if is_answer:
+            return before + self.marks(key, end)
+        begin, self.written[key] = self.written.get(key, 0), end
+        text = self.sessions[number][at].requests.text(begin, end)
+        if 0 < len(text) <= MOST_SEGMENT:
+            return before + SEGMENT.pack(83, number, len(text)) + text
+        return before + b"".join(pieces(number, text))
+
+    def marks(self, key: Key, end: int) -> bytes:
+        """Segments without bytes for the answers that end with a number of bytes, and not before."""
+        number, at, _ = key
+        if key not in self.ends:
+            self.ends[key] = 0, self.ends_of(self.sessions[number][at]) if self.ends_of else []
+        place, ends = self.ends[key]
+        first, count = place, len(ends)
+        while place < count and ends[place] <= end:
+            place += 1
+        self.ends[key] = place, ends
+        return SEGMENT.pack(83, number, 0) * (place - first)
 
 
 def made(text: bytes, port: int) -> bytes:

@@ -113,7 +113,7 @@ class Report:
         if session.is_resumed:
             notes.append("it begins anew, after a loss" + early_of(session))
             self.sums.update(resumed=1)
-        elif stream.syn is None:
+        elif stream.syn is None and not session.is_carried:
             notes.append("it began before the recording: its first bytes may be the rest of a request")
         if found := cut_of(stream, session.sent):
             notes.append(f"{found[0]}, about {several(found[2], 'request')}")
@@ -128,6 +128,11 @@ class Report:
             self.sums.update(missing=pace.owed)
         self.sums.update(late=stream.late, again=stream.again)
         return count, notes
+
+    def note_window(self, name: str) -> None:
+        """Leaves the connections out, of which windows may have many, and names the window."""
+        at = next((at for at, line in enumerate(self.lines) if line.startswith("all: ")), 0)
+        self.lines = [f"{name}: {self.lines[at][5:]}", *self.lines[at + 1 :]] if self.lines else [f"{name}: no request"]
 
     def all(self, reading: Reading) -> None:
         sums = self.sums
