@@ -291,8 +291,11 @@ def words():
     one = capture(1, [segment(0, b"mn\r\n")])
     says("nobody listens", f"{place}: Connection refused: start the server, or give another --server",
          "-", "--server", place, given=one)
-    for given, line in ((one[:-1], "truncated at 25"), (one + b"E", "trailing at 26"), (b"ZYGREP", "bad-magic at 3")):
-        says(f"a faulty capture: {line}", f"standard input: capture: {line}", "-", "--server", place, given=given)
+    for given, line in ((one[:-1], "capture: truncated at 25"), (one + b"E", "capture: trailing at 26"),
+                        (b"ZYGREP", "capture: bad-magic at 3"), (replies([b""]), "this is a replies file; the capture comes first"),
+                        (b"get a\r\n", "this is text; tools/capture makes a capture of text"),
+                        (b"\x1f\x8b\x08", "this is a compressed file; decompress it first")):
+        says(f"a faulty capture: {line}", f"standard input: {line}", "-", "--server", place, given=given)
 
 
 def closed_pipe():

@@ -149,11 +149,12 @@ def orders():
     same("answers by connection", (1, wanted), cut_of("turns", given, served(joined(given))))
     prints("nothing", capture(1, []), "inline", "-", given=capture(0, []))
     for name, words, line in (
-        ("swapped files", ("recorded", "sent"), "recorded: not a capture, which comes before the replies"),
-        ("no capture", ("recorded",), "recorded: not a capture, which comes before the replies"),
+        ("swapped files", ("recorded", "sent"), "recorded: this is a replies file; the capture comes first"),
+        ("no capture", ("recorded",), "recorded: this is a replies file; the capture comes first"),
+        ("an empty capture", ("empty", "recorded"), "empty: this is an empty file; nothing was recorded into it, or the recorder was killed"),
     ):
         with tempfile.TemporaryDirectory() as folder:
-            paths = written(folder, sent=given, recorded=replies([b""] * 3))
+            paths = written(folder, sent=given, recorded=replies([b""] * 3), empty=b"")
             ran = run("inline", *(paths.get(word, word) for word in words))
         same(name, (1, b"", f"tools/inline: {line}\n"), (ran.returncode, ran.stdout, ran.stderr.decode().replace(folder + "/", "")))
     output = served(joined(given))

@@ -146,7 +146,7 @@ def faults():
     got = entry(*Entry(1, 0, 0, 0, 0, Call("get", b"a"), Reply("miss")))
     head, out = b"ZYGJRN1\n", b"ZYGREP1\n"
     for given, line in (
-        (b"\0", "no capture, journal or replies file begins at byte 0"), (b"x", "this is text"),
+        (b"\0", "no capture, journal or replies file begins at byte 0"), (b"x", "this is text; tools/capture makes a capture of text"),
         (b"\x1f\x8b\x08", "this is a compressed file; decompress it first"),
         (b"\xd4\xc3\xb2\xa1\2\0", "this is recorded packets; tools/packets makes a capture and a replies file of them"),
         (b"ZYGCAP1\r\n", "this is a file whose line ends were changed; copy it again as a binary file"),

@@ -7,7 +7,7 @@ from collections.abc import Iterable, Iterator, Mapping, Sequence
 from typing import NamedTuple, Union
 
 from zygos_tools.comparing.steps import BOTH, by_commands
-from zygos_tools.files import inputs
+from zygos_tools.files import inputs, kinds
 from zygos_tools.files.formats import END, Close, Segment, capture_head, capture_records, capture_start, close, segment
 from zygos_tools.files.part import Fault
 from zygos_tools.protocol.answers import answers
@@ -53,10 +53,10 @@ class Arrivals:
     def records(self) -> Iterator[Placed]:
         """The records of the capture, each after its session."""
         self.later.clear()
-        parts = inputs.parts(self.name)
+        parts = inputs.parts(self.name, inputs.NO_CAPTURE)
         part = next(parts, None)
-        if part is None or part.name != "capture":
-            raise Fault(f"{inputs.name_of(self.name)}: not a capture, which comes before the replies")
+        if part is None:
+            raise Fault(f"{inputs.name_of(self.name)}: {kinds.told(b'')}")
         self.version, self.count = capture_head(part)
         for record in capture_records(part, self.version, self.count):
             yield self.later[record.connection], record

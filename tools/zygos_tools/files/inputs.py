@@ -2,6 +2,7 @@
 from __future__ import annotations
 
 import functools
+import os
 import sys
 from collections.abc import Callable, Iterator
 from typing import Protocol
@@ -12,6 +13,10 @@ from zygos_tools.files.part import PIECE, Fault, Part
 
 # how many bytes say which file of zygos a file is
 MAGIC = 6
+# what to do about a text, and about another file than a capture
+TEXT = {kinds.TEXT: "tools/capture makes a capture of text"}
+NO_CAPTURE = {kinds.REPLIES: "the capture comes first", kinds.JOURNAL: "a capture is read here", **TEXT}
+NO_REPLIES = {kinds.CAPTURE: "the replies file comes second", kinds.JOURNAL: "replies are read here"}
 
 
 class Reads(Protocol):
@@ -57,12 +62,24 @@ def beginning(more: Callable[[int], bytes], head: bytes = b"") -> bytes:
 def expect(name: str, head: bytes, cures: dict[str, str]) -> None:
     """Refuses an input that is of another kind: of one with a cure, or of none of zygos's files."""
     kind = kinds.kind_of(head)
-    if kind in cures or head[:MAGIC] not in FORMATS and kind or kind == kinds.CHANGED:
+    is_other = kind in cures and kind != kinds.TEXT
+    if is_other or head[:MAGIC] not in FORMATS and kind or kind == kinds.CHANGED:
         raise Fault(f"{name_of(name)}: {kinds.told(head, cures)}")
 
 
-def parts(name: str) -> Iterator[Part]:
-    """The files of zygos in an input, one after the other; a fault names the input, the part and the place in it.
+def expect_at(file: int, name: str, cures: dict[str, str]) -> None:
+    """The same of a file that can be read at any place."""
+    try:
+        head = os.pread(file, kinds.HEAD, 0)
+    except OSError as error:
+        raise OSError(error.errno, error.strerror, name_of(name)) from None
+    if head:
+        expect(name, head, cures)
+
+
+def parts(name: str, cures: dict[str, str] = TEXT) -> Iterator[Part]:
+    """The files of zygos in an input, one after the other; a fault names the input, the part and the place in it. An
+    input that begins as one with a cure is refused.
 
     The caller reads each part to its end, or takes nothing of it: then it is read here, for its faults.
     """
@@ -74,7 +91,7 @@ def parts(name: str) -> Iterator[Part]:
             return
         if not at:
             text = beginning(more, text)
-            expect(name, text, {})
+            expect(name, text, cures)
         if text[:MAGIC] not in FORMATS:
             raise Fault(f"{name_of(name)}: no capture, journal or replies file begins at byte {at}")
         after = f", in the part that begins at byte {at}" if at else ""
@@ -89,8 +106,7 @@ def capture_alone(name: str) -> bytes:
     """The bytes of an input that is one capture; anything after its end is refused."""
     more, gathered = pieces(name), list[bytes]()
     head = beginning(more)
-    expect(name, head, {kinds.REPLIES: "the capture comes first", kinds.JOURNAL: "a capture is read here",
-                        kinds.TEXT: "tools/capture makes a capture of text"})
+    expect(name, head, NO_CAPTURE)
     part = Part("capture", head, more, f"{name_of(name)}: ")
     part.passed = gathered.append
     skim(part)
@@ -109,7 +125,7 @@ def outputs_in(name: str, hint: str = "", capture_hint: str = "", second_hint: s
     something after the replies.
     """
     found, has_journal, is_empty = None, False, True
-    for part in parts(name):
+    for part in parts(name, {}):
         is_empty = False
         if found is not None or part.name == "capture":
             raise part.fault(f"not expected here{capture_hint if part.name == 'capture' else second_hint}")

@@ -76,6 +76,7 @@ class Streams:
     """Where the segments of each connection are in a capture, and its close records."""
 
     def __init__(self, file: int, name: str) -> None:
+        inputs.expect_at(file, name, inputs.NO_CAPTURE)
         self.file, part = file, reading(file, inputs.name_of(name))
         self.version, self.count = capture_head(part)
         self.places = [array("Q") for _ in range(self.count)]
@@ -107,6 +108,7 @@ class Outputs:
     """Where the output of each session is in a replies file."""
 
     def __init__(self, file: IO[bytes], name: str) -> None:
+        inputs.expect_at(file.fileno(), name, inputs.NO_REPLIES)
         self.file = file
         self.places: dict[tuple[int, int], tuple[int, int]] = {}
         part = reading(file.fileno(), inputs.name_of(name), kind="replies")

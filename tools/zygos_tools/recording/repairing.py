@@ -21,6 +21,7 @@ from zygos_tools.recording.targets import SPOOL, locked
 def opened(name: str) -> Found:
     """A capture that was left, and what there is in it."""
     file = os.open(name, os.O_RDWR)
+    inputs.expect_at(file, name, inputs.NO_CAPTURE)
     with naming(name):
         return Found(file, name)
 
