@@ -18,7 +18,9 @@ from traffic import connected, memcached, take, until
 from zygos_tools.files.formats import Close, capture, close, read_capture, read_replies, segment, sessions
 from zygos_tools.files.part import Part
 from zygos_tools.protocol.meaning import framed
+from zygos_tools.protocol.pace import Answers
 from zygos_tools.recording.packets import command as TOOL
+from zygos_tools.recording.packets.quick import answer_ends
 from packets import expected, frame_of, said
 
 CLIENTS = [bytes([10, 0, 0, at, 10, 0, 0, 9]) + struct.pack(">HH", 40000 + at, 11211) for at in (1, 2)]
@@ -346,6 +348,161 @@ def nothing_written():
         same("a refused file", (1, False), (ran.returncode, os.path.exists("made")))
 
 
+# ---- windows
+
+
+class Traffic:
+    """Frames of clients, each after its time. A client has at most one command in flight; times have the given gaps."""
+
+    def __init__(self, draw, count, gap=1000):
+        self.draw, self.gap, self.time, self.frames = draw, gap, 10**6, []
+        self.flows = [bytes([10, 0, at, 1, 10, 0, 0, 9]) + struct.pack(">HH", 40000 + at, 11211) for at in range(count)]
+        self.numbers, self.asked, self.told = {}, {flow: [] for flow in self.flows}, {flow: [] for flow in self.flows}
+        for flow in self.flows:
+            self.numbers[flow] = [draw.choice([100, 2**32 - 500]), draw.choice([500, 2**32 - 300])]
+            self.add(frame_of(b"", self.numbers[flow][0] - 1, 2, flow))
+            self.add(acknowledging(answer_of(b"", self.numbers[flow][1] - 1, flow, 18), self.numbers[flow][0]))
+
+    def add(self, frame):
+        self.time += self.draw.randint(1, self.gap)
+        self.frames.append((self.time, frame))
+
+    def send(self, flow, text, is_answer=False):
+        numbers, make = self.numbers[flow], answer_of if is_answer else frame_of
+        frame = make(text, numbers[is_answer], flow) if is_answer else make(text, numbers[0], 24, flow)
+        self.add(acknowledging(frame, numbers[not is_answer]))
+        numbers[is_answer] = (numbers[is_answer] + len(text)) % 2**32
+        (self.told if is_answer else self.asked)[flow].append(text)
+
+    def ask_all(self, rounds):
+        """Each client asks in each round, and all are answered in another order."""
+        for number in range(rounds):
+            for some in (False, True):
+                for flow in self.draw.sample(self.flows, len(self.flows)):
+                    value = b"%d" % number * self.draw.choice([1, 300])
+                    text = b"VALUE k 0 %d\r\n%s\r\nEND\r\n" % (len(value), value) if some else b"get k\r\n"
+                    at = self.draw.choice([0, 3])
+                    for piece in (text[:at], text[at:]):
+                        if piece:
+                            self.send(flow, piece, some)
+
+    def files(self, count, shuffle=0):
+        """Writes files of these packets; a packet may be up to `shuffle` packets from its place."""
+        order = sorted(range(len(self.frames)), key=lambda at: at + self.draw.uniform(0, shuffle))
+        size = -(-len(order) // count)
+        names = [f"traffic.pcap{at:02}" for at in range(count)]
+        for at, name in enumerate(names):
+            with open(name, "wb") as file:
+                file.write(timed(*(self.frames[one] for one in order[at * size : (at + 1) * size])))
+        return names
+
+
+def windows_of(ran):
+    """What each window has, by flow: what was asked and what was told; the streams of the lines that a run printed."""
+    lines = sorted(line for line in ran.stdout.decode().splitlines() if line.startswith("my."))
+    found = []
+    for at in range(len(lines)):
+        with open(f"my.{at + 1:06}.cap", "rb") as one, open(f"my.{at + 1:06}.replies", "rb") as other:
+            _, _, asked = streams(one.read())
+            told = read_replies(Part("replies", other.read())).outputs
+        found.append((asked, {(output.connection, output.session): output.text for output in told}))
+    return found
+
+
+def in_windows():
+    """Windows are whole: each has whole commands and all their answers, and together they have all."""
+    for number in range(8):
+        traffic = Traffic(random.Random(number), 1 + number)
+        traffic.ask_all(60)
+        names = traffic.files(1 + number % 4, shuffle=number % 3 * 3)
+        random.Random(number).shuffle(names)
+        for length in ("25", "1s"):
+            more = ["--resume"] if number % 2 else []
+            ran = run("--every", length, "--over", "--in-order", "my.cap", "--ends", "--replies", "my.replies", *more, *names)
+            same(f"traffic {number}", (0, b""), (ran.returncode, ran.stderr))
+            found = windows_of(ran)
+            if length == "25" and len(found) < 2:
+                checks.fail(f"traffic {number}", "there is one window")
+            count = 0
+            for asked, told in found:
+                for key, text in asked.items():
+                    count += text.count(b"get")
+                    same("whole commands, and their answers", (True, text.count(b"get")),
+                         (text.endswith(b"\r\n"), told[key].count(b"END")))
+            same("all commands are in a window", 60 * len(traffic.flows), count)
+            same("all answers are", sum(len(b"".join(texts)) for texts in traffic.told.values()),
+                 sum(len(text) for _, told in found for text in told.values()))
+
+
+def no_quiet_moment():
+    """A window goes on while a command is in flight, or may be: also for an answer at the time of the next request."""
+    flows = CLIENTS
+    for name, slow, end in (("a command", b"get k\r\n", b"END\r\n"), ("a noreply", b"delete k noreply\r\n", b""),
+                            ("a part of a command", b"set k 0 0 5\r\nab", b"")):
+        traffic = Traffic(random.Random(1), 2)
+        one, other = traffic.flows
+        traffic.send(one, slow)
+        for _ in range(5):
+            traffic.send(other, b"get k\r\n")
+            traffic.send(other, b"END\r\n", True)
+        if end:
+            traffic.send(one, end, True)
+        for _ in range(2):
+            traffic.send(other, b"get k\r\n")
+            traffic.send(other, b"END\r\n", True)
+        ran = run("--every", "2", "--over", "--in-order", "my.cap", "--ends", "--replies", "my.replies", *traffic.files(1))
+        counts = [sum(text.count(b"get") for text in asked.values()) for asked, _ in windows_of(ran)]
+        same(f"{name} in flight", [6, 2] if end else [7], [count for count in counts if count])
+    asked = [frame_of(b"", 99, 2, flow) for flow in flows] + [answer_of(b"", 499, flow, 18) for flow in flows]
+    turn = [frame_of(b"get a\r\n", 100, 16, flows[0]), acknowledging(answer_of(b"END\r\n", 500, flows[0]), 107)]
+    late = acknowledging(frame_of(b"get b\r\n", 100, 16, flows[1]), 500)
+    told = acknowledging(answer_of(b"END\r\n", 500, flows[1]), 107)
+    for time, wanted in ((11, 1), (12, 2)):
+        moments = [*enumerate(asked), (10, turn[0]), (11, turn[1]), (time, late), (13, told)]
+        with open("file.pcap", "wb") as file:
+            file.write(timed(*moments))
+        ran = run("--every", "1", "--over", "--in-order", "my.cap", "--replies", "my.replies", "file.pcap")
+        same(f"a request at {time}", wanted, sum(1 for asked, _ in windows_of(ran) if any(asked.values())))
+
+
+def words_of_windows():
+    traffic = Traffic(random.Random(1), 1)
+    traffic.ask_all(3)
+    name, = traffic.files(1)
+    given = "--every", "2", "--in-order", "my.cap", "--replies", "my.replies"
+    ran = run("--every", "2", "--in-order", "my.cap", name)
+    same("one file is written", (2, b"tools/packets: --every needs --in-order and --replies, and both write files\n"),
+         (ran.returncode, ran.stderr))
+    with open(name, "rb") as file:
+        text = file.read()
+    with open("cut.pcap", "wb") as file:
+        file.write(text[:-3])
+    ran = run(*given, "cut.pcap")
+    same("a file that is still written", (0, b"tools/packets: cut.pcap: it ends within a record, as a file that tcpdump still"
+                                             b" writes: that is left out\n"), (ran.returncode, ran.stderr))
+    ran = run(*given, name)
+    same("older windows", (1, b"tools/packets: my.000001.cap: there is something in this file; --over writes over it\n"),
+         (ran.returncode, ran.stderr))
+    with open("bad.pcap", "wb") as file:
+        file.write(text + timed((5, frame_of(b"x", kind=b"\x81\x00")))[24:])
+    ran = run(*given, "--over", "bad.pcap")
+    same("a frame that is refused", (1, b"tools/packets: bad.pcap: a frame has a VLAN tag\n  tools/packets bad.pcap says where\n"),
+         (ran.returncode, ran.stderr))
+
+
+def usual_answers():
+    """Where the usual answers end is where all others do."""
+    some = (b"END\r\n", b"VALUE a 0 5\r\nval\nu\r\nEND\r\n", b"VALUE a 0 5 77\r\nvalue\r\nVALUE b 1 0\r\n\r\nEND\r\n", b"15\r\n",
+            b"STORED\r\n", b"HD\r\n", b"HD c5\r\n", b"VA 2 f\r\nxx\r\n", b"VA 2\r\nxx\r\n", b"MN\r\n", b"ERROR\r\n", b"OK\r\n",
+            b"VERSION 1\r\n", b"STAT a b\r\nEND\r\n", b"CLIENT_ERROR x\r\n", b"VA x\r\n", b"mg a b\r\nEN\r\n", b"HDx\r\n", b"ERRORS\r\n",
+            b"END\n", b"VALUE a b c\r\n", b"\r\n", b"VAL")
+    for number in range(3000):
+        draw = random.Random(number)
+        text = b"".join(draw.choice(some) for _ in range(draw.randint(1, 8)))
+        text = text[: len(text) - draw.choice([0, 0, 1, 5])]
+        same(f"answers {text}", [answer.end for answer in Answers().feed(text)], answer_ends(text))
+
+
 # ---- with the program, tcpdump and memcached
 
 
@@ -406,7 +563,7 @@ def real():
 
 
 Tests = cases(messages, words, model, order, ends, answers, answers_to_lost_requests, resumed, pipelines, resume,
-              nothing_written, real, has_folder=True)
+              nothing_written, in_windows, no_quiet_moment, words_of_windows, usual_answers, real, has_folder=True)
 
 if __name__ == "__main__":
     unittest.main()
