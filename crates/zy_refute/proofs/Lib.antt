@@ -1,3 +1,4 @@
 pub mod PlaceLemmas
 pub mod RestLemmas
+pub mod SharedLemmas
 pub mod UnmetLemmas

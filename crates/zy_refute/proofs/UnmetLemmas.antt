@@ -44,7 +44,7 @@ joined_rest fact call value rest says joins before said after allowed fails held
 
 -- ---- the rule
 
-occurs_at : (x : Observed) (front : List KeyStep) (name : CallName) (call : Call) (said : Said) (after : Option Item) (back : List KeyStep) → IsStepOf x name call said → Occurs x (front ++ made name call said after ∷ back)
+pub occurs_at : (x : Observed) (front : List KeyStep) (name : CallName) (call : Call) (said : Said) (after : Option Item) (back : List KeyStep) → IsStepOf x name call said → Occurs x (front ++ made name call said after ∷ back)
 occurs_at x [] name call said after back step = inl step
 occurs_at x (lost ∷ front) name call said after back step = occurs_at x front name call said after back step
 occurs_at x (made n c s a ∷ front) name call said after back step = inr (occurs_at x front name call said after back step)
@@ -52,7 +52,7 @@ occurs_at x (made n c s a ∷ front) name call said after back step = inr (occur
 module _ (store : Store) (calls : List Observed) (fact : Fact) (reader : ℕ) (g : Observed) (is : slice_get calls reader ≡ Some g) (need : is_need fact ≡ true) (kept : IsLossless store fact) where
   module _ (first : Option Item) (front : List KeyStep) (name : CallName) (call : Call) (said : Said) (after : Option Item) (back : List KeyStep)
       (order : IsOrderOf store calls first (front ++ made name call said after ∷ back)) (step : IsStepOf g name call said) where
-    allowed : AreAllowed store.forget first first front
+    pub allowed : AreAllowed store.forget first first front
     allowed = allowed_front store.forget first first front (made name call said after ∷ back) order.chain.allowed
 
     -- a sure call that is surely before the reader is in front of it
@@ -60,7 +60,7 @@ module _ (store : Store) (calls : List Observed) (fact : Fact) (reader : ℕ) (g
     in_front at b there sure before = sooner calls b g at reader there is front name call said after back order.order step before (order.sure at b there sure)
 
     -- what held from the first was excluded
-    from_start : IsNoStart store calls fact g → holds fact first ≡ true → HoldsAfterEach fact front → ⊥
+    pub from_start : IsNoStart store calls fact g → holds fact first ≡ true → HoldsAfterEach fact front → ⊥
     from_start (inl cold) held stays = both_so (holds_without fact) cold.1 (subst (λ f. holds fact f ≡ true) (order.cold cold.0) held)
     from_start (inr b) held stays = clash store.forget first first front fact b.b allowed stays b.breaker.breaks.leaves (in_front b.breaker.at b.b b.breaker.is b.breaker.breaks.sure b.breaker.breaks.sooner)
 
@@ -72,13 +72,13 @@ module _ (store : Store) (calls : List Observed) (fact : Fact) (reader : ℕ) (g
       whole : front ++ made name call said after ∷ back ≡ turn.front ++ made turn.name turn.call turn.said turn.after ∷ behind_turn
       whole = ap (λ (l : List KeyStep). l ++ made name call said after ∷ back) turn.is ∙ append_assoc turn.front (made turn.name turn.call turn.said turn.after ∷ turn.back) (made name call said after ∷ back)
 
-      divided : IsOrderOf store calls first (turn.front ++ made turn.name turn.call turn.said turn.after ∷ behind_turn)
+      pub divided : IsOrderOf store calls first (turn.front ++ made turn.name turn.call turn.said turn.after ∷ behind_turn)
       divided = subst (IsOrderOf store calls first) whole order
 
       maker_in_front : (x : Observed) → IsStepOf x turn.name turn.call turn.said → Occurs x front
       maker_in_front x own = subst (Occurs x) (sym turn.is) (occurs_at x turn.front turn.name turn.call turn.said turn.after turn.back own)
 
-      by_source : (at : ℕ) (x : Observed) → slice_get calls at ≡ Some x → IsStepOf x turn.name turn.call turn.said → (at ≡ reader) ⊎ IsNoSource store calls fact at x g → ⊥
+      pub by_source : (at : ℕ) (x : Observed) → slice_get calls at ≡ Some x → IsStepOf x turn.name turn.call turn.said → (at ≡ reader) ⊎ IsNoSource store calls fact at x g → ⊥
       by_source at x there own (inl same) =
           (ahead calls x front name call said after back order.order (maker_in_front x own)).other (step.named ∙ ap (λ (o : Observed). o.name) (one g x (sym is ∙ ap (slice_get calls) (sym same) ∙ there)))
         where

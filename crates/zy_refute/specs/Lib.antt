@@ -1,3 +1,4 @@
 pub mod Observed
 pub mod Courses
 pub mod Unmet
+pub mod Shared
