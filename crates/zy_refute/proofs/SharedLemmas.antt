@@ -28,7 +28,7 @@ use Rattle.zy_refute.specs.declared.observed.Observed.{Observed}
 use Rattle.zy_refute.specs.declared.store.Store.{Store}
 use Rattle.zy_refute.specs.Courses.{IsStepOf, Occurs, IsOneOf, AreObserved, AreLater, KeepOrder, IsOrderOf, HaveNoOrder}
 use Rattle.zy_refute.specs.Unmet.{IsNoMakerAt, IsLossless}
-use Rattle.zy_refute.specs.Shared.{HaveOtherNames, TakesAway, IsTaker, IsNoMakerFor, AreSources, IsNoStartAt, one_if, AreShared}
+use Rattle.zy_refute.specs.Shared.{Differ, HaveOtherNames, TakesAway, IsTaker, IsNoMakerFor, AreSources, IsNoStartAt, one_if, AreShared}
 use Rattle.zy_refute.proofs.PlaceLemmas.{observed_at, allowed_at, clash}
 use Rattle.zy_refute.proofs.UnmetLemmas.{occurs_at, allowed, divided, from_start, by_source}
 
@@ -37,10 +37,6 @@ use Rattle.zy_refute.proofs.UnmetLemmas.{occurs_at, allowed, divided, from_start
 -- the number is in the list
 abbrev is_in : List ℕ → ℕ → Bool
 is_in xs n = is_member nat_eq xs n
-
--- two numbers differ
-abbrev Differ : ℕ → ℕ → Type 0
-Differ one other = one ≡ other → ⊥
 
 at_in : (P : ℕ → Type 0) (xs : List ℕ) (n : ℕ) → All P xs → is_in xs n ≡ true → P n
 at_in P [] n all there = absurd (cc)

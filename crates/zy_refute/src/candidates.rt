@@ -73,8 +73,8 @@ fn is_source(call: &Observed, fact: &Fact, reader: &Observed, breaker: Option<&O
     }
 }
 
-// Checks whether a sure call that is surely before the reader surely leaves what excludes the fact.
-fn breaks(call: &Observed, fact: &Fact, reader: &Observed) -> Result<bool, NoMemory> {
+/// Checks whether a sure call that is surely before the reader surely leaves what excludes the fact.
+pub(crate) fn breaks(call: &Observed, fact: &Fact, reader: &Observed) -> Result<bool, NoMemory> {
     if !call.sure || !is_surely_before(call, reader) {
         return Ok(false);
     }

@@ -43,15 +43,15 @@ pub fn has_no_source(
     have_no_source(store, calls, known, fact, reader, read, last)
 }
 
-// Checks that no loss makes the fact.
-fn is_kept(store: Store, fact: &Fact) -> bool
+/// Checks that no loss makes the fact.
+pub(crate) fn is_kept(store: Store, fact: &Fact) -> bool
     ensures kept { IsTrue result → IsLossless store fact.now }
 {
     !holds_without(fact) || (!store.forget && !store.warm)
 }
 
-// Checks that the start is no source of the fact.
-fn is_no_start(
+/// Checks that the start is no source of the fact.
+pub(crate) fn is_no_start(
     store: Store,
     calls: &[Observed],
     fact: &Fact,
@@ -91,9 +91,9 @@ fn have_no_source(
     Ok(true)
 }
 
-// Finds the call that is sent last, of the sure calls that surely leave what excludes the fact and
-// are surely before the reader.
-fn last_breaker<'a>(
+/// Finds the call that is sent last, of the sure calls that surely leave what excludes the fact and
+/// are surely before the reader.
+pub(crate) fn last_breaker<'a>(
     calls: &'a [Observed],
     fact: &Fact,
     reader: &Observed,
@@ -148,8 +148,8 @@ fn is_breaker(call: &Observed, fact: &Fact, reader: &Observed) -> Result<bool, N
     leaves_not(call, fact)
 }
 
-// Checks whether a call surely leaves what excludes the fact.
-fn leaves_not(call: &Observed, fact: &Fact) -> Result<bool, NoMemory>
+/// Checks whether a call surely leaves what excludes the fact.
+pub(crate) fn leaves_not(call: &Observed, fact: &Fact) -> Result<bool, NoMemory>
     ensures value { IfOk result (λ leaves. leaves
         ≡ not (Facts.may_hold_beside (Needs.left_by call.now.call call.now.shown) fact.now)) }
 {
@@ -159,8 +159,8 @@ fn leaves_not(call: &Observed, fact: &Fact) -> Result<bool, NoMemory>
     Ok(!beside)
 }
 
-// Checks that the call at a place is no source of the fact for the reader.
-fn is_passed(
+/// Checks that the call at a place is no source of the fact for the reader.
+pub(crate) fn is_passed(
     store: Store,
     calls: &[Observed],
     known: &[Need],
@@ -226,7 +226,7 @@ fn is_no_source(
     if is_surely_before(reader, call) || is_undone_by(calls, fact, call, reader, last) {
         return Ok(true);
     }
-    if is_undone(calls, fact, call, reader)? {
+    if is_undone(calls, fact, at, call, reader)? {
         return Ok(true);
     }
     Ok(has_no_rest(store, calls, known, fact, at, call))
@@ -249,17 +249,22 @@ fn is_undone_by(
     }
 }
 
-// Checks whether a call was surely undone before the reader.
+// Checks whether a call at a place was surely undone before the reader. What undid it was sent later, so
+// it stands after it.
 #[tactic(auto, using(crate::proofs::PlaceLemmas::undone_at))]
 fn is_undone(
     calls: &[Observed],
     fact: &Fact,
+    at: usize,
     call: &Observed,
     reader: &Observed,
 ) -> Result<bool, NoMemory>
     ensures some { IfOk result (λ is. IsTrue is → IsUndone calls.now fact.now call.now reader.now) }
 {
-    for by in 0..calls.len() {
+    for by in at..calls.len() {
+        if is_surely_before(reader, &calls[by]) {
+            return Ok(false);
+        }
         if is_surely_before(call, &calls[by]) && is_breaker(&calls[by], fact, reader)? {
             return Ok(true);
         }

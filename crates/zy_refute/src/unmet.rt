@@ -53,8 +53,8 @@ fn with_call(
     Ok(Some(at))
 }
 
-// Checks whether a call ended before the one that was found, if there is one.
-fn is_first(calls: &[Observed], found: Option<usize>, call: &Observed) -> bool {
+/// Checks whether a call ended before the one that was found, if there is one.
+pub(crate) fn is_first(calls: &[Observed], found: Option<usize>, call: &Observed) -> bool {
     match found {
         Some(found) => match calls.get(found) {
             Some(other) => ended_first(call.ended, other.ended),
