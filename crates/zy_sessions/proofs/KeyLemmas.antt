@@ -1,5 +1,5 @@
 -- The keys to which frames give an exptime.
-use Rattle.std.proofs.Common.{◌≡◌, ℕ, Bool, true, false, cond, List, [], ◌∷◌, ◌++◌, None, Some, inl, inr, ⊎_elim, refl, sym, ap, ◌∙◌, subst, arith}
+use Rattle.std.proofs.Common.{◌≡◌, ℕ, Bool, true, false, cond, List, [], ◌∷◌, ◌++◌, Some, inl, inr, ⊎_elim, refl, sym, ap, ◌∙◌, subst, arith}
 use Rattle.std.specs.Prelude.{◌⊎◌}
 use Rattle.std.specs.BTreeMap.{is_at}
 use Rattle.std.specs.BTreeSet.{BTreeSet, contains, Updates}
@@ -49,19 +49,7 @@ key_added old new key updates other = (
       either,
 )
 
-pub key_none : (keys : BTreeSet (List ℕ)) → AddsKey keys keys None
-key_none keys other = (
-  λ has. inl has,
-  λ either. ⊎_elim (λ (before : Has keys other). before) (λ (is : None ≡ Some other). absurd (cc)) either,
-)
-
 -- ---- several frames
-
-pub keys_none : (keys : BTreeSet (List ℕ)) → AddsKeys keys keys []
-keys_none keys key = (
-  λ has. inl has,
-  λ either. ⊎_elim (λ (before : Has keys key). before) (λ (none : GiveExptime [] key). absurd none) either,
-)
 
 -- the first frame adds its key, and the others add theirs
 pub keys_more : (old mid new : BTreeSet (List ℕ)) (frame : FrameKind) (frames : List FrameKind) → AddsKey old mid (key_with_exptime frame) → AddsKeys mid new frames → AddsKeys old new (frame ∷ frames)

@@ -35,7 +35,7 @@ use Rattle.zy_sessions.specs.declared.line.Line.{Line}
 use Rattle.zy_sessions.specs.declared.session.Session.{Session}
 use Rattle.zy_sessions.specs.declared.sessions.Sessions.{Sessions}
 use Rattle.zy_sessions.specs.Sessions.{SessionHolds, LineHolds, LastingHolds, SessionsHold}
-use Rattle.zy_sessions.specs.Noting.{Has, IsBegun, AddsKey, AddsKeys}
+use Rattle.zy_sessions.specs.Noting.{Has, AppendsEmpty, AddsKey, AddsKeys}
 use Rattle.zy_sessions.proofs.KeyLemmas.{keys_more, lasting_same, lasting_more}
 use Rattle.zy_sessions.proofs.StreamLemmas.{bytes_of, stream_more, stream_same, bytes_other, bytes_close, bytes_else, bytes_none, bytes_here, stream_past}
 
@@ -137,7 +137,7 @@ abbrev open_of : List Record → ℕ → List ℕ
 open_of records conn = stream conn (closes conn records) records
 
 -- the sessions that were, and one that began
-each_begun : (records : List Record) (conn : ℕ) (old new : List Session) → IsBegun old new
+each_begun : (records : List Record) (conn : ℕ) (old new : List Session) → AppendsEmpty old new
     → ((session : ℕ) (s : Session) → slice_get old session ≡ Some s → SessionHolds records conn session s)
     → stream conn (length old) records ≡ [] → marks_in records conn (length old) ≡ 0
     → (session : ℕ) (s : Session) → slice_get new session ≡ Some s → SessionHolds records conn session s
@@ -157,7 +157,7 @@ each_begun records conn old new begun each none unmarked session s is = dite (de
     got = ap (λ (l : List Session). slice_get l session) (sym begun.appended) ∙ is
 
 -- nothing came yet
-pub line_none : (conn : ℕ) (line : Line) → StandsFor line.framer [] → IsBegun [] line.sessions.items → LineHolds [] conn line
+pub line_none : (conn : ℕ) (line : Line) → StandsFor line.framer [] → AppendsEmpty [] line.sessions.items → LineHolds [] conn line
 line_none conn line framer begun = record {
   count = ap (λ (l : List Session). length l) begun.appended;
   framer = framer;
@@ -250,7 +250,7 @@ module _ (records : List Record) (s : Segment) (old new : Line) (h : LineHolds r
 abbrev with_close : List Record → ℕ → List Record
 with_close records conn = records ++ Kinds.Close conn ∷ []
 
-pub line_closed : (records : List Record) (conn : ℕ) (old new : Line) → LineHolds records conn old → StandsFor new.framer [] → IsBegun old.sessions.items new.sessions.items
+pub line_closed : (records : List Record) (conn : ℕ) (old new : Line) → LineHolds records conn old → StandsFor new.framer [] → AppendsEmpty old.sessions.items new.sessions.items
     → LineHolds (records ++ Kinds.Close conn ∷ []) conn new
 line_closed records conn old new h framer begun = record {
   count =

@@ -25,7 +25,7 @@ abbrev pub AddsKeys : BTreeSet (List ℕ) → BTreeSet (List ℕ) → List Frame
 AddsKeys old new frames = (key : List ℕ) → (Has new key ↔ Has old key ⊎ GiveExptime frames key)
 
 -- an empty session was appended
-pub record IsBegun (old new : List Session) : Type 0 where
+pub record AppendsEmpty (old new : List Session) : Type 0 where
   pub session : Session
   pub appended : new ≡ old ++ session ∷ []
   pub commands : session.commands.items ≡ []

@@ -3,7 +3,7 @@ ghost use Rattle.std.specs.Prelude.{◌≡◌, ◌≢◌, ◌+◌, ℕ, List, []
 ghost use Rattle.zy_capture.specs.declared.record.Record.{Record};
 ghost use Rattle.zy_capture.specs.declared.record.Record.TheVariants as Kinds;
 ghost use Rattle.zy_sessions.specs.Sessions.{LineHolds, LastingHolds};
-ghost use Rattle.zy_sessions.specs.Noting.{IsBegun};
+ghost use Rattle.zy_sessions.specs.Noting.{AppendsEmpty};
 
 use crate::noting::note_frames;
 use crate::session::Session;
@@ -112,7 +112,7 @@ impl Line {
 
 // Begins the next session.
 fn begin_session(alloc: Global, sessions: &mut Vec<Session>) -> Result<(), NoMemory>
-    ensures more { OnOk result (IsBegun sessions.old.items sessions.new.items) }
+    ensures more { OnOk result (AppendsEmpty sessions.old.items sessions.new.items) }
 {
     sessions.push(Session {
         commands: Vec::new(alloc),
