@@ -4,3 +4,5 @@ pub mod TextLemmas
 pub mod ReplyLemmas
 pub mod FoundLemmas
 pub mod CountLemmas
+pub mod MarkedLemmas
+pub mod SizeLemmas

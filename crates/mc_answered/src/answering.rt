@@ -6,9 +6,10 @@ ghost use Rattle.mc_answered.specs.With.{IsFound};
 use crate::counts::counts_length;
 use crate::fixed::fixed_answer;
 use crate::listing::{are_got, listing_length};
+use crate::marked::meta_length;
 use crate::one::{one_answer, reply_kind};
 use mc_allows::Said;
-use mc_parse::Command;
+use mc_parse::{Command, Meta};
 use std::alloc::Global;
 use zy_base::NoMemory;
 
@@ -30,6 +31,8 @@ pub fn answers_with(
                 Ok(None)
             }
         }
+        Command::Meta { meta: Meta::Noop } => Ok(line_answer(command, saids, bytes)),
+        Command::Meta { meta } => meta_length(alloc, command, meta, saids, bytes),
         _ => Ok(line_answer(command, saids, bytes)),
     }
 }

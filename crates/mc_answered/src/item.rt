@@ -60,8 +60,8 @@ impl Shown<'_> {
     }
 }
 
-// Returns the length of a value and the end of its line, if the bytes begin with them.
-fn value_length(bytes: &[u8], value: &[u8]) -> Option<usize>
+/// Returns the length of a value and the end of its line, if the bytes begin with them.
+pub(crate) fn value_length(bytes: &[u8], value: &[u8]) -> Option<usize>
     ensures value { IsFound (λ text. text ≡ line value.now) bytes.now result }
 {
     match bytes.strip_prefix(value) {

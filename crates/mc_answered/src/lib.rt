@@ -9,8 +9,10 @@ mod heading;
 mod item;
 mod line;
 mod listing;
+mod marked;
 mod one;
 mod reply;
+mod size;
 mod text;
 
 pub use answering::answers_with;
@@ -18,4 +20,5 @@ pub use heading::{Heading, read_heading};
 pub use line::{is_error_line, is_line_with, line_length};
 pub use one::reply_kind;
 pub use reply::{may_be_said, read_reply, stores};
+pub use size::read_size;
 pub use text::text_from;

@@ -46,8 +46,8 @@ pub(crate) fn are_got(keys: &[Blob], saids: &[Said]) -> bool
     true
 }
 
-// Checks whether this may be said to a get.
-fn is_got(said: &Said) -> bool
+/// Checks whether this may be said to a get.
+pub(crate) fn is_got(said: &Said) -> bool
     ensures value { (key : List ℕ) → result ≡ true → MaySay (Get key) said.now }
 {
     match said {

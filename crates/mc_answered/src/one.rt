@@ -13,7 +13,7 @@ ghost use Rattle.mc_answered.specs.With.{IsFound, MaySayTo};
 use crate::line::{is_server_error, line_length};
 use crate::reply::{kind_may_fail, may_say, read_reply};
 use mc_allows::Said;
-use mc_calls::{CallKind, CallReply};
+use mc_calls::{Call, CallKind, CallReply, Tag, numbers_fit};
 use mc_parse::{Command, Verb};
 
 /// Checks whether this may be said to a call of this kind that is no get.
@@ -91,8 +91,8 @@ pub(crate) fn one_answer(kind: CallKind, quiet: bool, saids: &[Said], bytes: &[u
     }
 }
 
-// Returns the length of the line in which a server names a fault of its own, if the bytes begin with one.
-fn failed_line(bytes: &[u8]) -> Option<usize>
+/// Returns the length of the line in which a server names a fault of its own, if the bytes begin with one.
+pub(crate) fn failed_line(bytes: &[u8]) -> Option<usize>
     ensures value { IsFound IsServerError bytes.now result }
 {
     let Some(length) = line_length(bytes) else {
@@ -134,27 +134,10 @@ fn is_same(one: &CallReply, other: &CallReply) -> bool
 fn reply_fits(reply: &CallReply)
     ensures value { FitsReply reply.now }
 {
-    match reply {
-        CallReply::Hit { flags, unique, .. } => {
-            let _flags = *flags;
-            let _unique = *unique;
-        }
-        CallReply::Number { number } => {
-            let _number = *number;
-        }
-        CallReply::Tally {
-            gets,
-            sets,
-            hits,
-            misses,
-            items,
-        } => {
-            let _gets = *gets;
-            let _sets = *sets;
-            let _hits = *hits;
-            let _misses = *misses;
-            let _items = *items;
-        }
-        _ => {}
-    }
+    let tag = Tag {
+        index: 0,
+        conn: 0,
+        part: 0,
+    };
+    numbers_fit(tag, &Call::Flush, reply);
 }

@@ -60,7 +60,7 @@ unique_no_feed true key flags unique value named =
 unique_no_feed false key flags unique value named = line_is (codes "VALUE " ++ key ++ codes " " ++ decimal flags ++ codes " " ++ decimal (length value)) (heading_no_feed key flags value named)
 
 -- the first line, and the bytes after it
-lined : (bytes : List ℕ) (n : ℕ) (more : List ℕ) → bytes ++ more ≡ take n bytes ++ (drop n bytes ++ more)
+pub lined : (bytes : List ℕ) (n : ℕ) (more : List ℕ) → bytes ++ more ≡ take n bytes ++ (drop n bytes ++ more)
 lined bytes n more = ap (λ (t : List ℕ). t ++ more) (sym (take-append-drop n bytes)) ∙ append_assoc (take n bytes) (drop n bytes) more
 
 -- an item that fits has the heading of the first line

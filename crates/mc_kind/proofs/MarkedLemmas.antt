@@ -50,14 +50,14 @@ no_line text none one = go one.body (sym one.is ∙ none)
     go (byte ∷ body) is = cc
 
 -- a code and its marks
-coded : (code marks text : List ℕ) → IsLine text → text ≡ line (code ++ marks) → IsLineWith code text
+pub coded : (code marks text : List ℕ) → IsLine text → text ≡ line (code ++ marks) → IsLineWith code text
 coded code marks text one is = record { line = one; rest = marks; is = is ∙ append_assoc code marks line_end }
 
 second : (test : Bool) (x y text : List ℕ) → test ≡ false → text ≡ (if test then x else y) → text ≡ y
 second true x y text is same = absurd (cc)
 second false x y text is same = same
 
-missed : (key text : List ℕ) → IsLine text → IsMissLine key text → IsLineWith (codes "EN") text
+pub missed : (key text : List ℕ) → IsLine text → IsMissLine key text → IsLineWith (codes "EN") text
 missed key text one (inl is) = record { line = one; rest = []; is = is }
 missed key text one (inr is) = record { line = one; rest = codes " k" ++ key; is = is }
 

@@ -19,7 +19,7 @@ pub fn are_words(keys: &[Blob]) -> bool
 }
 
 /// Checks whether a key has no space and no line feed.
-pub(crate) fn is_word(key: &[u8]) -> bool
+pub fn is_word(key: &[u8]) -> bool
     ensures value { result ≡ true → IsKeyWord key.now }
 {
     match memchr2(b' ', b'\n', key) {

@@ -10,10 +10,11 @@ mod lines;
 mod listing;
 mod marked;
 mod piece;
+mod shown;
 mod text;
 
 pub use cutting::{Cutting, cut_session};
 pub use finding::first_answer;
 pub use first::First;
-pub use keys::are_words;
+pub use keys::{are_words, is_word};
 pub use text::Text;

@@ -8,10 +8,11 @@ ghost use Rattle.mc_kind.specs.Marked.{shows_value, IsCoded, IsSet};
 
 use crate::first::First;
 use crate::keys::is_word;
+use crate::shown::first_shown;
 use mc_answered::{is_error_line, is_line_with, line_length, stores};
 use mc_parse::Meta;
 
-/// Finds where the answer to a meta command ends. `Unread` if it may show a value.
+/// Finds where the answer to a meta command ends.
 pub(crate) fn first_meta(meta: &Meta, bytes: &[u8]) -> First
     ensures value { IsFirst (Commands.Meta meta.now) bytes.now result }
 {
@@ -19,7 +20,7 @@ pub(crate) fn first_meta(meta: &Meta, bytes: &[u8]) -> First
         return First::Other;
     }
     if shows_value(meta) {
-        return First::Unread;
+        return first_shown(meta, bytes);
     }
     let Some(length) = line_length(bytes) else {
         return First::Unread;
