@@ -13,6 +13,9 @@ mixed        one in twenty times, the answers to commands that came together are
 swapped      one in twenty reads gets the answer of another client's read at that time, which gets this one's
 resurrected  one in five deleted items comes back 20 changes later, unless the key has another item then
 
+With what tools/load sends by default all show but two: `uncounted` needs --kinds 'incr get number', and `mixed`
+--in-flight 4.
+
 --listen       where clients connect to (default: a free port of 127.0.0.1)
 --connections  ends once N connections have come and gone (default: at Ctrl-C)
 --seed         other random choices of what the fault strikes (default 1)
