@@ -4,7 +4,6 @@ use Rattle.std.specs.Prelude.{All, if◌then◌else◌, ◌⊎◌}
 use Rattle.std.proofs.Common.{◌≡◌, ℕ, ◌+◌, ◌<◌, ◌≤◌, ◌==◌, ◌&&◌, Bool, List, [], ◌∷◌, ◌++◌, length, map, Option, None, Some, inl, inr, refl, ap, ◌∙◌, arith}
 use Rattle.std.proofs.lemmas.List.{take_all}
 use Rattle.std.proofs.lemmas.List.Elements.{All-head, All-tail}
-use Rattle.std.proofs.lemmas.Option.{slice_get_within}
 use mathlib.Core.Logic.{dite}
 use native.Mathlib.Decide.{dec_lt}
 use Rattle.mc_parse.specs.declared.command.Command.{Command}
@@ -110,19 +109,6 @@ module _ (sessions : Sessions) (count : ℕ) (records : List Record) (h : Sessio
   within_or_nothing = dite (dec_lt conn count)
       (λ low. dite (dec_lt session (closes conn records + 1)) (λ few. inl (low, few)) (λ many. inr (behind (omega (arith, many)))))
       (λ high. inr (beyond (omega (arith, high))))
-
-  -- a session among the notes is within the bounds
-  in_bounds : (s : Session) (line : Option Line) → slice_get sessions.lines.items conn ≡ line → session_in line session ≡ Some s → (conn < count) × (session < closes conn records + 1)
-  in_bounds s None at got = absurd (cc)
-  in_bounds s (Some line) at got =
-      let low = slice_get_within sessions.lines.items conn line at in
-      let few = slice_get_within line.sessions.items session s got in
-      let size = h.count_is in
-      let count_is = (h.each conn line at).count in
-      (omega (arith, low, size), omega (arith, few, count_is))
-
-  pub noted_within : (s : Session) → session_at sessions conn session ≡ Some s → (conn < count) × (session < closes conn records + 1)
-  noted_within s is = in_bounds s (slice_get sessions.lines.items conn) refl is
 
 -- a session that is not among the notes has nothing
 pub others_have_nothing : (sessions : Sessions) (count : ℕ) (records : List Record) → SessionsHold sessions count records → (conn session : ℕ)
