@@ -4,11 +4,12 @@ use Rattle.std.specs.List.{AllPairs, Contains, slice_get}
 use Rattle.mc_allows.specs.declared.call_name.CallName.{CallName}
 use Rattle.zy_refute.specs.declared.observed.Observed.{Observed}
 use Rattle.zy_refute.specs.declared.store.Store.{Store}
+use Rattle.zy_refute.specs.Shared.{HaveOtherNames}
 use Rattle.zy_verdict.specs.Recorded.{Recorded}
 use Rattle.zy_verdict.specs.Entries.{is_at_key}
 use Rattle.zy_verdict.specs.Losses.{MayLoseAt}
 use Rattle.zy_verdict.specs.Course.{HasCourse}
-use Rattle.zy_observed.specs.Shown.{AreShown, call_on_shard, HaveOtherNames}
+use Rattle.zy_observed.specs.Shown.{AreShown, call_on_shard}
 
 -- a call is on the key, or is a flush of the key's shard
 abbrev pub is_call_at_key : ℕ → List ℕ → Observed → Bool

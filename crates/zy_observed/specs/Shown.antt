@@ -9,6 +9,7 @@ use Rattle.mc_answers.specs.Output.{FitsText}
 use Rattle.mc_parse.specs.declared.command.Command.{Command}
 use Rattle.mc_parse.specs.declared.shard_call.ShardCall.{ShardCall}
 use Rattle.zy_refute.specs.declared.observed.Observed.{Observed}
+pub use Rattle.zy_refute.specs.Shared.{HaveOtherNames}
 use Rattle.zy_verdict.specs.Recorded.{Recorded}
 use Rattle.zy_verdict.specs.Entries.{NamedCall}
 use Rattle.zy_verdict.specs.Explained.{OutputCuts, AreCuts, IsCallSent, IsCallEnded, IsCallQuiet}
@@ -54,10 +55,6 @@ pub record IsShown (r : Recorded) (x : Observed) : Type 0 where
   pub shown : (cuts : OutputCuts) → AreCuts r cuts → (said : Said) → MayBeSaid r cuts x said → Suits x.shown said
 
 -- ---- all calls
-
--- two calls have different names
-abbrev pub HaveOtherNames : Observed → Observed → Type 0
-HaveOtherNames one other = one.name ≡ other.name → ⊥
 
 -- these are the calls of a recording, with what it shows of them
 pub record AreShown (r : Recorded) (calls : List Observed) : Type 0 where
