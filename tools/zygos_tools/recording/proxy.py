@@ -280,7 +280,6 @@ class Proxy:
                 if count < len(text):
                     way.waiting = memoryview(text)[count:]
                     self.changed.add(way.link)
-        self.recording.pass_marks()
         if answered:
             self.last = time.monotonic()
         if self.unsettled:
@@ -307,6 +306,7 @@ class Proxy:
 
     def look(self) -> None:
         """Does what was put off, and closes links whose time is over."""
+        self.recording.pass_marks()
         later, self.later = self.later, []
         for one in later:
             one()

@@ -25,12 +25,11 @@ Bytes are written before they are passed on. Until the end, answers are in REPLI
 room for two copies. At Ctrl-C clients are cut off, and answers that still come are recorded; a second Ctrl-C does
 without them.
 
-With --every the files are my.000001.cap and my.000001.replies, my.000002.cap and so on. Each is there once it is whole,
-the replies first. A window ends at a quiet moment: clients are held until no command is in flight, and then go on in the
-next one, where an open connection is a new one. If there is no quiet moment within 0.1 seconds, clients go on, and it is
-tried again a second later, for longer, up to 0.8 seconds. It is said once for each window. A moment is not quiet while a
-client has sent a part of a command, or while the last command of one is not surely executed, as with noreply. A window
-also ends at 3 GiB, and not before it has a command. --over removes older windows.
+With --every the files are my.000001.cap and my.000001.replies, my.000002.cap and so on. Each is there once it is
+whole, the replies first. A window ends at a quiet moment: clients are held until no command is in flight, and then go
+on in the next one, where an open connection is a new one. If none comes within 0.1 seconds, clients go on; it is said,
+and tried again a second later, for up to 0.8 seconds. A moment is not quiet while a client has sent a part of a
+command, or after `noreply` no command that was answered. A window also ends at 3 GiB. --over removes older windows.
 
 With several processes or windows, what comes is in REPLIES.spool.0 and so on until the files are written; --repair
 completes a window too, by the names of its files.

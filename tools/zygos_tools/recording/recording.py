@@ -81,6 +81,7 @@ class Recording:
             return number
         if not self.closed or not self.has_room(len(close(0))):
             return None
+        self.pass_marks()
         number, size = self.closed.popleft(), self.spool.size
         if not self.write(self.spool, close(number)):
             return None
@@ -137,14 +138,20 @@ class Recording:
                 marks.append(link.mark * count)
 
     def keep_sent(self, sent: Read) -> None:
-        pack, records, found = SEGMENT.pack, self.marks, []
+        pack, found = SEGMENT.pack, []
+        records: list[bytes] = []
         for way, text in sent:
             link = way.link
             if not way.is_dropping and (link.number is not None or self.is_recorded(link)):
                 records += pack(83, link.number, len(text)), text
                 found.append((link, text))
-        self.marks = []
-        self.note_sent(self.written(self.capture, records, found))
+        marks, self.marks = self.marks, []
+        size = sum(map(len, records)) + sum(map(len, marks))
+        if marks and self.capture.size + size + len(END) > MOST_CAPTURE:
+            self.marks = marks
+            self.pass_marks()
+            marks = []
+        self.note_sent(self.written(self.capture, marks + records, found))
 
     def note_sent(self, found: list[tuple[Link, bytes]]) -> None:
         """Notes what was sent, and written."""
@@ -198,7 +205,7 @@ class Recording:
         count.late = 0
 
     def pass_marks(self) -> None:
-        """Writes the ends of answers that were not written with commands."""
+        """Writes the ends of answers that wait for the next commands."""
         marks, self.marks = self.marks, []
         if marks and not self.fault:
             text = b"".join(marks)
@@ -252,6 +259,7 @@ class Recording:
 
     def finish(self, screen: Screen) -> None:
         """Completes both files."""
+        self.pass_marks()
         version, count = 2 if any(number > 1 for number in self.sessions.values()) else 1, len(self.sessions)
         with naming(self.files.capture.name):
             self.capture.finish(version, count)

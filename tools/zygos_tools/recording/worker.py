@@ -61,6 +61,7 @@ class Parted(Recording):
             return number
         if not self.closed or not self.has_room(len(close(0))):
             return None
+        self.pass_marks()
         number = self.closed.popleft()
         if not self.put([close(number)], [close(number)]):
             return None
@@ -77,7 +78,7 @@ class Parted(Recording):
             self.keep_last(answered)
             return
         pack, has_ends = SEGMENT.pack, self.has_ends
-        records, self.marks = self.marks, []
+        records: list[bytes] = []
         back: list[bytes] = []
         for way, text in answered:
             link = way.link
@@ -93,6 +94,7 @@ class Parted(Recording):
             if not way.is_dropping and (link.number is not None or self.is_recorded(link)):
                 records += pack(83, link.number, len(text)), text
                 found.append((link, text))
+        records, self.marks = self.marks + records, []
         if not self.has_room(sum(map(len, records))):
             records, found = [], []
         if self.put(records, back):

@@ -1,12 +1,14 @@
 """Reads what tcpdump recorded: says what is in it and what was lost, and makes a capture and a replies file of it.
 
 usage: tools/packets [--port N] [--resume] [--in-order CAPTURE [--ends]] [--replies REPLIES] [--over] [FILE]
+       tools/packets [--port N] [--resume] --every LENGTH --in-order CAPTURE [--ends] --replies REPLIES [--over] FILE ..
 
   tcpdump -i lo -B 65536 -w traffic.pcap port 11211
   tools/packets --resume --in-order my.cap --ends --replies my.replies traffic.pcap
 
-FILE is standard input if it is left out or -. CAPTURE or REPLIES may be -, standard output; then the report goes to
-standard error.
+FILE is standard input if it is left out or -. Several files, as tcpdump rotates them, are read in the order of their
+first packets; the last one may end within a record. CAPTURE or REPLIES may be -, standard output; then the report goes
+to standard error.
 
 --port      the port to which requests go, 1 to 65535 (default 11211)
 --in-order  write a capture in the order of the packets' times. It has the streams of `zygos pcap`, which writes one
@@ -16,6 +18,8 @@ standard error.
             the answers to them
 --resume    after a lost packet, begin the connection's next session as soon as client and server are in step again: at
             a packet that begins with a command, once the client has had its answers
+--every     write windows of this length: of so many commands, as 100000, or of a time, as 60s, 10m or 1h. The files are
+            my.000001.cap and my.000001.replies, my.000002.cap and so on
 --over      overwrite CAPTURE and REPLIES if there is something in them
 
 The report has for each flow the connection number, client and server, and the number of requests up to a `quit`. A
@@ -23,6 +27,11 @@ lost packet cuts the stream of its session: the report says after which byte, wh
 --resume, how many requests have no whole answer. A connection that lives for days is cut at its first loss, so it
 needs --resume. If a client sends without waiting for answers, its session may begin late, and answers that fit none of
 its first requests are left out.
+
+A window ends when the server has answered the last command of each open connection, by the times of the packets: so
+every request of the next one is later than every answer of this one. Until then it goes on. A connection that was
+reset, or of which packets were lost, counts as answered. In a window connections are numbered in the order in which
+they come, and each line of the report is on a window.
 
 If `zygos pcap` rejects the file, the report names the first error, its offset, and what to do, and nothing is written.
 The status is 1 if bytes were cut away, the file is rejected, or no packet goes to the port.

@@ -26,6 +26,28 @@ LINE = re.compile(rb"(?:VALUE [^ \0\n]+ [0-9]+ ([0-9]{1,9})(?: [0-9]+)?|VA ([0-9
                   rb"|(?:CLIENT_|SERVER_)?ERROR(?: [^\n]*)?)\r\n").match
 
 
+# a usual request with its line feed, but without its block, of which the group is the length
+REQUEST = re.compile(rb"(?:gets? [ -~]{1,1000}|(?:set|add|replace|append|prepend) [!-~]{1,250} [0-9]{1,9} [0-9]{1,9}"
+                     rb" ([0-9]{1,6})(?: noreply)?|cas [!-~]{1,250} [0-9]{1,9} [0-9]{1,9} ([0-9]{1,6}) [0-9]{1,18}"
+                     rb"|(?:delete|incr|decr|touch|mg|md|gat) [ -~]{1,1000}|mn|version)\r\n").match
+
+
+def usual_requests(text: bytes) -> tuple[int, int]:
+    """How many usual requests a text begins with, and where they end."""
+    count, at, size = 0, 0, len(text)
+    while at < size:
+        line = REQUEST(text, at)
+        if line is None:
+            break
+        end, group = line.end(), line.lastindex
+        if group:
+            end += int(line[group]) + 2
+            if end > size or text[end - 2 : end] != b"\r\n":
+                break
+        count, at = count + 1, end
+    return count, at
+
+
 def answer_ends(text: bytes) -> list[int]:
     """The places at which answers end."""
     found: list[int] = []

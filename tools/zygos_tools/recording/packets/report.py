@@ -6,9 +6,11 @@ from typing import TYPE_CHECKING
 
 from zygos_tools.protocol.answers import Outcome, groups
 from zygos_tools.protocol.meaning import Framer, framed
-from zygos_tools.protocol.pace import ODD, Pace
+from zygos_tools.protocol.pace import ODD
+from zygos_tools.recording.counting import Count
 from zygos_tools.recording.packets import recorded
 from zygos_tools.recording.packets.faults import told
+from zygos_tools.recording.packets.quick import usual_requests
 from zygos_tools.recording.packets.recorded import Session, Stream
 
 if TYPE_CHECKING:
@@ -100,7 +102,7 @@ class Report:
 
     def session(self, session: Session) -> tuple[int, list[str]]:
         """How many requests a session has, and what is to be said of it."""
-        stream, framer, pace = session.requests, Framer(), Pace()
+        stream, framer, pace = session.requests, Framer(), Count()
         notes: list[str] = []
         text = stream.text()
         pace.sent(text)
@@ -109,7 +111,8 @@ class Report:
         if not pace.is_text:
             notes.append(f"warning: its first byte is {text[0]:#x}, as in {ODD[text[0]]}; "
                          "only text commands are served")
-        count = sum(1 for _ in framer.feed(text))
+        count, at = usual_requests(text)
+        count += sum(1 for _ in framer.feed(text[at:]))
         if session.is_resumed:
             notes.append("it begins anew, after a loss" + early_of(session))
             self.sums.update(resumed=1)

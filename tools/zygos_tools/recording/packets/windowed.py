@@ -193,17 +193,23 @@ class Ordered:
 
     def __init__(self) -> None:
         self.held, self.done, self.late = b"", 0, 0
+        self.left = b""  # a record that is not whole
 
-    def add(self, text: bytes, head: Struct, is_all: bool = False) -> bytes:
-        """Adds whole records. Gives those that none comes before any more; with `is_all`, all that are left."""
-        text = self.held + text
-        times: list[tuple[int, int, int]] = []
-        at, end = 0, len(text)
-        while at < end:
-            seconds, micros, size, _ = head.unpack_from(text, at)
+    def add(self, text: bytes, head: Struct, is_all: bool = False) -> bytes | None:
+        """Adds bytes of records. Gives the records that none comes before any more; with `is_all`, all that are whole.
+        None if a record has more bytes than there can be."""
+        text = b"".join([self.held, self.left, text])
+        unpack, times, at, end = head.unpack_from, list[tuple[int, int, int]](), 0, len(text)
+        while at + 16 <= end:
+            seconds, micros, size, _ = unpack(text, at)
             stop = at + 16 + size
+            if size > recorded.MOST_FRAME:
+                return None
+            if stop > end:
+                break
             times.append((seconds * 1000000 + micros, at, stop))
             at = stop
+        self.left = text[at:]
         found = sorted(times)
         limit = found[-1][0] + 1 if is_all and found else found[-1][0] - HORIZON if found else 0
         count = bisect_left(found, (limit,))
@@ -212,7 +218,7 @@ class Ordered:
             self.done = max(self.done, found[count - 1][0])
         if found == times:
             place = found[count - 1][2] if count else 0
-            self.held = text[place:]
+            self.held = text[place:at]
             return text[:place]
         self.held = b"".join([text[at:stop] for _, at, stop in found[count:]])
         return b"".join([text[at:stop] for _, at, stop in found[:count]])
@@ -234,7 +240,7 @@ class Files:
         for name in self.names:
             self.read_file(name, name == self.names[-1])
         if self.head:
-            self.take(self.ordered.add(b"", self.head, True), self.names[-1], self.head)
+            self.add(b"", self.names[-1], self.head, True)
         self.end_window()
         while self.children:
             self.wait()
@@ -253,21 +259,23 @@ class Files:
         except PacketFault as fault:
             raise Fault(f"{inputs.name_of(name)}: {told(fault, text, name, 0)[0]}") from None
         if self.head and self.head.format != head.format:
-            self.take(self.ordered.add(b"", self.head, True), name, self.head)
-        self.head, text = head, text[recorded.HEADER :]
+            self.add(b"", name, self.head, True)
+        self.head = head
+        self.add(text[recorded.HEADER :], name, head)
         while piece := more(MOST_ORDERED):
-            text += piece
-            at = whole_records(text, head)
-            if at is None:
-                raise Fault(f"{inputs.name_of(name)}: a frame has more than {recorded.MOST_FRAME} bytes, so the file is damaged")
-            self.take(self.ordered.add(text[:at], head), name, head)
-            text = text[at:]
-        if text and whole_records(text, head) == len(text):
-            self.take(self.ordered.add(text, head), name, head)
-        elif text and is_last:
-            screen.say(f"{inputs.name_of(name)}: it ends within a record, as a file that tcpdump still writes: that is left out")
-        elif text:
+            self.add(piece, name, head)
+        if self.ordered.left and not is_last:
             raise Fault(f"{inputs.name_of(name)}: it ends within a record, and other files follow")
+        if self.ordered.left:
+            screen.say(f"{inputs.name_of(name)}: it ends within a record, as a file that tcpdump still writes: that is left out")
+            self.ordered.left = b""
+
+    def add(self, text: bytes, name: str, head: Struct, is_all: bool = False) -> None:
+        """Takes what is in order with further bytes of a file."""
+        records = self.ordered.add(text, head, is_all)
+        if records is None:
+            raise Fault(f"{inputs.name_of(name)}: a frame has more than {recorded.MOST_FRAME} bytes, so the file is damaged")
+        self.take(records, name, head)
 
     def take(self, text: bytes, name: str, head: Struct) -> None:
         """Takes records that are whole, from a file of this name."""
@@ -308,16 +316,3 @@ class Files:
     def wait(self) -> None:
         """Waits for a process that writes a window."""
         self.status |= int(os.waitpid(self.children.pop(0), 0)[1] != 0)
-
-
-def whole_records(text: bytes, head: Struct) -> int | None:
-    """Where the whole records of a text end; None if one has more bytes than there can be."""
-    at, end = 0, len(text)
-    while at + 16 <= end:
-        size: int = head.unpack_from(text, at)[2]
-        if size > recorded.MOST_FRAME:
-            return None
-        if at + 16 + size > end:
-            break
-        at += 16 + size
-    return at
