@@ -2,6 +2,7 @@
 use mc_allows::{CallName, Shown};
 use mc_calls::{Call, CallReply};
 use std::alloc::Global;
+use std::collections::BTreeSet;
 use zy_base::{Blob, NoMemory};
 use zy_find::{Found, Rules, find};
 use zy_refute::Observed;
@@ -105,11 +106,17 @@ pub(crate) fn found_in(alloc: Global, recorded: &[Recorded]) -> Result<Option<Ve
         warm: false,
         forget: false,
     };
-    let found = find(alloc, rules, &calls, 64);
+    let lasting = BTreeSet::new(alloc);
+    let found = find(alloc, rules, &lasting, &calls, 64);
+    drop(lasting);
     drop(calls);
     match found? {
-        Found::Nothing { .. } => Ok(None),
-        Found::Ordered(order) => {
+        Found::Nothing { calls } => {
+            drop(calls);
+            Ok(None)
+        }
+        Found::Ordered { order, began } => {
+            drop(began);
             let mut conns = Vec::new(alloc);
             for placement in order.items() {
                 conns.push(conn_of(placement))?;

@@ -1,6 +1,6 @@
 //! What a key has after a call, if what its answer shows can be so.
 
-use crate::held::{Held, Known};
+use crate::held::{AT_FIRST, Held, Known};
 use crate::order::Rules;
 use mc_allows::{Shown, padded_number};
 use mc_calls::{Call, CallReply};
@@ -19,6 +19,17 @@ pub(crate) struct Decided {
     pub(crate) shown: Option<(usize, u64)>,
     /// The item's number turned out to have no spaces: the place that stored it.
     pub(crate) unpadded: Option<usize>,
+    /// The item turned out to be gone since a call failed: the place of that call.
+    pub(crate) gone: Option<usize>,
+    /// The flags and the value of the item that was there at first, if the call tells.
+    pub(crate) began: Option<First>,
+}
+
+/// The flags and the value of an item that was there at first.
+#[derive(Drop)]
+pub(crate) struct First {
+    pub(crate) flags: u32,
+    pub(crate) value: Blob,
 }
 
 impl Decided {
@@ -30,6 +41,16 @@ impl Decided {
             lost: false,
             shown: None,
             unpadded: None,
+            gone: None,
+            began: None,
+        }
+    }
+
+    // The same, after an item that was there at first.
+    fn after(self, flags: u32, value: Blob) -> Decided {
+        Decided {
+            began: Some(First { flags, value }),
+            ..self
         }
     }
 }
@@ -43,8 +64,23 @@ pub(crate) fn decide(
     one: &Observed,
     place: usize,
 ) -> Result<Option<Decided>, NoMemory> {
-    match decide_unlost(alloc, held, one, place)? {
-        Some(decided) => Ok(Some(decided)),
+    if let Some(decided) = decide_unlost(alloc, held, one, place)? {
+        return Ok(Some(decided));
+    }
+    let doubt = match held {
+        Held::Item(known) => known.doubt,
+        _ => None,
+    };
+    match doubt {
+        Some(failed) => {
+            let Some(decided) = decide_unlost(alloc, &Held::Nothing, one, place)? else {
+                return Ok(None);
+            };
+            Ok(Some(Decided {
+                gone: Some(failed),
+                ..decided
+            }))
+        }
         None if rules.forget => {
             let Some(decided) = decide_unlost(alloc, &Held::Nothing, one, place)? else {
                 return Ok(None);
@@ -68,19 +104,19 @@ fn decide_unlost(
     if let Shown::Failure = one.shown
         && !is_join(&one.call)
     {
-        return failed(held, &one.call);
+        return failed(held, place);
     }
     match &one.call {
         Call::Get { .. } => got(held, one),
         Call::Set { .. } => stored_if(fits(&one.shown, CallReply::Stored), &one.call, place),
         Call::Add { .. } => added(held, one, place),
-        Call::Replace { .. } => replaced(held, one, place),
+        Call::Replace { .. } => replaced(alloc, held, one, place),
         Call::Append { value, .. } => joined(alloc, held, one, Joint::Behind(value), place),
         Call::Prepend { value, .. } => joined(alloc, held, one, Joint::Before(value), place),
-        Call::Cas { unique, .. } => exchanged(held, one, *unique, place),
+        Call::Cas { unique, .. } => exchanged(alloc, held, one, *unique, place),
         Call::Incr { amount, .. } => counted(alloc, held, one, Count::Up(*amount), place),
         Call::Decr { amount, .. } => counted(alloc, held, one, Count::Down(*amount), place),
-        Call::Delete { .. } => deleted(held, &one.shown),
+        Call::Delete { .. } => deleted(alloc, held, &one.shown),
         Call::Flush => Ok(Some(Decided::plain(Held::Nothing))),
         Call::Tally => Ok(Some(Decided::plain(held.copy()?))),
     }
@@ -115,15 +151,15 @@ fn stored_if(holds: bool, call: &Call, place: usize) -> Result<Option<Decided>, 
     }
 }
 
-// A call that fails leaves the item, but for a set, which removes it.
-fn failed(held: &Held, call: &Call) -> Result<Option<Decided>, NoMemory> {
-    let (held, choice) = match call {
-        Call::Set { .. } => (Held::Nothing, Choice::FailedAndGone),
-        _ => (held.copy()?, Choice::Failed),
-    };
+// A call that fails leaves the item, until a later answer shows that it is gone.
+fn failed(held: &Held, place: usize) -> Result<Option<Decided>, NoMemory> {
+    let mut left = held.copy()?;
+    if let Held::Item(known) = &mut left {
+        known.doubt = Some(place);
+    }
     Ok(Some(Decided {
-        choice,
-        ..Decided::plain(held)
+        choice: Choice::Failed,
+        ..Decided::plain(left)
     }))
 }
 
@@ -158,13 +194,16 @@ fn got(held: &Held, one: &Observed) -> Result<Option<Decided>, NoMemory> {
 // A first item is what the first answer shows of it.
 fn first_seen(flags: u32, value: &Blob, unique: Option<u64>) -> Result<Option<Decided>, NoMemory> {
     let digits = value.bytes().len();
-    Ok(Some(Decided::plain(Held::Item(Known {
+    let mut decided = Decided::plain(Held::Item(Known {
         flags,
         value: value.copy()?,
         digits,
         unique,
-        origin: None,
-    }))))
+        origin: Some(AT_FIRST),
+        doubt: None,
+    }));
+    decided.shown = unique.map(|unique| (AT_FIRST, unique));
+    Ok(Some(decided.after(flags, value.copy()?)))
 }
 
 // An item is seen, as far as the answer shows it.
@@ -222,6 +261,7 @@ fn seen_as(known: &Known, value: &Blob, unique: Option<u64>) -> Result<Decided, 
             None => unique,
         },
         origin: known.origin,
+        doubt: None,
     });
     drop(std::mem::replace(&mut decided.held, held));
     Ok(decided)
@@ -236,11 +276,18 @@ fn added(held: &Held, one: &Observed, place: usize) -> Result<Option<Decided>, N
     }
 }
 
-fn replaced(held: &Held, one: &Observed, place: usize) -> Result<Option<Decided>, NoMemory> {
+fn replaced(
+    alloc: Global,
+    held: &Held,
+    one: &Observed,
+    place: usize,
+) -> Result<Option<Decided>, NoMemory> {
     match held {
         Held::Item(_) => stored_if(fits(&one.shown, CallReply::Stored), &one.call, place),
         Held::Nothing => kept_if(fits(&one.shown, CallReply::NotStored), held),
-        Held::Any if fits(&one.shown, CallReply::Stored) => stored_if(true, &one.call, place),
+        Held::Any if fits(&one.shown, CallReply::Stored) => {
+            Ok(stored_if(true, &one.call, place)?.map(|decided| decided.after(0, Blob::new(alloc))))
+        }
         Held::Any => kept_if(fits(&one.shown, CallReply::NotStored), &Held::Nothing),
     }
 }
@@ -300,6 +347,7 @@ fn joined(
 }
 
 fn exchanged(
+    alloc: Global,
     held: &Held,
     one: &Observed,
     unique: u64,
@@ -311,7 +359,11 @@ fn exchanged(
                 reply: CallReply::Stored,
             } = one.shown
         {
-            return stored_if(true, &one.call, place);
+            let held = Held::brought(&one.call, place)?;
+            return Ok(Some(Decided {
+                shown: Some((AT_FIRST, unique)),
+                ..Decided::plain(held).after(0, Blob::new(alloc))
+            }));
         }
         if let Held::Any = held
             && let Shown::Reply {
@@ -345,13 +397,16 @@ fn exchanged(
     }
 }
 
-fn deleted(held: &Held, shown: &Shown) -> Result<Option<Decided>, NoMemory> {
-    let may = match held {
-        Held::Item(_) => fits(shown, CallReply::Deleted),
-        Held::Nothing => fits(shown, CallReply::NotFound),
-        Held::Any => fits(shown, CallReply::Deleted) || fits(shown, CallReply::NotFound),
-    };
-    kept_if(may, &Held::Nothing)
+fn deleted(alloc: Global, held: &Held, shown: &Shown) -> Result<Option<Decided>, NoMemory> {
+    match held {
+        Held::Item(_) => kept_if(fits(shown, CallReply::Deleted), &Held::Nothing),
+        Held::Nothing => kept_if(fits(shown, CallReply::NotFound), &Held::Nothing),
+        Held::Any if fits(shown, CallReply::NotFound) => kept_if(true, &Held::Nothing),
+        Held::Any if fits(shown, CallReply::Deleted) => {
+            Ok(Some(Decided::plain(Held::Nothing).after(0, Blob::new(alloc))))
+        }
+        Held::Any => Ok(None),
+    }
 }
 
 // How a number is counted.
@@ -368,6 +423,14 @@ impl Count {
             Count::Down(amount) => number.saturating_sub(amount),
         }
     }
+
+    // A number from which this one may have been counted.
+    fn before(self, number: u64) -> u64 {
+        match self {
+            Count::Up(amount) => number.wrapping_sub(amount),
+            Count::Down(amount) => number.saturating_add(amount),
+        }
+    }
 }
 
 fn counted(
@@ -381,7 +444,7 @@ fn counted(
         if let Held::Any = held
             && !fits(&one.shown, CallReply::NotFound)
         {
-            return counted_first(alloc, held, &one.shown, place);
+            return counted_first(alloc, held, &one.shown, count, place);
         }
         return kept_if(fits(&one.shown, CallReply::NotFound), &Held::Nothing);
     };
@@ -408,6 +471,7 @@ fn counted_first(
     alloc: Global,
     held: &Held,
     shown: &Shown,
+    count: Count,
     place: usize,
 ) -> Result<Option<Decided>, NoMemory> {
     match shown {
@@ -416,7 +480,9 @@ fn counted_first(
         } => {
             let mut value = Blob::new(alloc);
             number_text(&mut value, *number)?;
-            Ok(Some(Decided::plain(Held::stored(0, value, place)?)))
+            let mut first = Blob::new(alloc);
+            number_text(&mut first, count.before(*number))?;
+            Ok(Some(Decided::plain(Held::stored(0, value, place)?).after(0, first)))
         }
         _ => kept_if(fits(shown, CallReply::NotNumber), held),
     }
@@ -443,6 +509,7 @@ fn padded(alloc: Global, known: &Known, number: u64, place: usize) -> Result<Dec
             digits,
             unique: None,
             origin: Some(place),
+            doubt: None,
         }))
     })
 }

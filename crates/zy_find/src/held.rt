@@ -12,9 +12,14 @@ pub(crate) struct Known {
     pub(crate) digits: usize,
     /// The unique, once it is shown.
     pub(crate) unique: Option<u64>,
-    /// The place, in the order of the key, of the call that stored it; none for a first item.
+    /// The place, in the order of the key, of the call that stored it; `AT_FIRST` for a first item.
     pub(crate) origin: Option<usize>,
+    /// The place of a call that failed, with which the item may be gone.
+    pub(crate) doubt: Option<usize>,
 }
+
+/// The place of an item that was there at first.
+pub(crate) const AT_FIRST: usize = usize::MAX;
 
 /// What a key has.
 #[derive(Drop)]
@@ -39,6 +44,7 @@ impl Held {
                 digits: known.digits,
                 unique: known.unique,
                 origin: known.origin,
+                doubt: known.doubt,
             })),
         }
     }
@@ -60,6 +66,7 @@ impl Held {
             digits,
             unique: None,
             origin: Some(origin),
+            doubt: None,
         }))
     }
 }

@@ -13,5 +13,5 @@ mod quick;
 mod searching;
 mod sessions;
 
-pub use order::{Found, Rules};
+pub use order::{Began, Found, Rules};
 pub use ordering::find;

@@ -1,6 +1,6 @@
 //! One order of all calls, from those at the keys.
 
-use crate::order::{Found, Placed};
+use crate::order::{Began, Found, Placed};
 use crate::sessions::are_of_one_session;
 use mc_calls::Call;
 use std::alloc::Global;
@@ -52,6 +52,7 @@ pub(crate) fn merge(
     alloc: Global,
     observed: &[Observed],
     orders: Vec<Vec<Placed>>,
+    began: Vec<Began>,
 ) -> Result<Found, NoMemory> {
     let mut merging = begin(alloc, observed, orders)?;
     let mut amiss = None;
@@ -71,11 +72,26 @@ pub(crate) fn merge(
         amiss = merging.first_left(observed);
     }
     let found = match amiss {
-        Some(call) => Found::Nothing { call },
-        None => Found::Ordered(merging.by_moment(alloc, observed)?),
+        Some(call) => {
+            drop(began);
+            Found::Nothing {
+                calls: list_of(alloc, call)?,
+            }
+        }
+        None => Found::Ordered {
+            order: merging.by_moment(alloc, observed)?,
+            began,
+        },
     };
     drop(merging);
     Ok(found)
+}
+
+// A list of one call.
+fn list_of(alloc: Global, call: usize) -> Result<Vec<usize>, NoMemory> {
+    let mut calls = Vec::new(alloc);
+    calls.push(call)?;
+    Ok(calls)
 }
 
 // Begins before any call is placed.

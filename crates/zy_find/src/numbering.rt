@@ -18,6 +18,17 @@ impl Numbering {
         Numbering { last: FIRST }
     }
 
+    // Returns the unique that was shown of the first item, or one of its own.
+    pub(crate) fn number_of_first(&mut self, given: Given) -> u64 {
+        match given {
+            Given::Shown(unique) => unique,
+            _ => {
+                self.last = self.last.saturating_add(1);
+                self.last
+            }
+        }
+    }
+
     // Gives each call that stores the unique that was shown, or one of its own.
     pub(crate) fn number(&mut self, placed: &mut [Placed], given: &[Given]) {
         for place in 0..placed.len() {

@@ -1,5 +1,7 @@
 //! Orders of calls.
 
+use mc_calls::Item;
+use zy_base::Blob;
 use zy_verdict::{Choice, Order};
 
 /// What may happen at a key besides the calls.
@@ -24,11 +26,18 @@ pub(crate) struct Placed {
     pub(crate) lost: bool,
 }
 
+/// An item that the store begins with.
+#[derive(Drop)]
+pub struct Began {
+    pub key: Blob,
+    pub item: Item,
+}
+
 /// What was found.
 #[derive(Drop)]
 pub enum Found {
-    /// An order of all sure calls, and some others.
-    Ordered(Order),
-    /// No order; the call with this offset stood in the way.
-    Nothing { call: usize },
+    /// An order of all sure calls, and some others, and the items that the store begins with.
+    Ordered { order: Order, began: Vec<Began> },
+    /// No order; the calls with these offsets stood in the way.
+    Nothing { calls: Vec<usize> },
 }

@@ -1,7 +1,7 @@
 //! A run through calls at a key.
 
-use crate::deciding::{Decided, decide};
-use crate::held::Held;
+use crate::deciding::{Decided, First, decide};
+use crate::held::{AT_FIRST, Held};
 use crate::order::{Placed, Rules};
 use std::alloc::Global;
 use std::mem;
@@ -26,6 +26,9 @@ struct Undo {
     held: Held,
     shown: Option<usize>,
     unpadded: Option<usize>,
+    gone: Option<usize>,
+    /// It told what was there at first.
+    began: bool,
 }
 
 /// What the key has after some calls, and these in their order.
@@ -38,6 +41,22 @@ pub(crate) struct Run {
     /// For each place, what is known of its unique.
     given: Vec<Given>,
     undo: Vec<Undo>,
+    /// The item that was there at first, if a call told, and what is known of its unique.
+    first: Option<First>,
+    first_given: Given,
+}
+
+/// A run that is done.
+#[derive(Drop)]
+pub(crate) struct Done {
+    /// The calls in their order.
+    pub(crate) placed: Vec<Placed>,
+    /// For each place, what is known of its unique.
+    pub(crate) given: Vec<Given>,
+    /// The item that was there at first, if a call told.
+    pub(crate) first: Option<First>,
+    /// What is known of its unique.
+    pub(crate) first_given: Given,
 }
 
 impl Run {
@@ -50,6 +69,8 @@ impl Run {
             placed: Vec::new(alloc),
             given: Vec::new(alloc),
             undo: Vec::new(alloc),
+            first: None,
+            first_given: Given::Any,
         }
     }
 
@@ -71,22 +92,33 @@ impl Run {
             lost,
             shown,
             unpadded,
+            gone,
+            began,
         } = decided;
         let before = mem::replace(&mut self.held, held);
         let mut place = None;
-        if let Some((origin, unique)) = shown
-            && let Some(given) = self.given.get_mut(origin)
-        {
-            *given = Given::Shown(unique);
+        if let Some((origin, unique)) = shown {
+            self.give(origin, Given::Shown(unique));
             place = Some(origin);
         }
         if let Some(origin) = unpadded {
             self.choose(origin, Choice::Plain);
         }
+        if let Some(origin) = gone {
+            self.choose(origin, Choice::FailedAndGone);
+        }
+        let told = began.is_some() && self.first.is_none();
+        if told {
+            drop(mem::replace(&mut self.first, began));
+        } else {
+            drop(began);
+        }
         self.undo.push(Undo {
             held: before,
             shown: place,
             unpadded,
+            gone,
+            began: told,
         })?;
         let given = self.given_last();
         self.given.push(given)?;
@@ -107,6 +139,15 @@ impl Run {
         }
     }
 
+    // Says what is known of the unique of the item that a call at a place stored, or of the first item.
+    fn give(&mut self, place: usize, given: Given) {
+        if place == AT_FIRST {
+            self.first_given = given;
+        } else if let Some(own) = self.given.get_mut(place) {
+            *own = given;
+        }
+    }
+
     fn choose(&mut self, place: usize, choice: Choice) {
         if let Some(placed) = self.placed.get_mut(place) {
             placed.choice = choice;
@@ -120,26 +161,32 @@ impl Run {
                 held,
                 shown,
                 unpadded,
+                gone,
+                began,
             },
         ) = self.undo.pop()
         else {
             return None;
         };
         drop(mem::replace(&mut self.held, held));
-        if let Some(origin) = shown
-            && let Some(given) = self.given.get_mut(origin)
-        {
-            *given = Given::Any;
+        if let Some(origin) = shown {
+            self.give(origin, Given::Any);
         }
         if let Some(origin) = unpadded {
             self.choose(origin, Choice::Padded);
+        }
+        if let Some(origin) = gone {
+            self.choose(origin, Choice::Failed);
+        }
+        if began {
+            drop(mem::replace(&mut self.first, None));
         }
         let _ = self.given.pop();
         self.placed.pop().map(|placed| placed.call)
     }
 
     // Returns the calls in their order, and the uniques that were shown.
-    pub(crate) fn into_parts(self) -> (Vec<Placed>, Vec<Given>) {
+    pub(crate) fn into_done(self) -> Done {
         let Run {
             alloc: _,
             rules: _,
@@ -147,10 +194,17 @@ impl Run {
             placed,
             given,
             undo,
+            first,
+            first_given,
         } = self;
         drop(held);
         drop(undo);
-        (placed, given)
+        Done {
+            placed,
+            given,
+            first,
+            first_given,
+        }
     }
 }
 
