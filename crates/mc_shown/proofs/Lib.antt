@@ -3,3 +3,4 @@ pub mod ReadLemmas
 pub mod GotLemmas
 pub mod ToldLemmas
 pub mod MarkedLemmas
+pub mod ValuedLemmas

@@ -1,8 +1,7 @@
 -- What was said to the call of a meta command suits what its answer shows.
-use Rattle.std.proofs.Common.{◌≡◌, inl, inr, ℕ, zero, suc, Bool, true, false, List, [], ◌∷◌, ◌++◌, length, refl, sym, subst}
+use Rattle.std.proofs.Common.{◌≡◌, inl, inr, ℕ, Bool, true, false, List, [], ◌∷◌, ◌++◌, length, refl, sym, subst}
 use Rattle.std.specs.Prelude.{if◌then◌else◌, codes, decimal, None, Some}
-use Rattle.mc_calls.specs.declared.call_reply.CallReply.{CallReply}
-use Rattle.mc_calls.specs.declared.call_reply.CallReply.TheVariants.{Miss, Hit, Stored, NotStored, Exists, NotFound, Deleted, Number, NotNumber, TooLarge, Flushed, Tally}
+use Rattle.mc_calls.specs.declared.call_reply.CallReply.TheVariants.{Miss, Hit, Stored, NotStored, Exists, NotFound, Deleted, TooLarge}
 use Rattle.mc_meta.specs.Flags.{is_among}
 use Rattle.mc_parse.specs.declared.command.Command.TheVariants as Commands
 use Rattle.mc_parse.specs.declared.meta.Meta.{Meta}

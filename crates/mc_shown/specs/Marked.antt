@@ -1,5 +1,5 @@
 -- What the answers to meta commands show. No public clause cites this module.
-use Rattle.std.specs.Prelude.{◌≡◌, ℕ, Bool, ◌||◌, nat_eq, if◌then◌else◌, List, codes}
+use Rattle.std.specs.Prelude.{◌≡◌, ℕ, Bool, ◌||◌, nat_eq, if◌then◌else◌, List, take, drop, codes}
 use Rattle.std.specs.List.{starts_with}
 use Rattle.mc_calls.specs.declared.call_reply.CallReply.TheVariants as Replies
 use Rattle.mc_parse.specs.declared.meta.Meta.{Meta}
@@ -8,7 +8,9 @@ use Rattle.mc_parse.specs.Saying.{a_found, a_stored, a_removed}
 use Rattle.mc_allows.specs.declared.said.Said.{Said}
 use Rattle.mc_allows.specs.declared.shown.Shown.{Shown}
 use Rattle.mc_allows.specs.declared.shown.Shown.TheVariants.{Nothing, Reply, SomeHit, Failure}
+use Rattle.mc_reply.specs.Line.{line}
 use Rattle.mc_answers.specs.Answer.{IsMarked}
+use Rattle.mc_answers.specs.Cut.{IsLine}
 
 -- the text of what was said to the call of a meta command
 abbrev pub IsMetaText : Meta → List ℕ → Said → Type 0
@@ -51,3 +53,9 @@ meta_shown Metas.Noop text = Nothing
 meta_shown (Metas.Get key flags) text = found_shown text
 meta_shown (Metas.Set key call marks) text = stored_shown text
 meta_shown (Metas.Delete key flags) text = removed_shown text
+
+-- the text is a line, and then this value and the end of its line
+pub record EndsWithValue (text value : List ℕ) : Type 0 where
+  pub length : ℕ
+  pub first : IsLine (take length text)
+  pub rest : drop length text ≡ line value

@@ -8,6 +8,7 @@ mod marked;
 mod part;
 mod showing;
 mod told;
+mod valued;
 
 pub use part::Part;
 pub use showing::shown_by;

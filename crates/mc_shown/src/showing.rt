@@ -1,15 +1,16 @@
 //! What an answer shows.
 ghost use Rattle.std.specs.Prelude.{IfOk, List};
+ghost use Rattle.mc_parse.specs.declared.command.Command.TheVariants as Commands;
 ghost use Rattle.mc_allows.specs.declared.said.Said.{Said};
 ghost use Rattle.mc_answers.specs.Answer.{IsAnswer};
 ghost use Rattle.mc_shown.specs.Parts.{AreSuited};
 
 use crate::listing::listing_parts;
-use crate::marked::marked_shown;
 use crate::part::{Part, only_part};
 use crate::told::line_shown;
+use crate::valued::meta_shown;
 use mc_answered::reply_kind;
-use mc_parse::Command;
+use mc_parse::{Command, Meta};
 use std::alloc::Global;
 use zy_base::NoMemory;
 
@@ -21,9 +22,18 @@ pub fn shown_by(alloc: Global, command: &Command, text: &[u8]) -> Result<Vec<Par
 {
     match command {
         Command::Get { keys, unique } => listing_parts(alloc, keys.items(), *unique, text),
-        Command::Meta { meta } => only_part(alloc, Part::new(marked_shown(meta, text))),
+        Command::Meta { meta } => meta_parts(alloc, meta, text),
         _ => reply_parts(alloc, command, text),
     }
+}
+
+// Returns what the answer to a meta command shows.
+fn meta_parts(alloc: Global, meta: &Meta, text: &[u8]) -> Result<Vec<Part>, NoMemory>
+    ensures suits { IfOk result (λ parts. (saids : List Said) → IsAnswer (Commands.Meta meta.now) saids text.now
+        → AreSuited parts.items saids) }
+{
+    let shown = meta_shown(alloc, meta, text)?;
+    only_part(alloc, Part::new(shown))
 }
 
 // Returns what the answer of a command that is no retrieval shows.
