@@ -337,6 +337,21 @@ def stores_that_fail():
         same(f"several, {more}", "order found", judged(several, **more)[0])
 
 
+def stores_that_fail_early():
+    """A memcached refuses a store when its line has come, and removes the older item before the block has come."""
+    line, block = b"set a 0 0 1048576\r\n", b"x" * (1 << 20) + b"\r\n"
+    for told, wanted in ((b"END\r\n", "unknown"), (hit(b"a", b"1"), "order found"), (hit(b"a", b"2"), "no")):
+        records = [segment(0, ONE[1]), segment(0, b""), *pieces(1, line + block[:100]), segment(2, b"get a\r\n"), segment(2, b""),
+                   *pieces(1, block[100:]), segment(1, b"")]
+        word, lines = verdict(capture(3, records), outputs_of(replies([b"STORED\r\n", FAILED, told])))
+        same(f"{told!r}", wanted, word)
+        if wanted == "unknown":
+            same("what is said", ["unknown: key a: a store that failed may have removed the older item before it had come whole;"
+                                  " --except-keys 'a' leaves it out", True], [lines[0], lines[1].startswith("  connection 1, ")])
+    before = [segment(0, ONE[1]), segment(0, b""), segment(2, b"get a\r\n"), segment(2, b""), *pieces(1, line + block), segment(1, b"")]
+    same("before its line", "no", verdict(capture(3, before), outputs_of(replies([b"STORED\r\n", FAILED, b"END\r\n"])))[0])
+
+
 def quiet_stores_that_may_fail():
     """With noreply nobody is told that a store failed."""
     large = b"set a 0 0 1040000 noreply\r\n%s\r\n" % bytes(1040000)
@@ -453,5 +468,5 @@ def flags_are_told():
 Tests = cases(uniques_after_a_restart, uniques_that_do_not_count, items_that_were_not_shown, items_before_drawn_recordings,
               a_block_that_is_dropped, batches_that_cannot_be_followed, what_is_unknown_names_commands,
               items_in_any_order, lists_of_operators, answers_that_are_left, flushes_with_a_delay, connections_that_are_refused,
-              authentications, stores_that_fail, quiet_stores_that_may_fail, lines_that_may_be_carried_out, commands_of_sessions_that_ended,
+              authentications, stores_that_fail, stores_that_fail_early, quiet_stores_that_may_fail, lines_that_may_be_carried_out, commands_of_sessions_that_ended,
               no_key_is_left, files_that_are_none, at_a_terminal, flags_are_told, hot_keys_hold_nobody_up)

@@ -18,6 +18,7 @@ LATE = "a command that was not answered before its connection ended may have bee
 ENTERING = ("the first command of a session stores two words, which is no set but an authentication if the server asks"
             " for one (-Y)")
 LARGE = "a value of nearly 1 MiB was stored with noreply, and the server may have refused it"
+EARLY = "a store that failed may have removed the older item before it had come whole"
 QUIET = "a command with noreply may have failed, as the server may lack memory"
 # of how many bytes a value is surely taken, and the calls that can fail without an answer
 MOST_SURE, STORES = 1000000, (SET, ADD, REPLACE, APPEND, PREPEND, CAS, INCR, DECR)
@@ -65,7 +66,7 @@ class Doubts:
         if any(event.command in self.tails for event in events):
             found = [in_session(event, self.table.session[event.command], event.command in self.tails)
                      for event in found]
-        return found, reason
+        return sorted(found, key=lambda event: event.begin), reason
 
     def loose(self, event: Event, loses: bool) -> tuple[list[Event], Doubt | None]:
         """What is surely known of a call, and why that is less than was taken to be known."""
@@ -76,12 +77,21 @@ class Doubts:
             return [] if event.kind == GET else [perhaps(event)], Doubt(odd.why, first)
         if command in self.entering:
             return [perhaps(event)], Doubt(ENTERING, command)
+        if event.want == "failed" and command in self.recording.early:
+            return [self.begun(event)], Doubt(EARLY, command)
         if event.want is None and event.kind in STORES and not event.optional:
             if len(event.value or b"") > MOST_SURE:
-                return [perhaps(event), failed(event)], Doubt(LARGE, command)
+                return [perhaps(event), self.begun(failed(event))], Doubt(LARGE, command)
             if loses:
                 return [perhaps(event)], Doubt(QUIET, command)
         return [event], Doubt(LATE, command) if command in self.tails else None
+
+
+    def begun(self, event: Event) -> Event:
+        """A call that may have been made as soon as the first bytes of its command came."""
+        event = copy.copy(event)
+        event.begin = self.recording.early.get(event.command, event.begin)
+        return event
 
 
 def perhaps(event: Event) -> Event:

@@ -68,7 +68,8 @@ class Recording:
     what that is, and those of `outside` have a faulty line, each with its number. Of keys that are `unsure` nothing can
     be refused, each for its reason. `forgetting` has the commands after which the server may lose items, and `tails` the
     last commands of sessions, if they have no end and another session follows. `surplus` has the sessions whose last
-    answer is to no command.
+    answer is to no command. `early` has when the first bytes of a command came, if it came in several segments, and
+    `since` the same of each connection's command that is not whole.
     """
 
     def __init__(self, capture: bytes, shards: int = 16, look: Callable[[], None] = lambda: None):
@@ -82,6 +83,8 @@ class Recording:
         self.forgetting: list[int] = []
         self.tails: set[int] = set()
         self.surplus: set[tuple[int, int]] = set()
+        self.early: dict[int, int] = {}
+        self.since: dict[int, int] = {}
         self.unsure: dict[bytes, str] = {}
         # what was read last: a usual line, or the command of another one and where its line ends
         self.usual: re.Match[bytes] | None = None
@@ -153,6 +156,7 @@ class Recording:
 
     def take(self, stream: Cutter, connection: int, piece: bytes, place: int, begin: int) -> None:
         """The commands that end in a further piece of a session, which is at this place of the capture."""
+        since = self.since[connection] if stream.size else begin
         for text, at, end in stream.frames(piece, self.end_of):
             before = len(text) - len(piece)
             frame_at = place + at - before if at >= before else self.table.put(text[at:end])
@@ -161,6 +165,10 @@ class Recording:
             else:
                 command = self.command if "bytes" not in self.command.numbers else stored(self.command, text[self.line : end])
                 self.add(connection, command, text[at:end], self.line - at, begin, frame_at)
+            if since != begin:
+                self.early[self.of_connection[connection][-1]] = since
+            since = begin
+        self.since[connection] = since
 
     def end_of(self, text: bytes, at: int) -> int:
         """Where the frame ends that begins at a place; `usual` has what was found of a usual one, and for another one
