@@ -687,9 +687,10 @@ class Gathered:
 
 
 def judged(name):
-    """The capture of this name and its replies have an order."""
+    """The capture of this name and its replies have an order, or none is found; the server is not accused."""
     ran = run("judge", "--warm", "--out", "/dev/null", name, name.replace(".cap", ".replies"))
-    same(f"the order of {name}", (0, "order found"), (ran.returncode, ran.stdout.decode()[:11]))
+    if not ran.stdout.startswith((b"order found: ", b"unknown: ")):
+        fail(f"the order of {name}", ran.stdout + ran.stderr)
 
 
 def loaded(place, **more):
