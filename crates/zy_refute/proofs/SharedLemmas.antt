@@ -150,7 +150,7 @@ module _ (calls : List Observed) (once : AllPairs HaveOtherNames calls) where
   later_places at x is n named (made m c s a ∷ steps) are later =
       All-cons (Differ at) are.0.at (places_of calls steps are.1)
       (λ same. let one = same_Some x are.0.x (sym is ∙ ap (slice_get calls) same ∙ are.0.is) in
-          later.0.other (are.0.step.named ∙ ap (λ (o : Observed). o.name) (sym one) ∙ sym named))
+      later.0.other (are.0.step.named ∙ ap (λ (o : Observed). o.name) (sym one) ∙ sym named))
       (later_places at x is n named steps are.1 later.1)
 
   places_differ : (steps : List KeyStep) (are : AreObserved calls steps) → KeepOrder calls steps → AllPairs Differ (places_of calls steps are)
@@ -353,9 +353,9 @@ module _ (store : Store) (calls : List Observed) (fact : Fact) (readers sources 
       let places = places_of calls steps are in
       let bound = walk first [] steps are order start spent_at_first in
       let listed = few (filter (is_in sources) places) sources (AllPairs-filter Differ (is_in sources) places (places_differ calls once steps are order.order))
-          (λ n there. (and_parts (is_in places n) (is_in sources n) (sym (in_kept (is_in sources) places n) ∙ there)).1) in
+      (λ n there. (and_parts (is_in places n) (is_in sources n) (sym (in_kept (is_in sources) places n) ∙ there)).1) in
       let all = few readers (filter (is_in readers) places) shared.apart
-          (λ n there. let t = at_in (IsTaker calls fact) readers n shared.takers there in
-              in_kept (is_in readers) places n ∙ and_from (is_in places n) (is_in readers n) (placed calls once n t.x t.is steps are (order.sure n t.x t.is t.takes.sure)) there) in
+      (λ n there. let t = at_in (IsTaker calls fact) readers n shared.takers there in
+      in_kept (is_in readers) places n ∙ and_from (is_in places n) (is_in readers n) (placed calls once n t.x t.is steps are (order.sure n t.x t.is t.takes.sure)) there) in
       let fewer = shared.fewer in
       omega (arith, bound, listed, all, fewer)

@@ -119,12 +119,7 @@ fn may_begin(
 }
 
 // Checks that the start is no source of the fact for the reader at a place.
-fn is_begun(
-    store: Store,
-    calls: &[Observed],
-    fact: &Fact,
-    reader: usize,
-) -> Result<bool, NoMemory>
+fn is_begun(store: Store, calls: &[Observed], fact: &Fact, reader: usize) -> Result<bool, NoMemory>
     ensures begun { IfOk result (λ is. IsTrue is → IsNoStartAt store calls.now fact.now reader) }
 {
     match calls.get(reader) {
