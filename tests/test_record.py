@@ -19,7 +19,7 @@ from checks import LONGEST, TOP, cases, fail, run, same
 from traffic import (Recorder, Server, at_once, big, connected, files_of, has_size, memcached, patched, rest_of, take,
                      talk, until)
 from zygos_tools.cli.screen import Progress
-from zygos_tools.files.formats import capture_start, close, read_capture, segment
+from zygos_tools.files.formats import capture, capture_start, close, read_capture, read_replies, replies, segment
 from zygos_tools.files.part import Part
 from zygos_tools.protocol.pace import Pace
 from zygos_tools.recording.counting import Count
@@ -693,7 +693,25 @@ def judged(name):
         fail(f"the order of {name}", ran.stdout + ran.stderr)
 
 
-def loaded(place, **more):
+def joined(names):
+    """Windows that follow each other are one recording, in which each has connections of its own."""
+    records, told = [], []
+    for name in names:
+        with open(name, "rb") as one, open(name.replace(".cap", ".replies"), "rb") as other:
+            read, answered = read_capture(Part("capture", one.read())), read_replies(Part("replies", other.read()))
+        records += [segment(len(told) + number, text) for number, text in read.records]
+        told += [output.text for output in answered.outputs]
+    with open("joined.cap", "wb") as one, open("joined.replies", "wb") as other:
+        one.write(capture(len(told), records))
+        other.write(replies(told))
+    ran = run("judge", "--out", "/dev/null", "joined.cap", "joined.replies")
+    if not ran.stdout.startswith((b"order found: 2000 commands", b"unknown: ")):
+        fail("the order of all windows", ran.stdout + ran.stderr)
+    os.unlink("joined.cap")
+    os.unlink("joined.replies")
+
+
+def loaded(place):
     """Lets 20 clients send commands on the same keys."""
     kinds = "get get mget gets cas set setq add delete incr"
     ran = run("load", "--commands", "100", "--keys", "30", "--kinds", kinds, place)
@@ -730,6 +748,7 @@ def in_windows():
              sorted(os.listdir(".")))
         counts = [int(count) for count in re.findall(r"my\.[0-9]{6}\.cap: ([0-9]+) commands, ", said)]
         same("all commands are in a window", (0, 2000, len(names)), (status, sum(counts), len(counts)))
+        joined(names)
         for name in names:
             judged(name)
             sent, _ = files_of(name, name.replace(".cap", ".replies"))
