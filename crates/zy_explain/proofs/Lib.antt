@@ -1,0 +1,10 @@
+pub mod ShardLemmas
+pub mod SaidLemmas
+pub mod CallLemmas
+pub mod CutLemmas
+pub mod TrackLemmas
+pub mod StateLemmas
+pub mod EndLemmas
+pub mod NumberLemmas
+pub mod MoreLemmas
+pub mod ByLemmas

@@ -1,1 +1,4 @@
 pub mod Judged
+pub mod Making
+pub mod Following
+pub mod Ending

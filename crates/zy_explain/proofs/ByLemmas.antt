@@ -1,0 +1,45 @@
+-- What one call more, and commands that are ended, leave; by cases on a result.
+use Rattle.std.specs.List.{slice_get, slice_set}
+use Rattle.std.specs.BTreeSet.{BTreeSet}
+use Rattle.std.proofs.Common.{◌≡◌, ℕ, Bool, true, List, Option, None, Some, Result, Ok, Err, IfOk, IfSome, OnOk}
+use Rattle.zy_base.specs.declared.outside.NoMemory.{NoMemory}
+use Rattle.mc_allows.specs.declared.call_name.CallName.{CallName}
+use Rattle.zy_confirm.specs.declared.store.Store.{Store}
+use Rattle.zy_sessions.specs.declared.session.Session.{Session}
+use Rattle.zy_sessions.specs.declared.sessions.Sessions.{Sessions}
+use Rattle.zy_sessions.specs.Sessions.{session_at}
+use Rattle.zy_explain.specs.declared.rules.Rules.{Rules}
+use Rattle.zy_explain.specs.declared.track.Track.{Track}
+use Rattle.zy_explain.specs.declared.row.Row.{Row}
+use Rattle.zy_explain.specs.declared.state.State.{State}
+use Rattle.zy_explain.specs.Making.{may_lose_in, MakesNext}
+use Rattle.zy_explain.specs.Following.{output_in, Settles, FollowsTo, RowFollows, RowSettles, StandsSome}
+use Rattle.zy_explain.proofs.StateLemmas.{placed, ended}
+
+module _ (rules : Rules) (lasting : BTreeSet (List ℕ)) (s : Session) (output : List ℕ) (before after : Store) (name : CallName) (latest : ℕ) where
+  pub follows_by : (old between new : Track) → Settles rules.shards rules.forget s output old between → (r : Result (Option ℕ) NoMemory)
+      → IfOk r (λ found. IfSome found (MakesNext rules.shards rules.forget (may_lose_in rules.forget lasting) s before after between new name latest))
+      → IfOk r (λ found. IfSome found (FollowsTo rules lasting s output before after old new name latest))
+  follows_by old between new settles (Ok None) makes = tt
+  follows_by old between new settles (Ok (Some moment)) makes = record { between = between; settles = settles; makes = makes }
+  follows_by old between new settles (Err refused) makes = tt
+
+  pub row_follows_by : (old new : Row) (one other : Track) → slice_get old.tracks.items name.session ≡ Some one → new.tracks.items ≡ slice_set old.tracks.items name.session other → (r : Result (Option ℕ) NoMemory)
+      → IfOk r (λ found. IfSome found (FollowsTo rules lasting s output before after one other name latest))
+      → IfOk r (λ found. IfSome found (RowFollows rules lasting s output before after old new name latest))
+  row_follows_by old new one other is set (Ok None) follows = tt
+  row_follows_by old new one other is set (Ok (Some moment)) follows = record { one = one; other = other; is = is; set = set; follows = follows }
+  row_follows_by old new one other is set (Err refused) follows = tt
+
+pub placed_some : (rules : Rules) (sessions : Sessions) (outputs : List (List (List ℕ))) (old new : State) (name : CallName) (s : Session) (row other : Row) (moment : ℕ)
+    → session_at sessions name.conn name.session ≡ Some s → slice_get old.rows.items name.conn ≡ Some row
+    → RowFollows rules sessions.lasting s (output_in outputs name.conn name.session) old.store new.store row other name old.moment moment
+    → new.rows.items ≡ slice_set old.rows.items name.conn other → new.moment ≡ moment → StandsSome rules sessions outputs old → StandsSome rules sessions outputs new
+placed_some rules sessions outputs old new name s row other moment has is f set moment_is some =
+    placed rules sessions outputs old new name s row other moment has is f set moment_is some.0 some.1
+
+pub ended_some : (rules : Rules) (sessions : Sessions) (outputs : List (List (List ℕ))) (old new : State) (conn session : ℕ) (s : Session) (row other : Row)
+    → session_at sessions conn session ≡ Some s → slice_get old.rows.items conn ≡ Some row → RowSettles rules s (output_in outputs conn session) row other session
+    → new.rows.items ≡ slice_set old.rows.items conn other → new.store ≡ old.store → new.moment ≡ old.moment → StandsSome rules sessions outputs old → StandsSome rules sessions outputs new
+ended_some rules sessions outputs old new conn session s row other has is f set store_is moment_is some =
+    ended rules sessions outputs old new conn session s row other has is f set store_is moment_is some.0 some.1
