@@ -1,6 +1,6 @@
 -- The calls at a key, and what refutes the key.
 use Rattle.std.specs.Prelude.{nat_eq}
-use Rattle.std.specs.List.{slice_get, IsDistinct}
+use Rattle.std.specs.List.{IsDistinct}
 use Rattle.std.specs.List.Sorted.{IsPermutation}
 use Rattle.std.proofs.Common.{◌≡◌, ℕ, ◌<◌, ◌&&◌, Bool, true, false, List, length, filter, get_or, All, AllPairs, Contains, Option, None, Some, refl, sym, ap, ◌∙◌, subst}
 use Rattle.std.proofs.lemmas.Bool.{and_parts, and_from, eqb-true, eq-eqb, false_from_ne_true, cases_Bool}
@@ -15,10 +15,10 @@ use Rattle.zy_refute.specs.Observed.{is_one_session, is_same_name}
 use Rattle.zy_refute.specs.Courses.{HaveNoOrder}
 use Rattle.zy_verdict.specs.Recorded.{Recorded}
 use Rattle.zy_verdict.specs.Course.{HasCourse}
-use Rattle.zy_verdict.proofs.ListLemmas.{all_at, contains_kept}
+use Rattle.zy_verdict.proofs.ListLemmas.{contains_kept}
 use Rattle.zy_refute.specs.Shared.{HaveOtherNames, IsRefutationOfApart}
 use Rattle.zy_observed.specs.Shown.{AreShown}
-use Rattle.zy_observed.specs.AtKey.{is_call_at_key, IsOneAtKey, AreCallsAt, IsStoreAt, HasNoCourse, IsNamedAt}
+use Rattle.zy_observed.specs.AtKey.{is_call_at_key, IsOneAtKey, AreCallsAt, IsStoreAt, HasNoCourse}
 use Rattle.zy_observed.proofs.OrderLemmas.{order_of}
 
 -- ---- names
@@ -90,7 +90,3 @@ refuted_by shards store calls own key at none r same shown may course =
 pub refuted_apart : (shards : ℕ) (store : Store) (calls own : List Observed) (key : List ℕ) (at : ℕ) → AreCallsAt shards key calls own → IsRefutationOfApart store own (Some at) → HasNoCourse shards store calls key
 refuted_apart shards store calls own key at are none r same shown may course =
     refuted_by shards store calls own key are (none (are.once shown.once)).1 r same shown may course
-
--- a call of the list is named
-pub named_at : (shards : ℕ) (calls own : List Observed) (key : List ℕ) (at : ℕ) (x : Observed) → AreCallsAt shards key calls own → slice_get own at ≡ Some x → IsNamedAt shards key calls x.name
-named_at shards calls own key at x are is = record { x = x; is = all_at (IsOneAtKey shards key calls) own at x are.each is; named = refl }

@@ -41,9 +41,10 @@ had_ended_at (Some moment) sent is = record { moment = moment; is = refl; before
 earlier_in_session : (one other : CallName) → is_earlier_in_session one other ≡ true → AreOfOneSession one other × IsEarlier one other
 earlier_in_session one other is =
     let both = and_parts (is_one_session one other) (nat_lt one.index other.index || (nat_eq one.index other.index && nat_lt one.part other.part)) is in
-    let session = and_parts (nat_eq one.conn other.conn) (nat_eq one.session other.session) both.0 in
-    (record { conn = eqb-true one.conn other.conn session.0; session = eqb-true one.session other.session session.1 },
-    order (or_cases (nat_lt one.index other.index) (nat_eq one.index other.index && nat_lt one.part other.part) both.1))
+    let session = and_parts (nat_eq one.conn other.conn) (nat_eq one.session other.session) both.0 in (
+      record { conn = eqb-true one.conn other.conn session.0; session = eqb-true one.session other.session session.1 },
+      order (or_cases (nat_lt one.index other.index) (nat_eq one.index other.index && nat_lt one.part other.part) both.1),
+    )
   where
     order : (nat_lt one.index other.index ≡ true) ⊎ ((nat_eq one.index other.index && nat_lt one.part other.part) ≡ true) → IsEarlier one other
     order (inl low) = inl (ltb-true one.index other.index low)
@@ -145,14 +146,15 @@ module _ (r : Recorded) (calls : List Observed) (shown : AreShown r calls) (cuts
   are_observed (e ∷ entries) (made n c s a ∷ steps) are each failures =
       let is = All-head (IsCallAt r cuts key) e entries each in
       let failure = All-head (MayHaveFailed r) e entries failures in
-      let own_call = shown_as e is in
-      (record {
-        at = own_call.own_there.0;
-        x = own_call.x;
-        is = contains_at own own_call.x own_call.own_there;
-        step = step_of e is failure own_call.x (shown_there own_call.x own_call.there) own_call.named n c s are.0 are.1 are.2;
-      },
-      are_observed entries steps are.3 (All-tail (IsCallAt r cuts key) e entries each) (All-tail (MayHaveFailed r) e entries failures))
+      let own_call = shown_as e is in (
+        record {
+          at = own_call.own_there.0;
+          x = own_call.x;
+          is = contains_at own own_call.x own_call.own_there;
+          step = step_of e is failure own_call.x (shown_there own_call.x own_call.there) own_call.named n c s are.0 are.1 are.2;
+        },
+        are_observed entries steps are.3 (All-tail (IsCallAt r cuts key) e entries each) (All-tail (MayHaveFailed r) e entries failures),
+      )
 
   -- a call that has the name of an entry is among the steps
   abbrev IsAmong : List KeyStep → MadeCall → Type 0
@@ -177,16 +179,17 @@ module _ (r : Recorded) (calls : List Observed) (shown : AreShown r calls) (cuts
   are_later e n is (later ∷ entries) [] are after = absurd are
   are_later e n is (later ∷ entries) (lost ∷ steps) are after = are_later e n is (later ∷ entries) steps are after
   are_later e n is (later ∷ entries) (made m c s a ∷ steps) are after =
-      let here = All-head (IsAfter r cuts e) later entries after in
-      (record {
-        other = λ same. here.other (sym are.0 ∙ same ∙ is);
-        order = λ i j x y at_i at_j one other. false_from_ne_true (is_surely_before x y)
-            (λ before. here.order (subst (λ (k : CallName). IsSurelyBefore r cuts later.named.name k) is
-            (subst (λ (k : CallName). IsSurelyBefore r cuts later.named.name k) (sym other)
-            (subst (λ (k : CallName). IsSurelyBefore r cuts k y.name) (sym one ∙ are.0)
-            (surely_before r cuts cut x y (shown_at i x at_i) (shown_at j y at_j) before)))));
-      },
-      are_later e n is entries steps are.3 (All-tail (IsAfter r cuts e) later entries after))
+      let here = All-head (IsAfter r cuts e) later entries after in (
+        record {
+          other = λ same. here.other (sym are.0 ∙ same ∙ is);
+          order = λ i j x y at_i at_j one other. false_from_ne_true (is_surely_before x y)
+              (λ before. here.order (subst (λ (k : CallName). IsSurelyBefore r cuts later.named.name k) is
+              (subst (λ (k : CallName). IsSurelyBefore r cuts later.named.name k) (sym other)
+              (subst (λ (k : CallName). IsSurelyBefore r cuts k y.name) (sym one ∙ are.0)
+              (surely_before r cuts cut x y (shown_at i x at_i) (shown_at j y at_j) before)))));
+        },
+        are_later e n is entries steps are.3 (All-tail (IsAfter r cuts e) later entries after),
+      )
 
   keep_order : (entries : List MadeCall) (steps : List KeyStep) → AreStepsOf entries steps → AllPairs (IsAfter r cuts) entries → KeepOrder own steps
   keep_order [] [] are pairs = tt
@@ -194,9 +197,10 @@ module _ (r : Recorded) (calls : List Observed) (shown : AreShown r calls) (cuts
   keep_order [] (lost ∷ steps) are pairs = keep_order [] steps are pairs
   keep_order (e ∷ entries) [] are pairs = absurd are
   keep_order (e ∷ entries) (lost ∷ steps) are pairs = keep_order (e ∷ entries) steps are pairs
-  keep_order (e ∷ entries) (made n c s a ∷ steps) are pairs =
-      (are_later e n are.0 entries steps are.3 (pairs_head (IsAfter r cuts) e entries pairs),
-      keep_order entries steps are.3 (pairs_tail (IsAfter r cuts) e entries pairs))
+  keep_order (e ∷ entries) (made n c s a ∷ steps) are pairs = (
+    are_later e n are.0 entries steps are.3 (pairs_head (IsAfter r cuts) e entries pairs),
+    keep_order entries steps are.3 (pairs_tail (IsAfter r cuts) e entries pairs),
+  )
 
   -- ---- the order
 

@@ -15,8 +15,10 @@ ghost use Rattle.zy_observed.specs.AtKey.{AreCallsAt, IsStoreAt};
 /// A course of a key is an order of the calls at that key.
 pub fn a_course_is_an_order()
     ensures order { (r : Recorded) (calls : List Observed) → AreShown r calls
-        → (cuts : OutputCuts) → AreCuts r cuts → (key : List ℕ) (own : List Observed) → AreCallsAt r.shards key calls own
-        → (store : Store) → IsStoreAt r key store → (first : Option Item) → (r.warm ≡ false → first ≡ None)
-        → (entries : List MadeCall) (steps : List KeyStep) → IsCourseBy r cuts key first entries steps
-        → IsOrderOf store own first steps }
+        → (cuts : OutputCuts) → AreCuts r cuts
+        → (key : List ℕ) (own : List Observed) → AreCallsAt r.shards key calls own
+        → (store : Store) → IsStoreAt r key store
+        → (first : Option Item) → (r.warm ≡ false → first ≡ None)
+        → (entries : List MadeCall) (steps : List KeyStep)
+        → IsCourseBy r cuts key first entries steps → IsOrderOf store own first steps }
 {}
