@@ -1,70 +1,25 @@
 -- The answers to meta commands that are written are answers.
-use Rattle.std.proofs.Common.{◌≡◌, inl, ℕ, Bool, true, false, List, [], ◌∷◌, take, refl, ap, sym, ◌∙◌, subst, arith}
+use Rattle.std.proofs.Common.{◌≡◌, inl, ℕ, Bool, true, false, List, [], ◌∷◌, take, refl, ap, sym, ◌∙◌, subst}
 use Rattle.std.specs.Prelude.{codes, Option, None, Some}
-use Rattle.mc_calls.specs.declared.call.Call.{Call}
-use Rattle.mc_calls.specs.declared.call.Call.TheVariants as Calls
-use Rattle.mc_calls.specs.declared.call_kind.CallKind.{CallKind}
-use Rattle.mc_calls.specs.declared.call_kind.CallKind.TheVariants as Kinds
 use Rattle.mc_calls.specs.declared.call_reply.CallReply.{CallReply}
 use Rattle.mc_calls.specs.declared.call_reply.CallReply.TheVariants.{Miss}
-use Rattle.mc_calls.specs.Code.{call_kind}
 use Rattle.mc_parse.specs.declared.command.Command.{Command}
 use Rattle.mc_parse.specs.declared.command.Command.TheVariants as Commands
 use Rattle.mc_parse.specs.declared.meta.Meta.{Meta}
 use Rattle.mc_parse.specs.declared.meta.Meta.TheVariants as Metas
 use Rattle.mc_parse.specs.Deed.{says_of}
-use Rattle.mc_reply.specs.Answers.{AnswerCommand}
 use Rattle.mc_reply.specs.Line.{line, unless}
 use Rattle.mc_reply.specs.MetaText.{has_quiet_letter}
 use Rattle.mc_reply.specs.Text.{text}
 use Rattle.mc_allows.specs.declared.said.Said.{Said}
-use Rattle.mc_allows.specs.declared.said.Said.TheVariants.{Replied, Failed}
-use Rattle.mc_answers.specs.Answer.{IsUnless, IsTextOf, IsAnswer, lined, stores}
+use Rattle.mc_allows.specs.declared.said.Said.TheVariants.{Replied}
+use Rattle.mc_answers.specs.Answer.{IsUnless, IsTextOf, IsAnswer}
 use Rattle.mc_answers.specs.Kinds.{IsMissLine}
-use Rattle.mc_answers.specs.Said.{MaySay, FitsCommand}
+use Rattle.mc_answers.specs.Said.{FitsCommand}
 use Rattle.mc_answered.specs.Marked.{IsLoud}
-use Rattle.mc_answered.specs.With.{MaySayTo, IsFound}
-
--- ---- what may be said
-
-pub stores_lined : (kind : CallKind) → stores kind ≡ true → lined kind ≡ true
-stores_lined Kinds.Get is = absurd (cc)
-stores_lined Kinds.Incr is = absurd (cc)
-stores_lined Kinds.Decr is = absurd (cc)
-stores_lined Kinds.Delete is = absurd (cc)
-stores_lined Kinds.Flush is = absurd (cc)
-stores_lined Kinds.Tally is = absurd (cc)
-stores_lined kind is = refl
-
-pub said_to : (call : Call) (said : Said) → MaySayTo (call_kind call) said → MaySay call said
-said_to call (Replied reply) may = may
-said_to (Calls.Get key) Failed may = may
-said_to (Calls.Set key flags value) Failed may = may
-said_to (Calls.Add key flags value) Failed may = may
-said_to (Calls.Replace key flags value) Failed may = may
-said_to (Calls.Append key value) Failed may = may
-said_to (Calls.Prepend key value) Failed may = may
-said_to (Calls.Cas flags key unique value) Failed may = may
-said_to (Calls.Incr key amount) Failed may = may
-said_to (Calls.Decr key amount) Failed may = may
-said_to (Calls.Delete key) Failed may = may
-said_to Calls.Flush Failed may = may
-said_to Calls.Tally Failed may = may
+use Rattle.mc_answered.specs.With.{IsFound}
 
 -- ---- what is written
-
--- such a reply may be written
-pub may_write : (meta : Meta) (reply : CallReply) → IsLoud meta → FitsCommand (Commands.Meta meta) (Replied reply ∷ []) → AnswerCommand (Commands.Meta meta) (reply ∷ [])
-may_write Metas.Noop reply loud may = absurd loud
-may_write (Metas.Get key flags) reply loud may = record { shards = 1; some = omega arith; limit = omega arith; each = (may.0, tt) }
-may_write (Metas.Set key (Calls.Set k flags value) marks) reply loud may = record { shards = 1; some = omega arith; limit = omega arith; each = (may.0, tt) }
-may_write (Metas.Set key (Calls.Add k flags value) marks) reply loud may = record { shards = 1; some = omega arith; limit = omega arith; each = (may.0, tt) }
-may_write (Metas.Set key (Calls.Replace k flags value) marks) reply loud may = record { shards = 1; some = omega arith; limit = omega arith; each = (may.0, tt) }
-may_write (Metas.Set key (Calls.Append k value) marks) reply loud may = record { shards = 1; some = omega arith; limit = omega arith; each = (may.0, tt) }
-may_write (Metas.Set key (Calls.Prepend k value) marks) reply loud may = record { shards = 1; some = omega arith; limit = omega arith; each = (may.0, tt) }
-may_write (Metas.Set key (Calls.Cas flags k unique value) marks) reply loud may = record { shards = 1; some = omega arith; limit = omega arith; each = (may.0, tt) }
-may_write (Metas.Set key call marks) reply loud may = let s = loud.1 in absurd (cc)
-may_write (Metas.Delete key flags) reply loud may = record { shards = 1; some = omega arith; limit = omega arith; each = (may.0, tt) }
 
 missed : (quiet : Bool) (key : List ℕ) → quiet ≡ false → IsUnless quiet (IsMissLine key) (unless quiet (line (codes "EN")))
 missed true key is = absurd (cc)

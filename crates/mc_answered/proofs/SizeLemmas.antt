@@ -8,7 +8,7 @@ use Rattle.std.proofs.lemmas.List.{append-nil}
 use Rattle.mc_reply.specs.Line.{line_end}
 use Rattle.mc_reply.specs.MetaText.{item_mark, mark_text, marks_text, marked, found_of}
 use Rattle.mc_answers.proofs.NumberLemmas.{choose, is_digit, digits_pass, pass_less, append_passes}
-use Rattle.mc_answered.specs.Reading.{Halves, halves_at, is_not, put_before}
+use Rattle.mc_answered.specs.Reading.{halves_at, is_not, put_before}
 use Rattle.mc_answered.specs.Size.{size_in, size_of}
 use Rattle.mc_answered.proofs.HeadingLemmas.{number_halves}
 use Rattle.mc_answered.proofs.ReadingLemmas.{decimal_of-decimal}

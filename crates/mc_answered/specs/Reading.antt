@@ -5,7 +5,8 @@ use Rattle.std.specs.Option.{option_and_then}
 use Rattle.std.specs.Str.{bytes_eq}
 use Rattle.zy_base.specs.Number.{number_of}
 use Rattle.mc_calls.specs.declared.call_reply.CallReply.{CallReply}
-use Rattle.mc_calls.specs.declared.call_reply.CallReply.TheVariants.{Miss, Hit, Stored, NotStored, Exists, NotFound, Deleted, Number, NotNumber, TooLarge, Flushed, Tally}
+use Rattle.mc_calls.specs.declared.call_reply.CallReply.TheVariants.{Miss, Hit, Stored, NotStored, Exists, NotFound}
+use Rattle.mc_calls.specs.declared.call_reply.CallReply.TheVariants.{Deleted, Number, NotNumber, TooLarge, Flushed, Tally}
 
 -- ---- parts of a text
 
@@ -28,7 +29,9 @@ put_before byte parted = record { front = byte ∷ parted.front; rest = parted.r
 abbrev pub halves_at : ℕ → List ℕ → Option Halves
 halves_at stop [] = None
 halves_at stop (byte ∷ bytes) =
-    if byte == stop then Some (record { front = []; rest = bytes }) else option_map (put_before byte) (halves_at stop bytes)
+    if byte == stop
+    then Some (record { front = []; rest = bytes })
+    else option_map (put_before byte) (halves_at stop bytes)
 
 -- a byte is not this one
 abbrev pub is_not : ℕ → ℕ → Bool

@@ -1,7 +1,8 @@
 -- Which lines may answer a call of some kind.
 use Rattle.std.specs.Prelude.{◌≡◌, ◌⊎◌, ℕ, Bool, true, false, List, Option, None, Some}
 use Rattle.mc_calls.specs.declared.call_kind.CallKind.{CallKind}
-use Rattle.mc_calls.specs.declared.call_kind.CallKind.TheVariants.{Get, Set, Add, Replace, Append, Prepend, Cas, Incr, Decr, Delete, Flush, Tally}
+use Rattle.mc_calls.specs.declared.call_kind.CallKind.TheVariants.{Get, Set, Add, Replace, Append, Prepend}
+use Rattle.mc_calls.specs.declared.call_kind.CallKind.TheVariants.{Cas, Incr, Decr, Delete, Flush, Tally}
 use Rattle.mc_calls.specs.declared.call_reply.CallReply.{CallReply}
 use Rattle.mc_calls.specs.Bounds.{FitsReply}
 use Rattle.mc_calls.specs.Shard.{may_say}

@@ -1,5 +1,6 @@
 -- What is found of the answer to what was said.
-use Rattle.std.specs.Prelude.{◌≡◌, ℕ, zero, suc, ◌+◌, ◌<◌, ◌≤◌, Bool, true, false, List, [], ◌∷◌, ◌++◌, length, take, Option, None, Some}
+use Rattle.std.specs.Prelude.{◌≡◌, ℕ, zero, suc, ◌+◌, ◌<◌, ◌≤◌, Bool, true, false, List, [], ◌∷◌, ◌++◌, length, take}
+use Rattle.std.specs.Prelude.{Option, None, Some}
 use Rattle.std.specs.List.{slice_index_or}
 use Rattle.mc_calls.specs.declared.call_kind.CallKind.{CallKind}
 use Rattle.mc_calls.specs.declared.call_reply.CallReply.TheVariants.{Hit}
@@ -30,7 +31,8 @@ MaySayTo kind Failed = kind_may_fail kind ≡ true
 -- ---- items
 
 -- the heading of an item of this key
-pub record IsHeadingOf (asked : Bool) (key : List ℕ) (flags unique : ℕ) (value : List ℕ) (heading : Heading) : Type 0 where
+pub record IsHeadingOf (asked : Bool) (key : List ℕ) (flags unique : ℕ) (value : List ℕ) (heading : Heading)
+    : Type 0 where
   pub key_is : heading.key ≡ key
   pub flags_is : heading.flags ≡ flags
   pub count_is : heading.count ≡ length value

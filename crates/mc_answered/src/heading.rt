@@ -65,7 +65,8 @@ fn read_counted<'a>(
     counted: Halved<'_>,
     asked: bool,
 ) -> Option<Heading<'a>>
-    ensures value { option_map heading_seen result ≡ heading_counted asked key.now flags.now (halves_seen counted.entry) }
+    ensures value { option_map heading_seen result
+        ≡ heading_counted asked key.now flags.now (halves_seen counted.entry) }
 {
     heading_with(
         key,

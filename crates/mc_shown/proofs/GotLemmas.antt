@@ -11,7 +11,7 @@ use Rattle.mc_reply.specs.Text.{line, item_line, item_text}
 use Rattle.mc_parse.specs.declared.command.Command.TheVariants as Commands
 use Rattle.mc_allows.specs.declared.said.Said.{Said}
 use Rattle.mc_allows.specs.declared.said.Said.TheVariants.{Replied, Failed}
-use Rattle.mc_allows.specs.declared.shown.Shown.TheVariants.{Nothing, Reply}
+use Rattle.mc_allows.specs.declared.shown.Shown.TheVariants.{Reply}
 use Rattle.mc_allows.specs.Needs.{Suits}
 use Rattle.mc_answers.specs.Answer.{found_items, IsListing, IsAnswer}
 use Rattle.mc_answers.specs.Cut.{IsWord}
@@ -218,13 +218,6 @@ pub miss_suits : (asked : Bool) (keys : List (List ℕ)) (items : List Listed) (
     → AllByRecursion (IsNotOf key) items → SuitsAt asked keys items i (Reply Miss)
 miss_suits asked keys items i key words each key_is none saids said got order said_is =
     miss_said asked keys items i key saids said words each key_is none got order said_is (got_at keys saids i key said got key_is said_is)
-
-nothing_said : (said : Said) → Suits Nothing said
-nothing_said (Replied reply) = tt
-nothing_said Failed = refl
-
-pub nothing_suits : (asked : Bool) (keys : List (List ℕ)) (items : List Listed) (i : ℕ) → SuitsAt asked keys items i Nothing
-nothing_suits asked keys items i saids said got order said_is = nothing_said said
 
 -- ---- parts one after another
 

@@ -1,16 +1,15 @@
 -- How the items of an answer are read.
 use Rattle.std.proofs.Common.{◌≡◌, ℕ, ◌+◌, ◌≤◌, Bool, List, [], ◌∷◌, ◌++◌, length, map, take, drop, ap, sym, ◌∙◌, subst, append_assoc, arith}
-use Rattle.std.specs.Prelude.{codes, Some}
+use Rattle.std.specs.Prelude.{Some}
 use Rattle.std.specs.List.{concat, AllByRecursion}
-use Rattle.std.proofs.lemmas.List.{append-nil, take-append-drop, length-take-le, length-append}
-use Rattle.zy_base.specs.Limits.{value_limit}
-use Rattle.mc_reply.specs.Text.{line, line_end, item_line}
+use Rattle.std.proofs.lemmas.List.{append-nil}
+use Rattle.mc_reply.specs.Text.{line, item_line}
 use Rattle.mc_answers.specs.Cut.{IsWord}
 use Rattle.mc_answered.specs.Reading.{Heading, heading_of}
 use Rattle.mc_answered.proofs.FoundLemmas.{found_two}
 use Rattle.mc_answered.proofs.HeadingLemmas.{heading_of-some, heading_line}
 use Rattle.mc_shown.specs.declared.listed.Listed.{Listed}
-use Rattle.mc_shown.specs.Listing.{text_of, IsListed, AreListed, AreRead, IsNext, IsValueOf}
+use Rattle.mc_shown.specs.Listing.{text_of, IsListed, AreRead, IsNext, IsValueOf}
 
 -- ---- one more item
 
@@ -28,19 +27,7 @@ read_more asked items text rest at n item so after next =
     let both = found_two text at n (concat (map (text_of asked) items)) (text_of asked item) rest so.low so.is after next.low next.is in
     record { each = each_push items item so.each next.of; is = both.is ∙ sym (joined_push asked items item); low = both.low }
 
-pub read_all : (asked : Bool) (items : List Listed) (text rest : List ℕ) (at : ℕ) → AreRead asked items text at → rest ≡ drop at text → rest ≡ line (codes "END") → AreListed asked items text
-read_all asked items text rest at so after ends = record {
-  each = so.each;
-  is = sym (take-append-drop at text) ∙ ap (λ (t : List ℕ). t ++ drop at text) so.is ∙ ap (λ (t : List ℕ). concat (map (text_of asked) items) ++ t) (sym after ∙ ends);
-}
-
 -- ---- an item
-
-pub value_is : (bytes value rest : List ℕ) (count : ℕ) → count ≤ length bytes → count ≤ value_limit → value ≡ take count bytes → rest ≡ drop count bytes → rest ≡ line_end ++ drop 2 rest → IsValueOf count bytes value
-value_is bytes value rest count low few is after ends =
-    let two : 2 ≤ length rest = let e : length rest ≡ length line_end + length (drop 2 rest) = ap length ends ∙ length-append line_end (drop 2 rest) in omega (arith, e) in
-    let both = found_two bytes count 2 value line_end rest low (sym is) after two (ap (take 2) ends) in
-    record { long = ap length is ∙ length-take-le count bytes low; few = few; low = both.low; is = both.is }
 
 pub next_is : (asked : Bool) (bytes rest : List ℕ) (n : ℕ) (h : Heading) (item : Listed) → n ≤ length bytes → heading_of asked (take n bytes) ≡ Some h → rest ≡ drop n bytes
     → item.key.now ≡ h.key → item.flags ≡ h.flags → item.unique ≡ h.unique → IsValueOf h.count rest item.value.now → (m : ℕ) → m ≡ n + length item.value.now + 2 → IsNext asked bytes item m

@@ -99,9 +99,6 @@ one_told command kind line saids is loud one = absurd (cc)
 
 -- ---- parts
 
-pub none_suited : (saids : List Said) → AreSuited [] saids
-none_suited saids i part said part_is said_is = absurd (cc)
-
 pub one_suited : (IsSuch : Said → Type 0) (saids : List Said) (part : Part) → IsOne IsSuch saids → ((said : Said) → IsSuch said → Suits part.shown said) → AreSuited (part ∷ []) saids
 one_suited IsSuch [] part one suits i found said part_is said_is = absurd one
 one_suited IsSuch (only ∷ []) part one suits zero found said part_is said_is =
