@@ -106,19 +106,13 @@ fn write_items(
 }
 
 // Writes an item, if it was found.
-fn write_item(
-    whole: &mut Blob,
-    key: &Blob,
-    is_asked: bool,
-    said: &Said,
-) -> Result<(), NoMemory> {
+fn write_item(whole: &mut Blob, key: &Blob, is_asked: bool, said: &Said) -> Result<(), NoMemory> {
     let Said::Replied {
-        reply:
-            CallReply::Hit {
-                flags,
-                unique,
-                value,
-            },
+        reply: CallReply::Hit {
+            flags,
+            unique,
+            value,
+        },
     } = said
     else {
         return Ok(());

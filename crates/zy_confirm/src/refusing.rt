@@ -15,7 +15,9 @@ pub(crate) fn refuse(call: &Call, item: &Item, choice: Choice) -> Option<Outcome
     ensures chosen { IfSome result (IsAnyChosen (Some item.now) call.now) }
 {
     match call {
-        Call::Append { value, .. } | Call::Prepend { value, .. } => refuse_join(item, value, choice),
+        Call::Append { value, .. } | Call::Prepend { value, .. } => refuse_join(
+            item, value, choice,
+        ),
         Call::Incr { .. } | Call::Decr { .. } => refuse_count(item, choice),
         _ => None,
     }

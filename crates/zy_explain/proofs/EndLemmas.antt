@@ -273,8 +273,8 @@ module _ (rules : Rules) (sessions : Sessions) (outputs : List (List (List ℕ))
       let own = session_of e.named.name.conn e.named.name.session in
       let within = within_one e at in
       let both = All-contains (λ (x : MadeCall). x.moment ≤ length records → IsSentIn records e.named.name.conn e.named.name.session x.named.name.index x.moment
-          × (IsEndedIn records e.named.name.conn e.named.name.session (map has_bytes own.cut.texts) x.named.name.index x.moment → ⊥))
-          (of_session e.named.name.conn e.named.name.session entries) e own.timely (in_session e at) within in
+      × (IsEndedIn records e.named.name.conn e.named.name.session (map has_bytes own.cut.texts) x.named.name.index x.moment → ⊥))
+      (of_session e.named.name.conn e.named.name.session entries) e own.timely (in_session e at) within in
       record { within = within; sent = both.0; unended = both.1 }
 
   lawful_entry : (e : MadeCall) → Contains entries e → MayHaveFailed whole e

@@ -151,17 +151,20 @@ module _ (rules : Rules) (sessions : Sessions) (outputs : List (List (List ℕ))
       }
 
   pub begun : IsFirstStore rules state.store → state.moment ≡ 0 → StandsSome rules sessions outputs state
-  begun own first = ([], record {
-    shards = own.shards;
-    each = λ conn session s is. fresh_on conn session s (slice_get sessions.lines.items conn) refl is;
-    others = λ conn session none. refl;
-    first = held_at state.store;
-    cold = own.cold;
-    chains = nothing_stands (may_lose_by rules sessions) (held_at state.store) state.store (record { held = λ key. refl; used = own.own });
-    rises = pairs_none IsNotLater;
-    latest = All-nil (λ (e : MadeCall). e.moment ≤ state.moment);
-    within = λ count records hold. omega (arith, first);
-  })
+  begun own first = (
+    [],
+    record {
+      shards = own.shards;
+      each = λ conn session s is. fresh_on conn session s (slice_get sessions.lines.items conn) refl is;
+      others = λ conn session none. refl;
+      first = held_at state.store;
+      cold = own.cold;
+      chains = nothing_stands (may_lose_by rules sessions) (held_at state.store) state.store (record { held = λ key. refl; used = own.own });
+      rises = pairs_none IsNotLater;
+      latest = All-nil (λ (e : MadeCall). e.moment ≤ state.moment);
+      within = λ count records hold. omega (arith, first);
+    },
+  )
 
 -- ---- one more call
 
@@ -248,25 +251,28 @@ module _ (rules : Rules) (sessions : Sessions) (outputs : List (List (List ℕ))
   later x early = let order = makes.timely.later in omega (arith, early, order)
 
   pub placed : StandsSome rules sessions outputs new
-  placed = (all, record {
-    shards = shards_on (may_lose_by rules sessions) old.store new.store makes.call makes.said makes.carried ∙ stands.shards;
-    each = each_stands;
-    others = λ c k none. session_other c k entries e (none_apart c k none) ∙ stands.others c k none;
-    first = stands.first;
-    cold = stands.cold;
-    chains = chains_on (may_lose_by rules sessions) stands.first old.store new.store entries e makes.carried stands.chains;
-    rises = pairs_append IsNotLater entries (e ∷ []) stands.rises (AllPairs-cons IsNotLater e [] (All-nil (IsNotLater e)) (pairs_none IsNotLater))
-        (All-weaker (λ (x : MadeCall). x.moment ≤ old.moment) (λ (x : MadeCall). All (IsNotLater x) (e ∷ [])) (λ x early. All-cons (IsNotLater x) e [] (later x early) (All-nil (IsNotLater x))) entries stands.latest);
-    latest =
-        let P = λ (x : MadeCall). x.moment ≤ new.moment in
-        All-append P entries (e ∷ [])
-        (All-weaker (λ (x : MadeCall). x.moment ≤ old.moment) P (λ x early. let now = later x early in omega (arith, now, moment_is)) entries stands.latest)
-        (All-cons P e [] (omega (arith, moment_is)) (All-nil P));
-    within = λ count records hold. ⊎_elim
-        (λ same. let early = stands.within count records hold in omega (arith, early, same, moment_is))
-        (λ same. let last = ((holds_at sessions count records hold name.conn name.session s has).sent.each (length f.follows.between.answered.items) makes.timely.first makes.timely.is).0 in omega (arith, last, same, moment_is))
-        makes.timely.least;
-  })
+  placed = (
+    all,
+    record {
+      shards = shards_on (may_lose_by rules sessions) old.store new.store makes.call makes.said makes.carried ∙ stands.shards;
+      each = each_stands;
+      others = λ c k none. session_other c k entries e (none_apart c k none) ∙ stands.others c k none;
+      first = stands.first;
+      cold = stands.cold;
+      chains = chains_on (may_lose_by rules sessions) stands.first old.store new.store entries e makes.carried stands.chains;
+      rises = pairs_append IsNotLater entries (e ∷ []) stands.rises (AllPairs-cons IsNotLater e [] (All-nil (IsNotLater e)) (pairs_none IsNotLater))
+          (All-weaker (λ (x : MadeCall). x.moment ≤ old.moment) (λ (x : MadeCall). All (IsNotLater x) (e ∷ [])) (λ x early. All-cons (IsNotLater x) e [] (later x early) (All-nil (IsNotLater x))) entries stands.latest);
+      latest =
+          let P = λ (x : MadeCall). x.moment ≤ new.moment in
+          All-append P entries (e ∷ [])
+          (All-weaker (λ (x : MadeCall). x.moment ≤ old.moment) P (λ x early. let now = later x early in omega (arith, now, moment_is)) entries stands.latest)
+          (All-cons P e [] (omega (arith, moment_is)) (All-nil P));
+      within = λ count records hold. ⊎_elim
+          (λ same. let early = stands.within count records hold in omega (arith, early, same, moment_is))
+          (λ same. let last = ((holds_at sessions count records hold name.conn name.session s has).sent.each (length f.follows.between.answered.items) makes.timely.first makes.timely.is).0 in omega (arith, last, same, moment_is))
+          makes.timely.least;
+    },
+  )
 
 -- ---- commands that are ended
 
@@ -307,14 +313,17 @@ module _ (rules : Rules) (sessions : Sessions) (outputs : List (List (List ℕ))
       (eqb_tells c conn)
 
   pub ended : StandsSome rules sessions outputs new
-  ended = (entries, record {
-    shards = ap store_shards store_is ∙ stands.shards;
-    each = ended_each;
-    others = stands.others;
-    first = stands.first;
-    cold = stands.cold;
-    chains = subst (λ (x : Store). StandsAfter (may_lose_by rules sessions) stands.first x entries) (sym store_is) stands.chains;
-    rises = stands.rises;
-    latest = All-weaker (λ (x : MadeCall). x.moment ≤ old.moment) (λ (x : MadeCall). x.moment ≤ new.moment) (λ x early. omega (arith, early, moment_is)) entries stands.latest;
-    within = λ count records hold. let early = stands.within count records hold in omega (arith, early, moment_is);
-  })
+  ended = (
+    entries,
+    record {
+      shards = ap store_shards store_is ∙ stands.shards;
+      each = ended_each;
+      others = stands.others;
+      first = stands.first;
+      cold = stands.cold;
+      chains = subst (λ (x : Store). StandsAfter (may_lose_by rules sessions) stands.first x entries) (sym store_is) stands.chains;
+      rises = stands.rises;
+      latest = All-weaker (λ (x : MadeCall). x.moment ≤ old.moment) (λ (x : MadeCall). x.moment ≤ new.moment) (λ x early. omega (arith, early, moment_is)) entries stands.latest;
+      within = λ count records hold. let early = stands.within count records hold in omega (arith, early, moment_is);
+    },
+  )

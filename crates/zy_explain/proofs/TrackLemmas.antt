@@ -36,7 +36,7 @@ pub track_start : (shards : ℕ) (forget : Bool) (s : Session) (output : List �
     → TrackStands shards forget s output conn session [] t
 track_start shards forget s output conn session t first no_flags no_count no_saids = record {
   calls = sym (ap (λ (l : List Bool). calls_made shards conn session s.commands.items (length l) (length t.saids.items)) no_flags
-  ∙ ap (λ (l : List Said). calls_made shards conn session s.commands.items 0 (length l)) no_saids ∙ start_made shards conn session s.commands.items);
+      ∙ ap (λ (l : List Said). calls_made shards conn session s.commands.items 0 (length l)) no_saids ∙ start_made shards conn session s.commands.items);
   saids = sym no_saids;
   cut = cut_start s.commands.items (λ i. said_to conn session i []) output t.answered.items t.at no_flags first;
   count = no_count ∙ sym (ap trues no_flags);
@@ -74,8 +74,8 @@ module _ (shards : ℕ) (forget : Bool) (s : Session) (output : List ℕ) (old n
             ∙ ap (λ (k : ℕ). calls_made shards conn session commands k 0) (sym long) ∙ ap (λ (k : ℕ). calls_made shards conn session commands (length new.answered.items) k) (sym empty);
         saids =
             said_past conn session (length old.answered.items) (length new.answered.items) entries
-                (All-weaker (IsRightIn forget s old.answered.items) (λ (e : MadeCall). e.named.name.index ≤ length old.answered.items) (λ e right. right.known) (of_session conn session entries) stands.right)
-                (omega (arith, long))
+            (All-weaker (IsRightIn forget s old.answered.items) (λ (e : MadeCall). e.named.name.index ≤ length old.answered.items) (λ e right. right.known) (of_session conn session entries) stands.right)
+            (omega (arith, long))
             ∙ sym notes.saids;
         cut = cut_more commands (λ i. said_to conn session i entries) output old.answered.items old.at stands.cut command old.saids.items n is stands.saids next new.answered.items new.at notes.answered notes.at;
         count = notes.count ∙ ap (λ (k : ℕ). k + number_if (nat_lt 0 n)) stands.count ∙ sym (ap trues notes.answered ∙ trues_push old.answered.items (nat_lt 0 n));

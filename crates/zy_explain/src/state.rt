@@ -70,7 +70,16 @@ impl State {
         }
         let output = output_of(outputs, name.conn, name.session);
         let latest = self.moment;
-        match self.rows[conn].follow(alloc, rules, &sessions.lasting, session, output, &mut self.store, placement, latest)? {
+        match self.rows[conn].follow(
+            alloc,
+            rules,
+            &sessions.lasting,
+            session,
+            output,
+            &mut self.store,
+            placement,
+            latest,
+        )? {
             Some(moment) => {
                 self.moment = moment;
                 Ok(true)
