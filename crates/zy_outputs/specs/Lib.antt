@@ -1,1 +1,6 @@
+pub mod Adding
 pub mod Observing
+pub mod Sessions
+pub mod Showing
+pub mod Telling
+pub mod Texts

@@ -5,6 +5,8 @@ use Rattle.zy_capture.specs.Outputs.{AllOutputs}
 use Rattle.zy_verdict.specs.Recorded.{Recorded}
 use Rattle.zy_verdict.specs.Explained.{IsExplained}
 use Rattle.zy_observed.specs.Shown.{AreShown}
+use Rattle.zy_outputs.specs.declared.finding.Finding.{Finding}
+use Rattle.zy_outputs.specs.declared.finding.Finding.TheVariants as Findings
 use Rattle.zy_outputs.specs.declared.observing.Observing.{Observing}
 use Rattle.zy_outputs.specs.declared.observing.Observing.TheVariants.{Kind, Surplus, EarlyEnd, Other, Calls}
 
@@ -27,3 +29,11 @@ IsObserving r (Surplus conn session) = IsExplained r → ⊥
 IsObserving r (EarlyEnd moment) = IsExplained r → ⊥
 IsObserving r (Other conn session index) = Unit {0}
 IsObserving r (Calls calls) = AreShown r calls.items
+
+-- a finding of one session, as what is found of all outputs
+abbrev pub IsFoundBy : Finding → Observing → Type 0
+IsFoundBy (Findings.Kind conn session index) (Kind own_conn own_session own_index) = Unit {0}
+IsFoundBy (Findings.Surplus conn session) (Surplus own_conn own_session) = Unit {0}
+IsFoundBy (Findings.EarlyEnd moment) (EarlyEnd own) = Unit {0}
+IsFoundBy (Findings.Other conn session index) (Other own_conn own_session own_index) = Unit {0}
+IsFoundBy finding observing = ⊥

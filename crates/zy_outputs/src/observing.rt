@@ -1,14 +1,22 @@
 //! All calls of a recording, with what its outputs show.
-ghost use Rattle.std.specs.Prelude.{◌≤◌, ℕ, List, Bool, IfOk};
+ghost use Rattle.std.specs.Prelude.{◌≡◌, ◌≤◌, ◌<◌, ◌⊎◌, ℕ, [], List, Bool, Some, length, IfOk};
+ghost use Rattle.std.specs.List.{slice_index_or};
+ghost use Rattle.zy_capture.specs.Streams.{sessions_of};
 ghost use Rattle.zy_capture.specs.declared.record.Record.{Record};
 ghost use Rattle.zy_sessions.specs.Sessions.{SessionsHold};
-ghost use Rattle.zy_outputs.specs.Observing.{recorded_of, IsObserving};
+ghost use Rattle.zy_outputs.specs.Observing.{recorded_of, IsObserving, IsFoundBy};
+ghost use Rattle.zy_outputs.specs.Telling.{IsTold};
+ghost use Rattle.zy_outputs.specs.Sessions.{LineIsDone, LinesAreDone, HasSurplus, IsFirstOf, IsOther};
 
+use crate::finding::Finding;
+use crate::rules::Rules;
+use crate::session::observe_session;
+use mc_allows::CallName;
 use std::alloc::Global;
-use zy_base::NoMemory;
+use zy_base::{Items, NoMemory};
 use zy_capture::Outputs;
 use zy_refute::Observed;
-use zy_sessions::Sessions;
+use zy_sessions::{Line, Sessions};
 
 /// What is found of the outputs of a recording.
 #[derive(Drop)]
@@ -40,9 +48,180 @@ pub fn observe(
         → SessionsHold sessions.now count records
         → IsObserving (recorded_of count records outputs.now shards warm forget) observing) }
 {
-    Ok(Observing::Other {
-        conn: 0,
-        session: 0,
-        index: 0,
-    })
+    let mut calls = Items::new(alloc);
+    match observe_lines(
+        alloc,
+        Rules { shards, forget },
+        &sessions.lines,
+        outputs,
+        &mut calls,
+    ) {
+        Ok(found) => Ok(told_by(found, calls)),
+        Err(refused) => {
+            drop(calls);
+            Err(refused)
+        }
+    }
+}
+
+// Says what is found, or gives the calls.
+fn told_by(found: Option<Finding>, calls: Items<Observed>) -> Observing
+    ensures value { IsTold found calls result }
+{
+    match found {
+        None => Observing::Calls(calls.into_vec()),
+        Some(finding) => {
+            drop(calls);
+            observing_of(finding)
+        }
+    }
+}
+
+// Says what is found.
+fn observing_of(finding: Finding) -> Observing
+    ensures value { IsFoundBy finding result }
+{
+    match finding {
+        Finding::Kind {
+            conn,
+            session,
+            index,
+        } => Observing::Kind {
+            conn,
+            session,
+            index,
+        },
+        Finding::Surplus { conn, session } => Observing::Surplus { conn, session },
+        Finding::EarlyEnd { record } => Observing::EarlyEnd { record },
+        Finding::Other {
+            conn,
+            session,
+            index,
+        } => Observing::Other {
+            conn,
+            session,
+            index,
+        },
+    }
+}
+
+// Adds the calls of all connections, or says what is found of an output instead.
+fn observe_lines(
+    alloc: Global,
+    rules: Rules,
+    lines: &[Line],
+    outputs: &Outputs,
+    calls: &mut Items<Observed>,
+) -> Result<Option<Finding>, NoMemory>
+    requires some { 1 ≤ rules.shards }
+    requires limit { rules.shards ≤ 256 }
+    ensures done { IfOk result (LinesAreDone rules lines.now outputs.now calls.old calls.new) }
+{
+    if lines.len() > u32::MAX as usize {
+        return Err(NoMemory);
+    }
+    let mut found = None;
+    for conn in 0..lines.len() {
+        let next = observe_line(alloc, rules, conn as u32, &lines[conn], outputs, calls)?;
+        found = first_of(found, next);
+    }
+    let next = surplus_line(lines.len(), outputs);
+    Ok(first_of(found, next))
+}
+
+// Adds the calls of a connection, or says what is found of an output instead.
+fn observe_line(
+    alloc: Global,
+    rules: Rules,
+    conn: u32,
+    line: &Line,
+    outputs: &Outputs,
+    calls: &mut Items<Observed>,
+) -> Result<Option<Finding>, NoMemory>
+    requires some { 1 ≤ rules.shards }
+    requires limit { rules.shards ≤ 256 }
+    ensures done { IfOk result (LineIsDone rules conn line.now outputs.now calls.old calls.new) }
+{
+    let mut found = None;
+    for session in 0..line.sessions.len() {
+        let name = CallName {
+            index: 0,
+            session: session as u64,
+            conn,
+            part: 0,
+        };
+        let next = observe_session(
+            alloc,
+            rules,
+            name,
+            &line.sessions[session],
+            output_in(outputs, conn, session),
+            calls,
+        )?;
+        found = first_of(found, next);
+    }
+    let next = surplus_session(conn, line.sessions.len(), outputs);
+    Ok(first_of(found, next))
+}
+
+// Returns the output of a session; a session without a record in the replies file has no bytes.
+fn output_in(outputs: &Outputs, conn: u32, session: usize) -> &[u8]
+    ensures value { result.now ≡ slice_index_or (sessions_of outputs.now.sessions conn) session [] }
+{
+    if conn < outputs.count() && session < outputs.sessions(conn) as usize {
+        outputs.output(conn, session as u32)
+    } else {
+        &[]
+    }
+}
+
+// Finds an output of a connection that has no session; the connection has this number of sessions.
+fn surplus_session(conn: u32, count: usize, outputs: &Outputs) -> Option<Finding>
+    ensures value { HasSurplus (conn < length outputs.now.sessions)
+        (length (sessions_of outputs.now.sessions conn)) count result }
+{
+    if conn < outputs.count() && count < outputs.sessions(conn) as usize {
+        Some(Finding::Surplus {
+            conn,
+            session: count as u64,
+        })
+    } else {
+        None
+    }
+}
+
+// Finds an output of a connection that the capture does not have; it has this number of connections.
+fn surplus_line(count: usize, outputs: &Outputs) -> Option<Finding>
+    requires few { count ≤ 4294967295 }
+    ensures value { HasSurplus (1 ≤ 1) (length outputs.now.sessions) count result }
+{
+    if count < outputs.count() as usize {
+        Some(Finding::Surplus {
+            conn: count as u32,
+            session: 0,
+        })
+    } else {
+        None
+    }
+}
+
+// Returns the first of two findings, but one that is not followed before one that is refuted.
+fn first_of(found: Option<Finding>, next: Option<Finding>) -> Option<Finding>
+    ensures value { IsFirstOf found next result }
+{
+    match found {
+        None => next,
+        Some(Finding::Other { .. }) => found,
+        Some(first) => other_or(first, next),
+    }
+}
+
+// Returns a finding, or the next one if it is not followed.
+fn other_or(first: Finding, next: Option<Finding>) -> Option<Finding>
+    ensures value { (result ≡ Some first) ⊎ IsOther result }
+{
+    match next {
+        Some(Finding::Other { .. }) => next,
+        _ => Some(first),
+    }
 }
