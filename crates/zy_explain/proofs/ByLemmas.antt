@@ -1,7 +1,7 @@
 -- What one call more, and commands that are ended, leave; by cases on a result.
 use Rattle.std.specs.List.{slice_get, slice_set}
 use Rattle.std.specs.BTreeSet.{BTreeSet}
-use Rattle.std.proofs.Common.{◌≡◌, ℕ, Bool, true, List, Option, None, Some, Result, Ok, Err, IfOk, IfSome, OnOk}
+use Rattle.std.proofs.Common.{◌≡◌, ℕ, List, Option, None, Some, Result, Ok, Err, IfOk, IfSome}
 use Rattle.zy_base.specs.declared.outside.NoMemory.{NoMemory}
 use Rattle.mc_allows.specs.declared.call_name.CallName.{CallName}
 use Rattle.zy_confirm.specs.declared.store.Store.{Store}
@@ -23,13 +23,6 @@ module _ (rules : Rules) (lasting : BTreeSet (List ℕ)) (s : Session) (output :
   follows_by old between new settles (Ok None) makes = tt
   follows_by old between new settles (Ok (Some moment)) makes = record { between = between; settles = settles; makes = makes }
   follows_by old between new settles (Err refused) makes = tt
-
-  pub row_follows_by : (old new : Row) (one other : Track) → slice_get old.tracks.items name.session ≡ Some one → new.tracks.items ≡ slice_set old.tracks.items name.session other → (r : Result (Option ℕ) NoMemory)
-      → IfOk r (λ found. IfSome found (FollowsTo rules lasting s output before after one other name latest))
-      → IfOk r (λ found. IfSome found (RowFollows rules lasting s output before after old new name latest))
-  row_follows_by old new one other is set (Ok None) follows = tt
-  row_follows_by old new one other is set (Ok (Some moment)) follows = record { one = one; other = other; is = is; set = set; follows = follows }
-  row_follows_by old new one other is set (Err refused) follows = tt
 
 pub placed_some : (rules : Rules) (sessions : Sessions) (outputs : List (List (List ℕ))) (old new : State) (name : CallName) (s : Session) (row other : Row) (moment : ℕ)
     → session_at sessions name.conn name.session ≡ Some s → slice_get old.rows.items name.conn ≡ Some row

@@ -2,35 +2,33 @@
 use Rattle.std.specs.List.{slice_get, slice_index_or}
 use mathlib.Core.Logic.{dite}
 use native.Mathlib.Decide.{dec_lt}
-use Rattle.std.proofs.Common.{◌≡◌, ◌⊎◌, inl, inr, ⊎_elim, ℕ, zero, suc, ◌+◌, ◌<◌, ◌≤◌, ◌||◌, Bool, true, false, List, [], ◌∷◌, ◌++◌, length, take, map, get_or, replicate, All, Contains, Option, None, Some, IfSome, refl, sym, ap, ◌∙◌, subst, arith}
+use Rattle.std.proofs.Common.{◌≡◌, ◌⊎◌, inl, inr, ⊎_elim, ℕ, zero, suc, ◌+◌, ◌<◌, ◌≤◌, ◌||◌, Bool, true, false, List, [], ◌∷◌, ◌++◌, length, take, map, replicate, All, Contains, Option, None, Some, IfSome, refl, sym, ap, ◌∙◌, subst, arith}
 use Rattle.std.specs.Ordering.{nat_cmp}
 use Rattle.std.specs.Cmp.Lexicographic.{slice_cmp}
-use Rattle.std.specs.BTreeSet.{BTreeSet, contains}
-use Rattle.std.proofs.lemmas.List.{take_all, take-append-le, get_or_past}
+use Rattle.std.specs.BTreeSet.{contains}
+use Rattle.std.proofs.lemmas.List.{take_all, get_or_past}
 use Rattle.std.proofs.lemmas.List.Elements.{All-nil, All-weaker, All-contains, All-contains_itself}
 use Rattle.std.proofs.lemmas.Option.{slice_get_within}
 use Rattle.mc_allows.specs.declared.said.Said.{Said}
 use Rattle.mc_allows.specs.Steps.{KeyStep}
 use Rattle.mc_answers.specs.Output.{Cut, IsCut, FitsText, text_at}
-use Rattle.mc_calls.specs.declared.item.Item.{Item}
 use Rattle.mc_parse.specs.declared.command.Command.{Command}
 use Rattle.zy_capture.specs.declared.record.Record.{Record}
 use Rattle.zy_capture.specs.Streams.{closes, sessions_of}
 use Rattle.zy_check.specs.Answered.{has_bytes}
 use Rattle.zy_check.proofs.ListLemmas.{there}
-use Rattle.zy_times.specs.First.{AreRises}
 use Rattle.zy_times.specs.InTime.{total_below}
-use Rattle.zy_times.specs.Sessions.{commands_of_session, sent_in, marks_at, IsSentIn, IsEndedIn, MarksFitIn}
+use Rattle.zy_times.specs.Sessions.{commands_of_session, sent_in, IsSentIn, IsEndedIn, MarksFitIn}
 use Rattle.zy_times.specs.Times.{marks_in, trues}
 use Rattle.zy_times.proofs.SessionLemmas.{none_past}
 use Rattle.zy_verdict.specs.Recorded.{Recorded, session_commands, output_of, last_moment, HaveSessions}
 use Rattle.zy_verdict.specs.Losses.{MayLoseAt}
 use Rattle.zy_verdict.specs.Entries.{MadeCall, named_from, is_of_session, of_session, said_to, placed_at}
-use Rattle.zy_verdict.specs.Explained.{OutputCuts, AreCuts, IsTimely, MayHaveFailed, IsChain, AreDue, IsExplainedBy}
-use Rattle.zy_verdict.specs.Numbers.{ended_among, total_of, number_of_commands, number_ended, IsExplainedWith}
+use Rattle.zy_verdict.specs.Explained.{OutputCuts, IsTimely, MayHaveFailed, IsChain, IsExplainedBy}
+use Rattle.zy_verdict.specs.Numbers.{ended_among, total_of, IsExplainedWith}
 use Rattle.zy_verdict.proofs.ListLemmas.{contains_kept}
 use Rattle.zy_verdict.proofs.MomentLemmas.{sent_rises}
-use Rattle.zy_confirm.specs.Store.{store_shards, KeyStands}
+use Rattle.zy_confirm.specs.Store.{KeyStands}
 use Rattle.zy_sessions.specs.declared.line.Line.{Line}
 use Rattle.zy_sessions.specs.declared.session.Session.{Session}
 use Rattle.zy_sessions.specs.declared.sessions.Sessions.{Sessions}
@@ -41,7 +39,7 @@ use Rattle.zy_explain.specs.declared.numbers.Numbers.{Numbers}
 use Rattle.zy_explain.specs.declared.track.Track.{Track}
 use Rattle.zy_explain.specs.declared.state.State.{State}
 use Rattle.zy_explain.specs.Judged.{judged}
-use Rattle.zy_explain.specs.Making.{may_lose_in, FailsLawfully}
+use Rattle.zy_explain.specs.Making.{FailsLawfully}
 use Rattle.zy_explain.specs.Following.{output_in, track_at, sessions_in, sessions_on, may_lose_by, calls_made, IsRightIn, TrackStands, Stands, StandsSome}
 use Rattle.zy_explain.specs.Ending.{EndsRight, commands_in, ended_in, AreNumbers, HaveTheirSessions}
 use Rattle.zy_explain.proofs.CallLemmas.{calls_whole}

@@ -3,7 +3,6 @@ use Rattle.std.proofs.Common.{◌≡◌, ⊎_elim, ℕ, ◌<◌, ◌≤◌, ◌=
 use Rattle.std.proofs.lemmas.List.{map-append}
 use Rattle.std.proofs.lemmas.List.Elements.{filter-append, All-weaker}
 use Rattle.std.proofs.lemmas.Bool.Decides.{eqb_tells}
-use Rattle.mc_allows.specs.declared.said.Said.{Said}
 use Rattle.zy_verdict.specs.Entries.{MadeCall, is_of_session, of_session, said_to}
 use Rattle.zy_verdict.proofs.ListLemmas.{none_kept}
 

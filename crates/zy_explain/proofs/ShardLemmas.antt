@@ -6,7 +6,7 @@ use Rattle.mc_calls.specs.Call.{key_of}
 use Rattle.mc_parse.specs.declared.command.Command.{Command}
 use Rattle.mc_parse.specs.declared.command.Command.TheVariants as Commands
 use Rattle.mc_parse.specs.declared.shard_call.ShardCall.{ShardCall}
-use Rattle.mc_parse.specs.Calls.{on_shard, at_key, get_calls, get_at, call_alone, calls_by, calls_of, IsOnShard}
+use Rattle.mc_parse.specs.Calls.{on_shard, at_key, get_at, call_alone, calls_by, calls_of, IsOnShard}
 use Rattle.mc_parse.specs.Deed.{Deed, does_nothing, makes_one, gets_each, makes_on_all, deed_of}
 use Rattle.mc_parse.specs.OnAll.{made_by}
 use Rattle.mc_parse.proofs.DeedLemmas.{no_key}

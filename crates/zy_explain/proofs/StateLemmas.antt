@@ -1,12 +1,11 @@
 -- All tracks and the store, after one more call.
-use Rattle.std.specs.List.{slice_get, slice_set, AllPairs}
-use Rattle.std.proofs.Common.{◌≡◌, ◌⊎◌, inl, inr, ⊎_elim, ℕ, ◌+◌, ◌<◌, ◌≤◌, ◌==◌, ◌&&◌, Bool, true, false, List, [], ◌∷◌, ◌++◌, length, map, All, Option, None, Some, refl, sym, ap, ◌∙◌, subst, arith}
+use Rattle.std.specs.List.{slice_get, slice_set}
+use Rattle.std.proofs.Common.{◌≡◌, ⊎_elim, ℕ, ◌+◌, ◌≤◌, ◌==◌, ◌&&◌, Bool, true, false, List, [], ◌∷◌, ◌++◌, length, All, Option, None, Some, refl, sym, ap, ◌∙◌, subst, arith}
 use Rattle.std.proofs.lemmas.List.{length-append}
 use Rattle.std.proofs.lemmas.List.Elements.{All-nil, All-cons, All-append, All-weaker}
 use Rattle.std.proofs.lemmas.List.Kept.{AllPairs-cons}
 use Rattle.std.proofs.lemmas.Option.{slice_get_within}
 use Rattle.std.proofs.lemmas.Bool.Decides.{eqb_tells}
-use Rattle.std.specs.BTreeSet.{BTreeSet}
 use Rattle.mc_allows.specs.declared.call_name.CallName.{CallName}
 use Rattle.mc_allows.specs.declared.said.Said.{Said}
 use Rattle.mc_allows.specs.Steps.{is_same, first_uniques}
@@ -14,11 +13,11 @@ use Rattle.mc_calls.specs.declared.item.Item.{Item}
 use Rattle.mc_parse.specs.declared.shard_call.ShardCall.{ShardCall}
 use Rattle.zy_capture.specs.declared.record.Record.{Record}
 use Rattle.zy_check.proofs.ListLemmas.{there}
-use Rattle.zy_verdict.specs.Entries.{MadeCall, is_of_session, of_session}
+use Rattle.zy_verdict.specs.Entries.{MadeCall, is_of_session}
 use Rattle.zy_verdict.specs.Explained.{IsNotLater}
 use Rattle.zy_verdict.proofs.ListLemmas.{pairs_append, pairs_none}
 use Rattle.zy_confirm.specs.declared.store.Store.{Store}
-use Rattle.zy_confirm.specs.Store.{store_shards, held_at, is_used, HoldsNothing, AreUsed, ChangesAt, StandsAfter}
+use Rattle.zy_confirm.specs.Store.{store_shards, held_at, is_used, AreUsed, ChangesAt, StandsAfter}
 use Rattle.zy_confirm.specs.declared.outcome.After.TheVariants.{Put}
 use Rattle.zy_confirm.proofs.MakeLemmas.{same_key}
 use Rattle.zy_confirm.proofs.ChainLemmas.{stands_on, stands_without, nothing_stands}
@@ -31,7 +30,7 @@ use Rattle.zy_explain.specs.declared.rules.Rules.{Rules}
 use Rattle.zy_explain.specs.declared.track.Track.{Track}
 use Rattle.zy_explain.specs.declared.row.Row.{Row}
 use Rattle.zy_explain.specs.declared.state.State.{State}
-use Rattle.zy_explain.specs.Making.{CarriesOut, MayHaveLost, MakesNext}
+use Rattle.zy_explain.specs.Making.{CarriesOut, MakesNext}
 use Rattle.zy_explain.specs.Following.{output_in, track_in, track_at, may_lose_by, TrackStands, SessionStands, Stands, StandsSome, RowFollows, RowSettles, HoldsItsOwn, IsFirstStore, IsFreshRow, AreFreshRows, sessions_in, sessions_on}
 use Rattle.zy_explain.proofs.CutLemmas.{push_get}
 use Rattle.zy_explain.proofs.SaidLemmas.{same_number, other_number, session_other}
@@ -91,14 +90,6 @@ elsewhere : (name : CallName) (c k : ℕ) → (c ≡ name.conn → ⊥) → is_o
 elsewhere name c k differ = ap (λ b. b && (name.session == k)) (other_number name.conn c (λ same. differ (sym same)))
 
 -- ---- the items at first
-
--- a store without items
-pub none_first : (rules : Rules) (store : Store) → HoldsNothing rules.shards store → IsFirstStore rules store
-none_first rules store holds = record {
-  shards = holds.count;
-  own = λ key. subst (λ (i : Option Item). AreUsed store key (first_uniques i)) (sym (holds.none key)) tt;
-  cold = λ is key. holds.none key;
-}
 
 used_on : (old new : Store) (key : List ℕ) (found : Option Item) → ((one : ℕ) → is_used old key one ≡ true → is_used new key one ≡ true) → AreUsed old key (first_uniques found) → AreUsed new key (first_uniques found)
 used_on old new key None more are = tt

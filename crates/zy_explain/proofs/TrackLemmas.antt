@@ -1,15 +1,13 @@
 -- A track at its start, after a command that is done, and after one more call.
 use Rattle.std.specs.List.{slice_get}
-use Rattle.std.proofs.Common.{◌≡◌, ℕ, zero, suc, ◌+◌, ◌<◌, ◌≤◌, Bool, true, false, List, [], ◌∷◌, ◌++◌, length, take, drop, map, nat_lt, All, None, Some, refl, sym, ap, ◌∙◌, subst, arith}
+use Rattle.std.proofs.Common.{◌≡◌, ℕ, ◌+◌, ◌<◌, ◌≤◌, Bool, true, false, List, [], ◌∷◌, ◌++◌, length, take, drop, map, nat_lt, All, None, Some, refl, sym, ap, ◌∙◌, subst, arith}
 use Rattle.std.proofs.lemmas.List.{map-append, length-append, take_all, take-append-le}
 use Rattle.std.proofs.lemmas.List.Elements.{All-nil, All-cons, All-append, All-weaker}
-use Rattle.std.proofs.lemmas.Option.{slice_get_within}
 use Rattle.mc_allows.specs.declared.call_name.CallName.{CallName}
 use Rattle.mc_allows.specs.declared.said.Said.{Said}
 use Rattle.mc_answers.specs.Said.{said_calls}
 use Rattle.mc_parse.specs.declared.command.Command.{Command}
-use Rattle.mc_parse.specs.declared.shard_call.ShardCall.{ShardCall}
-use Rattle.zy_times.specs.Sessions.{marks_at, IsEndedIn}
+use Rattle.zy_times.specs.Sessions.{marks_at}
 use Rattle.zy_times.specs.Times.{trues, number_if}
 use Rattle.zy_verdict.specs.Entries.{NamedCall, MadeCall, is_of_session, of_session, said_to}
 use Rattle.zy_confirm.specs.NextText.{IsNextText}
@@ -81,9 +79,6 @@ module _ (shards : ℕ) (forget : Bool) (s : Session) (output : List ℕ) (old n
         count = notes.count ∙ ap (λ (k : ℕ). k + number_if (nat_lt 0 n)) stands.count ∙ sym (ap trues notes.answered ∙ trues_push old.answered.items (nat_lt 0 n));
         right = All-weaker (IsRightIn forget s old.answered.items) (IsRightIn forget s new.answered.items) (right_more forget s old.answered.items new.answered.items (nat_lt 0 n) notes.answered) (of_session conn session entries) stands.right;
       }
-
-pub settles_same : (shards : ℕ) (forget : Bool) (s : Session) (output : List ℕ) (t : Track) → Settles shards forget s output t t
-settles_same shards forget s output t conn session entries stands = stands
 
 -- ---- one more call
 

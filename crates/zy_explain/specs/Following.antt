@@ -1,10 +1,9 @@
 -- How far an order was followed. No public clause cites this module.
-use Rattle.std.specs.Prelude.{◌≡◌, ◌⊎◌, ℕ, ◌+◌, ◌<◌, ◌≤◌, Bool, false, List, [], ◌∷◌, ◌++◌, length, take, map, All, Option, None, Some}
+use Rattle.std.specs.Prelude.{◌≡◌, ◌⊎◌, ℕ, ◌+◌, ◌≤◌, Bool, false, List, [], ◌++◌, length, take, map, All, Option, None, Some}
 use Rattle.std.specs.List.{AllPairs, slice_get, slice_set, slice_index_or, concat}
 use Rattle.std.specs.BTreeSet.{BTreeSet}
 use Rattle.mc_allows.specs.declared.call_name.CallName.{CallName}
 use Rattle.mc_allows.specs.declared.said.Said.{Said}
-use Rattle.mc_allows.specs.declared.said.Said.TheVariants.{Failed}
 use Rattle.mc_answers.specs.Answer.{IsAnswer}
 use Rattle.mc_answers.specs.Output.{BeginsAnswer}
 use Rattle.mc_answers.specs.Said.{said_calls}

@@ -1,4 +1,4 @@
-use Rattle.std.proofs.Common.{◌≡◌, ℕ, List, Option, Some, IfSome, subst, sym, refl, ◌∙◌, ap, drop, length, arith}
+use Rattle.std.proofs.Common.{◌≡◌, ℕ, List, Option, IfSome, subst, sym, refl, ◌∙◌, ap, drop, length, arith}
 use Rattle.std.specs.List.{slice_get}
 use Rattle.std.proofs.lemmas.Option.{slice_get_read}
 use Rattle.mc_allows.specs.declared.said.Said.{Said}
