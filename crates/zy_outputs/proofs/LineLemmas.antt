@@ -54,9 +54,6 @@ module _ (r : Recorded) where
   pub done_by : (old new : List Observed) (named : List NamedCall) (found next result : Option Finding) → IsDone r old new named found → IsDone r new new [] next → IsFirstOf found next result → IsDone r old new named result
   done_by old new named found next result one two is = subst (λ (l : List NamedCall). IsDone r old new l result) (append-nil named) (done_on old new new named [] found next result one two is)
 
-  pub done_none : (calls : List Observed) → IsDone r calls calls [] None
-  done_none calls = adds_none r calls
-
   -- an output that has no session
   pub surplus_done : (IsThere : Type 0) (outputs count : ℕ) (calls : List Observed) (found : Option Finding) → HasSurplus IsThere outputs count found → (IsThere → count < outputs → IsExplained r → ⊥) → IsDone r calls calls [] found
   surplus_done IsThere outputs count calls None has refutes = adds_none r calls
@@ -74,9 +71,6 @@ module _ (rules : Rules) (name : CallName) (s : Session) (output : List ℕ) (ol
 
   pub surplus_output_done : HasNoCut s.commands.items output → SessionIsDone rules name s output old new (Some (Surplus name.conn name.session))
   surplus_output_done none r obeys is = uncut_refutes r name.conn name.session s output is.holds is.output_is none
-
-  pub other_output_done : (index : ℕ) → SessionIsDone rules name s output old new (Some (Other name.conn name.session index))
-  other_output_done index r obeys is = tt
 
 -- ---- a connection
 

@@ -54,7 +54,8 @@ pub record IsSeen (r : Recorded) (name : CallName) (command : Command) (seen : S
   pub is : slice_get (session_commands r name.conn name.session) name.index ≡ Some command
   pub sure : seen.sure ≡ true → (cuts : OutputCuts) → AreCuts r cuts → IsSure r cuts name
   pub sent : (moment : ℕ) → IsCallSent r name moment → seen.sent ≤ moment
-  pub ended : (moment : ℕ) → seen.ended ≡ Some moment → (cuts : OutputCuts) → AreCuts r cuts → IsCallEnded r cuts name moment
+  pub ended : (moment : ℕ) → seen.ended ≡ Some moment → (cuts : OutputCuts) → AreCuts r cuts
+      → IsCallEnded r cuts name moment
 
 -- what fits the bytes of the command has this property
 abbrev pub EachFits : Recorded → CallName → Command → (List Said → Type 0) → Type 0

@@ -1,5 +1,6 @@
 -- What is found of the sessions of a recording, one after another. No public clause cites this module.
-use Rattle.std.specs.Prelude.{◌≡◌, ◌⊎◌, ℕ, zero, suc, ◌+◌, ◌<◌, ◌≤◌, Bool, true, List, [], ◌++◌, length, Option, None, Some}
+use Rattle.std.specs.Prelude.{◌≡◌, ◌⊎◌, ℕ, zero, suc, ◌+◌, ◌<◌, ◌≤◌, Bool, true, List, [], ◌++◌, length}
+use Rattle.std.specs.Prelude.{Option, None, Some}
 use Rattle.std.specs.List.{slice_get, slice_index_or}
 use Rattle.mc_allows.specs.declared.call_name.CallName.{CallName}
 use Rattle.mc_kind.specs.declared.text.Text.{Text}
@@ -110,5 +111,6 @@ all_calls r (suc conn) = all_calls r conn ++ line_calls r conn (closes conn r.re
 -- the calls of all connections are added, or something is found of an output
 abbrev pub LinesAreDone : Rules → List Line → AllOutputs → List Observed → List Observed → Option Finding → Type 0
 LinesAreDone rules lines outputs old new found = (r : Recorded) → Obeys rules r → HasOutputs r outputs
-    → length lines ≡ r.count → ((conn : ℕ) (line : Line) → slice_get lines conn ≡ Some line → LineHolds r.records conn line)
+    → length lines ≡ r.count
+    → ((conn : ℕ) (line : Line) → slice_get lines conn ≡ Some line → LineHolds r.records conn line)
     → IsDone r old new (all_calls r r.count) found

@@ -16,6 +16,7 @@ use zy_base::{Items, NoMemory};
 use zy_refute::Observed;
 
 /// Adds the calls of a command, with what its bytes and its times show of them. The name is that of its first call.
+#[tactic(auto, using(crate::proofs::AddingLemmas::counts_add_none))]
 pub(crate) fn add_calls(
     alloc: Global,
     rules: Rules,
@@ -47,6 +48,7 @@ fn is_stats(command: &Command) -> bool
 }
 
 // Adds the calls of a command, of which these parts of its answer are shown.
+#[tactic(auto, using(crate::proofs::AddingLemmas::adds_nothing, crate::proofs::AddingLemmas::adds_all))]
 fn add_parts(
     rules: Rules,
     name: CallName,

@@ -106,6 +106,7 @@ fn observing_of(finding: Finding) -> Observing
 }
 
 // Adds the calls of all connections, or says what is found of an output instead.
+#[tactic(auto, using(crate::proofs::LineLemmas::lines_start, crate::proofs::LineLemmas::lines_end))]
 fn observe_lines(
     alloc: Global,
     rules: Rules,
@@ -130,6 +131,7 @@ fn observe_lines(
 }
 
 // Adds the calls of a connection, or says what is found of an output instead.
+#[tactic(auto, using(crate::proofs::LineLemmas::line_start, crate::proofs::LineLemmas::line_ends))]
 fn observe_line(
     alloc: Global,
     rules: Rules,

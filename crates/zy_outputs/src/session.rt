@@ -17,6 +17,7 @@ use zy_refute::Observed;
 use zy_sessions::Session;
 
 /// Adds the calls of a session, or says what is found of its output instead. The name is that of its first call.
+#[tactic(auto, using(crate::proofs::LineLemmas::kind_done, crate::proofs::LineLemmas::surplus_output_done))]
 pub(crate) fn observe_session(
     alloc: Global,
     rules: Rules,
@@ -73,6 +74,7 @@ pub(crate) fn observe_session(
 
 // Adds the calls of a session with these texts, or says which mark comes too early; `all` says that the other commands
 // have no answer.
+#[tactic(auto, using(crate::proofs::SessionLemmas::knows_start))]
 fn add_commands(
     alloc: Global,
     rules: Rules,

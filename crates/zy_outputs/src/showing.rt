@@ -31,6 +31,7 @@ pub(crate) fn parts_of(alloc: Global, command: &Command, text: &[u8]) -> Result<
 
 /// Takes what is shown of the call at an offset out of the list. If the list does not have it, a call of a command
 /// that asks for no answer did not fail, if it cannot have failed.
+#[tactic(auto, using(crate::proofs::ShowingLemmas::suits_no_failure))]
 pub(crate) fn take_part(
     parts: &mut Vec<Part>,
     at: usize,
