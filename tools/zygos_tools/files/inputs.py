@@ -118,11 +118,12 @@ def capture_alone(name: str) -> bytes:
     return b"".join(gathered)
 
 
-def outputs_in(name: str, hint: str = "", capture_hint: str = "", second_hint: str = "") -> tuple[list[Output], bool]:
+def outputs_in(name: str, hint: str = "", capture_hint: str = "", second_hint: str = "",
+               keep: Callable[[bytes], object] | None = None) -> tuple[list[Output], bool]:
     """The outputs of the replies file in an input, and whether a journal comes before it.
 
     `hint` says what writes one if there is none, `capture_hint` and `second_hint` what may be done about a capture or
-    something after the replies.
+    something after the replies. `keep` is given the bytes of the replies file.
     """
     found, has_journal, is_empty = None, False, True
     for part in parts(name, {}):
@@ -130,7 +131,9 @@ def outputs_in(name: str, hint: str = "", capture_hint: str = "", second_hint: s
         if found is not None or part.name == "capture":
             raise part.fault(f"not expected here{capture_hint if part.name == 'capture' else second_hint}")
         if part.name == "replies":
+            part.passed = keep
             found = list(replies_records(part, replies_version(part)))
+            part.pass_rest()
         has_journal = has_journal or part.name == "journal"
     if is_empty and not hint:
         raise Fault(f"{name_of(name)}: {kinds.told(b'')}")

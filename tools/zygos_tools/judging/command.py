@@ -55,7 +55,7 @@ from zygos_tools.files.formats import Output, shown
 from zygos_tools.files.inputs import capture_alone, outputs_in
 from zygos_tools.files.outputs import Beside, refuse_full, told_apart
 from zygos_tools.files.part import Fault
-from zygos_tools.judging import sharing
+from zygos_tools.judging import asking, sharing
 from zygos_tools.judging.certificate import Certificate
 from zygos_tools.judging.clock import Clock
 from zygos_tools.judging.events import No, Unknown, Verdict, counted
@@ -74,6 +74,7 @@ NO_ENDS = ("the capture has no ends of answers: each client is taken to have wai
 NOT_USED = "ends of answers are not used (--times segments): each client is taken to have waited"
 NOT_CLOSED = "commands name keys that are left out too, so no checker is asked"
 NOT_CERTIFIED = "not certified: --check asks the proved program, and --out FILES keeps the files for it"
+BY_PROGRAM = "order found, by the proved program, on the bytes as they were recorded"
 REFUSED = "the proved program refuses this order, so there is no verdict; please report it, with the recording"
 # how much processor time the search has
 SECONDS = 600
@@ -131,6 +132,8 @@ class Judging:
         self.judge: Judge | None = None
         self.certificate: Certificate | None = None
         self.checked = self.recording = ""
+        # what the proved program `judge` said, if it was asked and answered
+        self.answer: asking.Answer | None = None
         self.clock = Clock(given.get("--seconds", SECONDS), self.screen.ticker(), "--seconds" in given)
 
     def say(self, line: str) -> None:
@@ -145,10 +148,15 @@ class Judging:
         """Judges, prints what is to be said, and gives the status."""
         faults = self.found()
         self.screen.clear()
+        if self.is_told("no") and not any(isinstance(fault, No) for fault in faults):
+            faults.append(self.refuted())
         faults.sort(key=lambda fault: (fault.word != "no", fault.record is None, fault.record or 0))
         word = faults[0].word if faults else "order found"
         if faults:
             self.refuse(faults)
+        elif self.is_told("yes"):
+            self.say(BY_PROGRAM)
+            self.say(self.checked)
         elif not self.accept():
             word = "unknown"
         if self.is_json:
@@ -162,12 +170,22 @@ class Judging:
         except Verdict as verdict:
             others = self.judge.faults if self.judge else []
             return [*others, verdict] if verdict not in others else [*others]
+        except MemoryError:
+            if not self.is_told("no"):
+                raise
+            return []
 
     def search(self) -> list[Verdict]:
         """Looks for an order of what is in the files. Gives the faults of single keys and answers, if there are some."""
         given, capture = self.given, capture_alone(self.names[0])
-        replies = outputs_in(self.names[1], capture_hint=": the replies file comes second")[0]
+        kept: list[bytes] = []
+        replies = outputs_in(self.names[1], capture_hint=": the replies file comes second",
+                             keep=kept.append if self.may_ask() else None)[0]
         self.is_read = True
+        self.ask([capture, *kept])
+        kept.clear()
+        if self.is_told("yes"):
+            return []
         commands, megabytes = expected_memory(capture, replies)
         if megabytes > MUCH:
             self.screen.say(f"about {commands:,} commands, for which about {megabytes:,} MB of memory are needed")
@@ -184,12 +202,52 @@ class Judging:
             ends.stop("this capture has no ends of answers (record with --ends); --times segments or none", 2)
         count = len(judge.table.kind)
         judge.search(given.get("--processes") or sharing.free_processors(count))
-        if judge.faults:
+        if judge.faults or self.is_told("no"):
             return judge.faults
         judge.merge()
         if judge.is_closed:
             self.certificate = judge.certificate()
         return []
+
+    # ---- the proved program
+
+    def may_ask(self) -> bool:
+        """Whether the proved program `judge` is asked before the search: if all is judged, and no file is wanted."""
+        return (not self.to_output and self.given.get("--times") in (None, ENDS, NONE)
+                and not {"--keys", "--except-keys", "--out", "--order"} & set(self.given))
+
+    def ask(self, recorded: list[bytes]) -> None:
+        """Asks the proved program about the bytes of a capture and a replies file, if it may say something of them."""
+        times = self.given.get("--times")
+        if not self.may_ask() or times != NONE and not asking.has_marks(recorded[0]):
+            return
+        words = [word for word in ("--warm", "--may-forget") if word in self.given]
+        self.screen.show("asking the proved program")
+        answer = asking.ask(ZYGOS, [*words, "--shards", str(self.given.get("--shards", 16))], recorded,
+                            self.given.get("--seconds", SECONDS))
+        if answer is None or answer.word == "yes" and not answer.commands():
+            return
+        # it takes marks into account, so that only its `yes` holds also without them
+        if answer.word == "yes" or times != NONE or not asking.has_marks(recorded[0]):
+            self.answer, self.checked = answer, answer.line if answer.word != "unknown" else ""
+
+    def is_told(self, word: str) -> bool:
+        """Whether the proved program gave this verdict."""
+        return self.answer is not None and self.answer.word == word
+
+    def refuted(self) -> No:
+        """The `no` of the proved program, for which the search has no commands."""
+        assert self.answer
+        return self.answer.fault(self.judge.recording if self.judge else None)
+
+    def headed(self, fault: Verdict) -> list[str]:
+        """What is said of the first fault: if the proved program was asked, whether a `no` is proved."""
+        line, *more = fault.told()
+        if fault.word == "no" and self.answer:
+            line = f"proved {line}" if self.is_told("no") else f"no, not proved: {fault.why}"
+        return [line, *more]
+
+    # ---- what is found
 
     def choice(self) -> str:
         """The patterns of keys, to be printed."""
@@ -209,7 +267,7 @@ class Judging:
 
     def refuse(self, faults: list[Verdict]) -> None:
         """Prints a no or an unknown."""
-        for line in faults[0].told():
+        for line in self.headed(faults[0]):
             self.say(line)
         counts = self.counts(faults)
         if counts["keys"] and "--first" not in self.given and (len(faults) > 1 or counts["keys"] > 1):
@@ -297,10 +355,14 @@ class Judging:
 
     def print_json(self, word: str, faults: list[Verdict]) -> None:
         """Prints the verdict and the counts as one line."""
-        judge = self.judge
+        judge, is_proved = self.judge, self.is_told("yes") or self.is_told("no")
         found = self.certificate.counts if self.certificate else judge.recording.notes if judge else Counter[str]()
-        line = {"verdict": word, "commands": len(judge.table.verb) if judge else 0,
-                "calls": len(judge.table.kind) if judge else 0, **self.counts(faults),
+        counts: dict[str, int | None] = {"commands": len(judge.table.verb) if judge else 0,
+                                         "calls": len(judge.table.kind) if judge else 0, **self.counts(faults)}
+        if self.answer and self.is_told("yes"):
+            # it prints no others
+            counts.update(commands=self.answer.commands(), calls=None, keys=None, ordered=None)
+        line = {"verdict": word, "proved": is_proved, **counts,
                 "translated": {name: count for name, count in sorted(found.items()) if count},
                 "checked": self.checked or None,
                 "faults": [{"verdict": fault.word, "keys": [shown(key) for key in fault.keys], "why": fault.why,

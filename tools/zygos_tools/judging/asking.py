@@ -1,0 +1,100 @@
+"""Asks the proved program `judge` about the bytes of a recording, before anything is searched.
+
+Nothing is proved or built for this. If the program is not there, is stopped or ends without a verdict, nothing is said,
+and the search goes on as if there were no such program.
+"""
+from __future__ import annotations
+
+import os
+import re
+import subprocess
+import tempfile
+from collections.abc import Iterable
+from typing import NamedTuple
+
+from zygos_tools.files.formats import Segment, capture_head, capture_records, shown
+from zygos_tools.files.part import Part
+from zygos_tools.judging.events import Asked, No
+from zygos_tools.judging.reading import Recording
+from zygos_tools.repository import TOP
+
+# the lines of the program, and the status that each has
+LINES = {0: re.compile(r"yes commands (?P<commands>\d+) ended \d+"),
+         1: re.compile(r"no (?P<rule>early-end) record (?P<record>\d+)"
+                       r"|no (?P<of_session>surplus) connection (?P<connection>\d+) session (?P<session>\d+)"
+                       r"|no (?P<of_command>kind|unmet|shared) connection (?P<where>\d+) command (?P<command>\d+)"
+                       r"(?: part (?P<part>\d+))?"),
+         7: re.compile(r"unknown (?:other|search) connection \d+ command \d+")}
+# what each rule says of a command
+RULES = {"kind": "what was answered is no answer to it",
+         "unmet": "no command can have made in time what it was answered",
+         "shared": "fewer commands can have made in time what it and others were answered than these took away"}
+
+
+def has_marks(capture: bytes) -> bool:
+    """Whether a capture has ends of answers."""
+    part = Part("capture", capture)
+    return any(isinstance(one, Segment) and not one.text for one in capture_records(part, *capture_head(part)))
+
+
+class Answer(NamedTuple):
+    """What the program said: its line, what this says, and whether the line is `yes`, `no` or `unknown`."""
+
+    line: str
+    found: re.Match[str]
+
+    @property
+    def word(self) -> str:
+        return self.line.split()[0]
+
+    def commands(self) -> int:
+        """How many commands an order has that was found."""
+        return int(self.found["commands"])
+
+    def fault(self, recording: Recording | None) -> No:
+        """A `no` of the program in words, with the command if it is found in what was read."""
+        if self.found["rule"]:
+            record = int(self.found["record"])
+            return No(f"early end, record {record}: it ends an answer before one of its session can have been complete",
+                      record=record)
+        if self.found["of_session"]:
+            connection = int(self.found["connection"])
+            return No(f"surplus, connection {connection}, session {self.found['session']}: more was answered than was asked",
+                      connections=[connection])
+        rule, connection, command = self.found["of_command"], int(self.found["where"]), int(self.found["command"])
+        why = f"{rule}, connection {connection}, command {command}"
+        if not recording or command >= len(recording.of_connection[connection]):
+            return No(f"{why}: {RULES[rule]}", connections=[connection])
+        table, number = recording.table, recording.of_connection[connection][command]
+        keys = [table.key[call] for call in table.calls_of(number)][int(self.found["part"] or 0) :]
+        named = [table.keys[key] for key in keys[:1] if key >= 0 and rule != "kind"]
+        why += "".join(f", key {shown(key)}" for key in named)
+        return No(f"{why}: {RULES[rule]}", Asked(table, number), keys=named)
+
+
+def is_there(zygos: str) -> bool:
+    """Whether the program can be run at once, by this script. A checkout has it if it was built, or assembles it."""
+    top = os.path.dirname(os.path.realpath(zygos))
+    if top != TOP or not os.path.exists(os.path.join(TOP, "crates.txt")):
+        return True
+    ran = subprocess.run([os.path.join(TOP, "tools", "build"), "judge", "--take"], check=False, stdin=subprocess.DEVNULL,
+                         stdout=subprocess.DEVNULL, stderr=subprocess.DEVNULL)
+    return ran.returncode == 0
+
+
+def ask(zygos: str, words: list[str], pieces: Iterable[bytes], seconds: float) -> Answer | None:
+    """The program's answer to a capture and a replies file, one after the other; None if there is none in time."""
+    environment = {name: value for name, value in os.environ.items() if name != "ZYGOS_ADVICE"}
+    try:
+        if not is_there(zygos):
+            return None
+        with tempfile.TemporaryFile() as given:
+            given.writelines(pieces)
+            given.seek(0)
+            ran = subprocess.run([zygos, "judge", *words], stdin=given, stdout=subprocess.PIPE, stderr=subprocess.DEVNULL,
+                                 check=False, timeout=seconds, env=environment)
+    except (OSError, subprocess.TimeoutExpired):
+        return None
+    line = ran.stdout.decode("ascii", "replace").removesuffix("\n")
+    found = LINES[ran.returncode].fullmatch(line) if ran.returncode in LINES else None
+    return Answer(line, found) if found else None
