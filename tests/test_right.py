@@ -428,7 +428,8 @@ def at_a_terminal():
     with tempfile.TemporaryDirectory() as folder:
         paths = written(folder, sent=sent, told=told)
         above, below = pty.openpty()
-        with subprocess.Popen([os.path.join(TOP, "tools", "judge"), paths["sent"], paths["told"]], stdout=below, stderr=below) as tool:
+        with subprocess.Popen([os.path.join(TOP, "tools", "judge"), "--keys", "*", paths["sent"], paths["told"]], stdout=below,
+                              stderr=below) as tool:
             status = tool.wait(LONGEST)
         os.close(below)
         shown = os.read(above, 10000).decode().split("\r\n")

@@ -21,4 +21,5 @@
 | `reasons` | the few calls that no order explains |
 | `certificate` | the capture, the journal and the replies that `linear` and `zygos check` take, with what is translated |
 | `judge` | all this, one after the other |
+| `asking` | asks the proved program `judge` before that |
 """

@@ -33,6 +33,10 @@ order explains; or `unknown: ..`, with the reason. Then follow how many keys hav
 none. The status is 0 for an order, 1 for `no` and nothing else, and 7 for `unknown`. After an order, with --check, the
 checker says `yes`. Other statuses: 2 a wrong option, 3 an error in a file, 4 a failed read, 5 a failed write, 6 too
 little memory. docs/JUDGE.md says what `yes` means, and what it does not.
+
+If all keys are judged, no files are written, and ends of answers are known or --times none is given, the proved program
+`./zygos judge` is asked first, if it is there. After its `yes` nothing is searched, and the first line says so. A `no`
+that it proves begins with `proved no: ..`, another one after it with `no, not proved: ..`.
 """
 from __future__ import annotations
 
