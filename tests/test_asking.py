@@ -37,11 +37,12 @@ def asked(line, status, *words, records=RIGHT, answers=(STORED, HIT), names=("se
     program read."""
     with tempfile.TemporaryDirectory() as folder:
         script = STAND_IN % {"folder": folder, "line": line, "status": status}
-        paths = written(folder, sent=capture(2, records), told=replies(answers), zygos=script.encode(), words=b"", given=b"")
+        paths = written(folder, sent=capture(2, records), told=replies(answers), zygos=script.encode(), words=b"",
+                        given=b"")
         os.chmod(paths["zygos"], stat.S_IRWXU)
         with mock.patch.object(command, "ZYGOS", paths["zygos"]):
-            ran = run("judge", *[word.replace("FOLDER", folder) for word in words], *[paths.get(name, name) for name in names],
-                      given=given)
+            ran = run("judge", *[word.replace("FOLDER", folder) for word in words],
+                      *[paths.get(name, name) for name in names], given=given)
         kept = []
         for name in ("words", "given"):
             with open(paths[name], "rb") as file:
@@ -62,15 +63,16 @@ def yes_needs_no_search():
     status, lines, words, _ = asked(YES, 0, "--json")
     told = json.loads(lines[0])
     same("as JSON", (0, 1, ["judge --shards 16"], "order found", True, YES, 2, None, 0),
-         (status, len(lines), words, told["verdict"], told["proved"], told["checked"], told["commands"], told["keys"], told["without"]))
+         (status, len(lines), words, told["verdict"], told["proved"], told["checked"], told["commands"], told["keys"],
+          told["without"]))
 
 
 def it_is_not_asked():
     """It is not asked about some keys, for files, or if the times are not those of marks."""
-    for words, records in ((("--check", "--keys", "a"), RIGHT), (("--check", "--except-keys", "b"), RIGHT), (("--check",), WITHOUT),
-                           (("--check", "--out", "FOLDER/files"), RIGHT), (("--check", "--order", "FOLDER/order"), RIGHT),
-                           (("--check", "--times", "segments"), RIGHT)):
-        status, lines, run_words, _ = asked(NO, 1, *words, records=records)
+    for words, records in ((("--keys", "a"), RIGHT), (("--except-keys", "b"), RIGHT), ((), WITHOUT),
+                           (("--out", "FOLDER/files"), RIGHT), (("--order", "FOLDER/order"), RIGHT),
+                           (("--times", "segments"), RIGHT)):
+        status, lines, run_words, _ = asked(NO, 1, "--check", *words, records=records)
         same(f"{words}", (0, FOUND, 1), (status, lines[0], len(run_words)))
     said = b"tools/judge: this capture has no ends of answers (record with --ends); --times segments or none\n"
     same("no marks", (2, [], []), asked(NO, 1, "--times", "ends", "--check", records=WITHOUT, said=said)[:3])
@@ -80,8 +82,8 @@ def it_is_not_asked():
 
 def without_times():
     """With --times none it is asked, and marks that it takes into account may only help."""
-    for line, status, records, first in ((YES, 0, WITHOUT, BY_PROGRAM), (YES, 0, RIGHT, BY_PROGRAM), (NO, 1, RIGHT, FOUND),
-                                         (SEARCHED, 7, RIGHT, FOUND)):
+    for line, status, records, first in ((YES, 0, WITHOUT, BY_PROGRAM), (YES, 0, RIGHT, BY_PROGRAM),
+                                         (NO, 1, RIGHT, FOUND), (SEARCHED, 7, RIGHT, FOUND)):
         got, lines, words, _ = asked(line, status, "--check", "--times", "none", records=records)
         same(f"{line}, {len(records)}", (0, first, "judge --shards 16"), (got, lines[0], words[0]))
 
@@ -91,42 +93,46 @@ def no_is_explained():
     status, lines, words, _ = asked(NO, 1, "--check", answers=(STORED, OTHER))
     same("explained", (1, f"proved {ACCUSED}"[:20], 1), (status, lines[0][:20], len(words)))
     status, lines, words, _ = asked(NO, 1, "--check")
-    same("not explained", (1, "proved no: unmet, connection 1, command 0, key a: no command can have made in time what it was answered",
+    unmet = "no command can have made in time what it was answered"
+    shared = "fewer commands can have made in time what it and others were answered than these took away"
+    same("not explained", (1, f"proved no: unmet, connection 1, command 0, key a: {unmet}",
                            "  connection 1, command 0, sent 2, answered 3: get a -> VALUE a 0 1", 1),
          (status, lines[0], lines[1], len(words)))
-    for line, told in (("no early-end record 3", "early end, record 3: it ends an answer before one of its session can have been complete"),
-                       ("no surplus connection 1 session 0", "surplus, connection 1, session 0: more was answered than was asked"),
-                       ("no kind connection 1 command 0", "kind, connection 1, command 0: what was answered is no answer to it"),
-                       ("no shared connection 1 command 0 part 0", "shared, connection 1, command 0, key a: fewer commands can have made in"
-                                                                   " time what it and others were answered than these took away"),
-                       ("no unmet connection 1 command 9 part 0", "unmet, connection 1, command 9: no command can have made in time what it"
-                                                                  " was answered")):
+    for line, told in (
+            ("no early-end record 3", "early end, record 3: it ends an answer before one of its session can have been"
+                                      " complete"),
+            ("no surplus connection 1 session 0", "surplus, connection 1, session 0: more was answered than was asked"),
+            ("no kind connection 1 command 0", "kind, connection 1, command 0: what was answered is no answer to it"),
+            ("no shared connection 1 command 0 part 0", f"shared, connection 1, command 0, key a: {shared}"),
+            ("no unmet connection 1 command 9 part 0", f"unmet, connection 1, command 9: {unmet}")):
         status, lines, _, _ = asked(line, 1, "--check")
         same(line, (1, f"proved no: {told}"), (status, lines[0]))
     for answers in ((STORED, OTHER), (STORED, HIT)):
         status, lines, _, _ = asked(NO, 1, "--json", answers=answers)
         told = json.loads(lines[0])
-        same("as JSON", (1, "no", True, NO, 1, ["a"]), (status, told["verdict"], told["proved"], told["checked"], told["without"],
-                                                       told["faults"][0]["keys"]))
+        same("as JSON", (1, "no", True, NO, 1, ["a"]),
+             (status, told["verdict"], told["proved"], told["checked"], told["without"], told["faults"][0]["keys"]))
 
 
 def unknown_is_searched():
     """After its `unknown` the search goes on as without it, and its `no` says that it is not proved."""
     for line in (SEARCHED, OTHER_LINE):
         status, lines, words, _ = asked(line, 7, "--check")
-        same(line, (0, [FOUND, "nothing is translated", f"{YES} by linear"], ["judge --shards 16", "linear --shards 16"]),
-             (status, lines, words))
+        same(line, (0, [FOUND, "nothing is translated", f"{YES} by linear"],
+                    ["judge --shards 16", "linear --shards 16"]), (status, lines, words))
         status, lines, _, _ = asked(line, 7, "--check", answers=(STORED, OTHER))
         same(f"{line}, refused", (1, "no, not proved: key a"), (status, lines[0][:21]))
         told = json.loads(asked(line, 7, "--json", answers=(STORED, OTHER))[1][0])
         same("as JSON", ("no", False, None), (told["verdict"], told["proved"], told["checked"]))
     told = json.loads(asked(SEARCHED, 7, "--json", "--check")[1][0])
-    same("checked by linear", ("order found", False, f"{YES} by linear"), (told["verdict"], told["proved"], told["checked"]))
+    same("checked by linear", ("order found", False, f"{YES} by linear"),
+         (told["verdict"], told["proved"], told["checked"]))
 
 
 def it_may_not_be_there():
     """Without the program, or if it fails, all is as if nobody had asked."""
-    for line, status in (("", 0), (YES, 1), (NO, 0), ("no", 1), (YES, 70), ("", 6), ("yes commands 0 ended 0", 0), (f"{YES}\nmore", 0)):
+    for line, status in (("", 0), (YES, 1), (NO, 0), ("no", 1), (YES, 70), ("", 6), ("yes commands 0 ended 0", 0),
+                         (f"{YES}\nmore", 0)):
         got, lines, _, _ = asked(line, status, "--check")
         same(f"{line}, {status}", (0, [FOUND, "nothing is translated", f"{YES} by linear"]), (got, lines))
         got, lines, _, _ = asked(line, status, "--check", answers=(STORED, OTHER))
@@ -142,5 +148,5 @@ def nobody_waits_for_it():
         same("not there", None, asking.ask(os.path.join(folder, "none"), [], [b""], 10))
 
 
-Tests = cases(yes_needs_no_search, it_is_not_asked, without_times, no_is_explained, unknown_is_searched, it_may_not_be_there,
-              nobody_waits_for_it)
+Tests = cases(yes_needs_no_search, it_is_not_asked, without_times, no_is_explained, unknown_is_searched,
+              it_may_not_be_there, nobody_waits_for_it)
