@@ -1,10 +1,8 @@
 -- All calls of a recording, session by session.
-use Rattle.std.proofs.Common.{◌≡◌, ◌⊎◌, inl, inr, ⊎_elim, ℕ, zero, suc, ◌+◌, ◌<◌, ◌≤◌, List, [], ◌∷◌, ◌++◌, get_or, map, All, AllPairs, Contains, Some, refl, sym, ap, ◌∙◌, subst, arith}
-use Rattle.std.specs.List.{slice_get}
+use Rattle.std.proofs.Common.{◌≡◌, inl, inr, ℕ, zero, suc, ◌+◌, ◌<◌, List, [], ◌∷◌, get_or, map, All, AllPairs, Contains, refl, sym, ap, ◌∙◌, subst, arith}
 use mathlib.Core.Logic.{dite}
 use native.Mathlib.Decide.{dec_lt}
 use Rattle.std.proofs.lemmas.List.Elements.{All-nil, All-cons, All-append, All-weaker, Contains-append_left, Contains-append_right}
-use Rattle.std.proofs.lemmas.Option.{slice_get_within}
 use Rattle.mc_answers.specs.Said.{said_calls}
 use Rattle.mc_parse.specs.declared.command.Command.{Command}
 use Rattle.mc_parse.specs.declared.shard_call.ShardCall.{ShardCall}
@@ -12,10 +10,10 @@ use Rattle.zy_capture.specs.Streams.{closes}
 use Rattle.zy_refute.specs.declared.observed.Observed.{Observed}
 use Rattle.zy_verdict.specs.Recorded.{Recorded, session_commands}
 use Rattle.zy_verdict.specs.Entries.{NamedCall, name_at, named_parts, named_from}
-use Rattle.zy_verdict.specs.Course.{IsCallOf, IsEarlier}
-use Rattle.zy_verdict.proofs.ListLemmas.{all_at, pairs_none, pairs_append, pairs_of_map}
+use Rattle.zy_verdict.specs.Course.{IsCallOf}
+use Rattle.zy_verdict.proofs.ListLemmas.{pairs_none, pairs_append, pairs_of_map}
 use Rattle.zy_verdict.proofs.NameLemmas.{NamedBefore, names_rise, has_name}
-use Rattle.zy_observed.specs.Shown.{IsShown, AreShown, named_of, HaveOtherNames}
+use Rattle.zy_observed.specs.Shown.{IsShown, AreShown, named_of}
 use Rattle.zy_outputs.specs.Adding.{AddsShown}
 use Rattle.zy_outputs.specs.Sessions.{session_calls, line_calls, all_calls}
 

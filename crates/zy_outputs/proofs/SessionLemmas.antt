@@ -1,13 +1,13 @@
 -- What the texts and times of a session show of its commands.
-use Rattle.std.proofs.Common.{◌≡◌, ◌⊎◌, inl, inr, ⊎_elim, ℕ, zero, suc, add-one, ◌+◌, ◌-◌, ◌<◌, ◌≤◌, nat_lt, not, Bool, true, false, List, [], ◌∷◌, ◌++◌, length, take, drop, map, Option, None, Some, refl, sym, ap, ◌∙◌, subst, append_assoc, append-nil, arith}
-use Rattle.std.specs.List.{slice_get, slice_index_or}
+use Rattle.std.proofs.Common.{◌≡◌, ◌⊎◌, inl, inr, ℕ, add-one, ◌+◌, ◌-◌, ◌<◌, ◌≤◌, nat_lt, not, Bool, true, false, List, [], ◌∷◌, ◌++◌, length, take, drop, Option, None, Some, refl, sym, ap, ◌∙◌, subst, append_assoc, append-nil, arith}
+use Rattle.std.specs.List.{slice_get}
 use Rattle.std.proofs.lemmas.List.{length-take-le, length-drop, length-map, take_all}
 use Rattle.std.proofs.lemmas.Bool.{ltb-true, ltb-false}
 use Rattle.std.proofs.lemmas.Option.{slice_get_within}
 use Rattle.mc_allows.specs.declared.call_name.CallName.{CallName}
 use Rattle.mc_allows.specs.declared.said.Said.{Said}
 use Rattle.mc_answers.specs.Answer.{IsAnswer}
-use Rattle.mc_answers.specs.Output.{Cut, IsCut, FitsText, text_at}
+use Rattle.mc_answers.specs.Output.{Cut, IsCut, text_at}
 use Rattle.mc_answers.specs.Said.{said_calls}
 use Rattle.mc_kind.specs.Cutting.{text_in, AreTexts, AreFirstTexts, AreAllTexts}
 use Rattle.mc_kind.specs.declared.text.Text.{Text}
@@ -19,16 +19,14 @@ use Rattle.zy_sessions.specs.declared.session.Session.{Session}
 use Rattle.zy_sessions.specs.Sessions.{SessionHolds}
 use Rattle.zy_times.specs.Sessions.{marks_at}
 use Rattle.zy_times.specs.Times.{trues, number_if}
-use Rattle.zy_verdict.specs.Recorded.{Recorded, session_commands, output_of, last_moment}
+use Rattle.zy_verdict.specs.Recorded.{Recorded, output_of}
 use Rattle.zy_verdict.specs.Entries.{NamedCall, name_at, named_parts, named_from}
 use Rattle.zy_verdict.specs.Explained.{OutputCuts, AreCuts, answered_by_cut, IsExplained}
-use Rattle.zy_verdict.specs.Course.{IsSure, IsBeforeAnswer}
-use Rattle.zy_outputs.specs.declared.seen.Seen.{Seen}
+use Rattle.zy_verdict.specs.Course.{IsBeforeAnswer}
 use Rattle.zy_outputs.specs.declared.rules.Rules.{Rules}
 use Rattle.zy_outputs.specs.declared.finding.Finding.{Finding}
-use Rattle.zy_outputs.specs.declared.finding.Finding.TheVariants.{EarlyEnd}
 use Rattle.zy_outputs.specs.Adding.{Obeys, IsSeen, EachFits, AddsShown, AddsCalls}
-use Rattle.zy_outputs.specs.Texts.{bytes_if, known_bytes, has_bytes_if, may_have_bytes, IsLastAnswered, IsSureBelow}
+use Rattle.zy_outputs.specs.Texts.{bytes_if, known_bytes, has_bytes_if, may_have_bytes, IsSureBelow}
 use Rattle.zy_outputs.specs.Sessions.{seen_by, session_calls, IsSession, IsDone, IsEarlyMark, IsEarlyAt, SessionAdds}
 use Rattle.zy_outputs.proofs.AddingLemmas.{past_end, adds_none, adds_on}
 use Rattle.zy_outputs.proofs.TimeLemmas.{flags_more, not_sent_before, mark_above, mark_in_end, early_never, last_never}

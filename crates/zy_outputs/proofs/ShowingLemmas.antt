@@ -1,9 +1,8 @@
 -- What is taken out of what an answer shows.
-use Rattle.std.proofs.Common.{◌≡◌, ◌⊎◌, inl, inr, ℕ, ◌<◌, ◌≤◌, Bool, true, false, List, [], length, get_or, set, Some, refl, sym, ap, ◌∙◌, subst, arith}
+use Rattle.std.proofs.Common.{◌≡◌, ℕ, Bool, true, false, List, set, Some, refl, sym, ◌∙◌, subst, arith}
 use Rattle.std.specs.List.{slice_get}
 use mathlib.Core.Logic.{dite}
 use native.Mathlib.Decide.{dec_lt}
-use Rattle.std.proofs.lemmas.Option.{slice_get_within}
 use Rattle.zy_base.proofs.SetLemmas.{slice_get-set_is, slice_get-set_other}
 use Rattle.mc_calls.specs.declared.call.Call.{Call}
 use Rattle.mc_allows.specs.Allows.{may_fail_quietly}
@@ -14,7 +13,7 @@ use Rattle.mc_allows.specs.declared.shown.Shown.{Shown}
 use Rattle.mc_allows.specs.declared.shown.Shown.TheVariants.{Nothing, NoFailure}
 use Rattle.mc_shown.specs.declared.part.Part.{Part}
 use Rattle.mc_shown.specs.Parts.{AreSuited}
-use Rattle.zy_outputs.specs.Showing.{FailsIfItMay, MaySuit}
+use Rattle.zy_outputs.specs.Showing.{MaySuit}
 
 -- everything suits nothing
 pub suits_nothing : (said : Said) → Suits Nothing said

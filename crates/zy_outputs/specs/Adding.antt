@@ -1,5 +1,5 @@
 -- The calls of a command that are added to a list. No public clause cites this module.
-use Rattle.std.specs.Prelude.{◌≡◌, ◌⊎◌, ℕ, ◌≤◌, Bool, true, List, [], ◌∷◌, ◌++◌, map, All, Option, Some}
+use Rattle.std.specs.Prelude.{◌≡◌, ◌⊎◌, ℕ, ◌≤◌, true, List, [], ◌∷◌, ◌++◌, map, All, Option, Some}
 use Rattle.std.specs.List.{slice_get}
 use Rattle.mc_allows.specs.declared.call_name.CallName.{CallName}
 use Rattle.mc_allows.specs.declared.said.Said.{Said}
@@ -16,7 +16,7 @@ use Rattle.zy_verdict.specs.Recorded.{Recorded, session_commands}
 use Rattle.zy_verdict.specs.Entries.{NamedCall, named_parts}
 use Rattle.zy_verdict.specs.Explained.{OutputCuts, AreCuts, IsCallSent, IsCallEnded}
 use Rattle.zy_verdict.specs.Course.{IsSure}
-use Rattle.zy_observed.specs.Shown.{IsShown, named_of, call_on_shard}
+use Rattle.zy_observed.specs.Shown.{IsShown, named_of}
 use Rattle.zy_outputs.specs.declared.rules.Rules.{Rules}
 use Rattle.zy_outputs.specs.declared.seen.Seen.{Seen}
 

@@ -1,12 +1,12 @@
 -- What is found of the sessions of a recording, one after another. No public clause cites this module.
-use Rattle.std.specs.Prelude.{◌≡◌, ◌⊎◌, ℕ, zero, suc, ◌+◌, ◌<◌, ◌≤◌, Bool, true, List, [], ◌++◌, length}
+use Rattle.std.specs.Prelude.{◌≡◌, ◌⊎◌, ℕ, zero, suc, ◌+◌, ◌<◌, Bool, true, List, [], ◌++◌, length}
 use Rattle.std.specs.Prelude.{Option, None, Some}
-use Rattle.std.specs.List.{slice_get, slice_index_or}
+use Rattle.std.specs.List.{slice_get}
 use Rattle.mc_allows.specs.declared.call_name.CallName.{CallName}
 use Rattle.mc_kind.specs.declared.text.Text.{Text}
 use Rattle.mc_kind.specs.Cutting.{AreFirstTexts, AreAllTexts}
 use Rattle.zy_capture.specs.Outputs.{AllOutputs}
-use Rattle.zy_capture.specs.Streams.{closes, sessions_of}
+use Rattle.zy_capture.specs.Streams.{closes}
 use Rattle.zy_refute.specs.declared.observed.Observed.{Observed}
 use Rattle.zy_sessions.specs.declared.session.Session.{Session}
 use Rattle.zy_sessions.specs.declared.line.Line.{Line}
@@ -15,7 +15,7 @@ use Rattle.zy_verdict.specs.Recorded.{Recorded, session_commands, output_of}
 use Rattle.zy_verdict.specs.Entries.{NamedCall, named_from}
 use Rattle.zy_verdict.specs.Explained.{IsExplained}
 use Rattle.zy_outputs.specs.declared.finding.Finding.{Finding}
-use Rattle.zy_outputs.specs.declared.finding.Finding.TheVariants.{Kind, Surplus, EarlyEnd, Other}
+use Rattle.zy_outputs.specs.declared.finding.Finding.TheVariants.{Surplus, EarlyEnd, Other}
 use Rattle.zy_outputs.specs.declared.rules.Rules.{Rules}
 use Rattle.zy_outputs.specs.declared.seen.Seen.{Seen}
 use Rattle.zy_outputs.specs.Adding.{Obeys, AddsShown}

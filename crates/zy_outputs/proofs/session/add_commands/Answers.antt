@@ -1,10 +1,8 @@
-use Rattle.std.proofs.Common.{◌≡◌, ◌+◌, ◌≤◌, ℕ, nat_lt, length, slice_get, Some, refl, sym, ◌∙◌, subst, arith}
+use Rattle.std.proofs.Common.{◌≡◌, ◌+◌, ℕ, length, slice_get, Some, refl, sym, subst, arith}
 use Rattle.std.proofs.lemmas.Option.{slice_get_read}
 use Rattle.zy_verdict.specs.Entries.{name_at}
 use Rattle.zy_outputs.specs.declared.seen.Seen.{Seen}
 use Rattle.zy_outputs.specs.Adding.{AddsCalls}
-use Rattle.zy_outputs.specs.Sessions.{seen_by}
-use Rattle.zy_outputs.specs.Texts.{may_have_bytes}
 use Rattle.zy_outputs.proofs.SessionLemmas.{KnowsSession, knows_next, early_ends, session_ends}
 use Rattle.zy_outputs.proofs.session.add_commands.Goals as goal
 

@@ -1,7 +1,6 @@
-use Rattle.std.proofs.Common.{◌≡◌, Bool, true, false, List, IfOk, sym, subst}
+use Rattle.std.proofs.Common.{true, false, List, IfOk, subst}
 use Rattle.std.proofs.lemmas.Result.{IfOk-weaker}
 use Rattle.mc_kind.specs.Cutting.{IsCutting}
-use Rattle.mc_kind.specs.declared.cutting.Cutting.{Cutting}
 use Rattle.mc_kind.specs.declared.cutting.Cutting.TheVariants.{All, Front}
 use Rattle.mc_kind.specs.declared.text.Text.{Text}
 use Rattle.mc_parse.specs.declared.command.Command.{Command}
