@@ -1,0 +1,46 @@
+use Rattle.std.proofs.Common.{ℕ, subst}
+use Rattle.zygos_judge.specs.Words.{rules_asked}
+use Rattle.zy_read.specs.Seen.{Seen, side, both_sides, WasWritten}
+use Rattle.zy_verdict.specs.Explained.{IsExplained}
+use Rattle.zygos_judge.specs.declared.finding.Finding.TheVariants.{Refuted}
+use Rattle.zygos_judge.specs.declared.finding.Reason.TheVariants.{Unmet, Shared}
+use Rattle.zygos_judge.specs.Ends.{HasCause}
+use Rattle.zygos_judge.specs.Finding.{HasFinding, IsWithoutCourse}
+use Rattle.zygos_judge.specs.Lines.{finding_line}
+use Rattle.zygos_judge.proofs.EndLemmas.{invalid_with, unlawful_for, judged_for, refused_for, finds_so}
+use Rattle.zygos_judge.proofs.serving.serve_judge.Goals as goal
+
+pub returns-clause-usage : goal.returns-clause-usage
+returns-clause-usage g c = λ is.
+    let call : Seen = both_sides (side g.S.Source.rest g.S.Source.faults c.args.source.now c.carry_out-answer.new.source) (side g.K.Sink.holds g.K.Sink.faults c.args.sink.now c.carry_out-answer.new.sink) in
+    invalid_with (rules_asked c.args.words.now) (subst (HasCause (rules_asked c.args.words.now) call) is c.carry_out-answer.ensures.ends)
+
+pub returns-clause-unlawful : goal.returns-clause-unlawful
+returns-clause-unlawful g c = λ none.
+    let call : Seen = both_sides (side g.S.Source.rest g.S.Source.faults c.args.source.now c.carry_out-answer.new.source) (side g.K.Sink.holds g.K.Sink.faults c.args.sink.now c.carry_out-answer.new.sink) in
+    unlawful_for call c.carry_out-answer.result (subst (λ asked. HasCause asked call c.carry_out-answer.result) none c.carry_out-answer.ensures.ends)
+
+pub returns-clause-complete : goal.returns-clause-complete
+returns-clause-complete g c = λ good none.
+    let call : Seen = both_sides (side g.S.Source.rest g.S.Source.faults c.args.source.now c.carry_out-answer.new.source) (side g.K.Sink.holds g.K.Sink.faults c.args.sink.now c.carry_out-answer.new.sink) in
+    judged_for (rules_asked c.args.words.now) call c.carry_out-answer.result good none c.carry_out-answer.ensures.ends
+
+pub returns-clause-refuses : goal.returns-clause-refuses
+returns-clause-refuses g c = λ r bad none.
+    let call : Seen = both_sides (side g.S.Source.rest g.S.Source.faults c.args.source.now c.carry_out-answer.new.source) (side g.K.Sink.holds g.K.Sink.faults c.args.sink.now c.carry_out-answer.new.sink) in
+    refused_for (rules_asked c.args.words.now) call c.carry_out-answer.result r bad none c.carry_out-answer.ensures.ends
+
+pub returns-clause-no : goal.returns-clause-no
+returns-clause-no g c = λ reason is.
+    let call : Seen = both_sides (side g.S.Source.rest g.S.Source.faults c.args.source.now c.carry_out-answer.new.source) (side g.K.Sink.holds g.K.Sink.faults c.args.sink.now c.carry_out-answer.new.sink) in
+    finds_so (rules_asked c.args.words.now) call.source (λ r. HasFinding r (Refuted reason)) (λ r. IsExplained r → ⊥) (WasWritten call.sink (finding_line (Refuted reason))) (λ r has. has.0) (subst (HasCause (rules_asked c.args.words.now) call) is c.carry_out-answer.ensures.ends)
+
+pub returns-clause-unmet : goal.returns-clause-unmet
+returns-clause-unmet g c = λ conn command part is.
+    let call : Seen = both_sides (side g.S.Source.rest g.S.Source.faults c.args.source.now c.carry_out-answer.new.source) (side g.K.Sink.holds g.K.Sink.faults c.args.sink.now c.carry_out-answer.new.sink) in
+    finds_so (rules_asked c.args.words.now) call.source (λ r. HasFinding r (Refuted (Unmet conn command part))) (λ r. IsWithoutCourse r conn command part) (WasWritten call.sink (finding_line (Refuted (Unmet conn command part)))) (λ r has. has.1) (subst (HasCause (rules_asked c.args.words.now) call) is c.carry_out-answer.ensures.ends)
+
+pub returns-clause-shared : goal.returns-clause-shared
+returns-clause-shared g c = λ conn command part is.
+    let call : Seen = both_sides (side g.S.Source.rest g.S.Source.faults c.args.source.now c.carry_out-answer.new.source) (side g.K.Sink.holds g.K.Sink.faults c.args.sink.now c.carry_out-answer.new.sink) in
+    finds_so (rules_asked c.args.words.now) call.source (λ r. HasFinding r (Refuted (Shared conn command part))) (λ r. IsWithoutCourse r conn command part) (WasWritten call.sink (finding_line (Refuted (Shared conn command part)))) (λ r has. has.1) (subst (HasCause (rules_asked c.args.words.now) call) is c.carry_out-answer.ensures.ends)

@@ -1,0 +1,71 @@
+-- What is found of a recording: that some order explains it, that none does, or neither.
+use Rattle.std.specs.Prelude.{◌≡◌, ℕ, ◌+◌, true, List, length, ⊤}
+use Rattle.mc_allows.specs.declared.call_name.CallName.{CallName}
+use Rattle.mc_parse.specs.declared.command.Command.{Command}
+use Rattle.zy_capture.specs.Outputs.{AllOutputs, AreOutputs}
+use Rattle.zy_explain.specs.declared.rules.Rules.{Rules}
+use Rattle.zy_explain.specs.Judged.{judged}
+use Rattle.zy_input.specs.Recording.{IsMadeOfRecording}
+use Rattle.zy_times.specs.InTime.{total_below}
+use Rattle.zy_verdict.specs.Recorded.{Recorded, session_commands}
+use Rattle.zy_verdict.specs.Entries.{NamedCall, is_at_key}
+use Rattle.zy_verdict.specs.Explained.{IsExplained}
+use Rattle.zy_verdict.specs.Course.{IsCallOf, HasCourse}
+use Rattle.zy_verdict.specs.Numbers.{IsExplainedWith}
+use Rattle.zygos_judge.specs.declared.finding.Finding.{Finding}
+use Rattle.zygos_judge.specs.declared.finding.Finding.TheVariants.{Explained, Refuted, Unknown}
+use Rattle.zygos_judge.specs.declared.finding.Reason.{Reason}
+use Rattle.zygos_judge.specs.declared.finding.Reason.TheVariants.{Unmet, Shared}
+
+-- ---- what is judged
+
+-- the bytes are a capture and a replies file, one after the other, and `Holds` holds of their recording, by a server that
+-- may have been so
+pub record OfRecording (rules : Rules) (bytes : List ℕ) (Holds : Recorded → Type 0) : Type 0 where
+  pub streams : List (List (List ℕ))
+  pub outputs : AllOutputs
+  pub made : IsMadeOfRecording bytes streams outputs
+  pub lawful : AreOutputs outputs
+  pub holds : Holds (judged rules made.of_capture.count made.of_capture.records outputs.sessions)
+
+-- ---- calls
+
+-- how many commands the sessions of a connection before this one have
+abbrev pub commands_before : Recorded → ℕ → ℕ → ℕ
+commands_before r conn session = total_below (λ s. length (session_commands r conn s)) session
+
+-- the number of a call's command in its connection, over all sessions
+abbrev pub number_of_command : Recorded → CallName → ℕ
+number_of_command r name = commands_before r name.conn name.session + name.index
+
+-- a call of the recording has this name, and a key of it has no course
+pub record IsRefutedCall (r : Recorded) (name : CallName) : Type 0 where
+  pub named : NamedCall
+  pub named_is : named.name ≡ name
+  pub command : Command
+  pub is : IsCallOf r command named
+  pub key : List ℕ
+  pub about : is_at_key r.shards key named.call ≡ true
+  pub none : HasCourse r key → ⊥
+
+-- the same of a call that is this part of the command with this number of a connection
+pub record IsWithoutCourse (r : Recorded) (conn command part : ℕ) : Type 0 where
+  pub name : CallName
+  pub conn_is : name.conn ≡ conn
+  pub command_is : number_of_command r name ≡ command
+  pub part_is : name.part ≡ part
+  pub call : IsRefutedCall r name
+
+-- ---- findings
+
+-- what each reason says besides
+abbrev pub HasReason : Recorded → Reason → Type 0
+HasReason r (Unmet conn command part) = IsWithoutCourse r conn command part
+HasReason r (Shared conn command part) = IsWithoutCourse r conn command part
+HasReason r reason = ⊤
+
+-- the definition of each finding
+abbrev pub HasFinding : Recorded → Finding → Type 0
+HasFinding r (Explained commands ended) = IsExplainedWith r commands ended
+HasFinding r (Refuted reason) = (IsExplained r → ⊥) × HasReason r reason
+HasFinding r (Unknown why) = ⊤

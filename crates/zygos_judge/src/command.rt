@@ -1,0 +1,35 @@
+//! Judging as the arguments request.
+ghost use Rattle.std.specs.Prelude.{◌≡◌, ◌≤◌, None};
+ghost use Rattle.zy_read.specs.Seen.{side, both_sides};
+ghost use Rattle.zy_shell.specs.Failure.{LeavesSink};
+ghost use Rattle.zy_shell.specs.Finish.{FinishesOnce};
+ghost use Rattle.zygos_judge.specs.Words.{rules_asked};
+ghost use Rattle.zygos_judge.specs.Ends.{HasCause};
+
+use crate::finding::Finding;
+use crate::input::judge_input;
+use crate::words::rules_asked;
+use std::alloc::Global;
+use zy_base::{Blob, Sink, Source};
+use zy_shell::Failure;
+
+/// Judges the input, of a server as the arguments describe it.
+pub(crate) fn carry_out<S: Source, K: Sink>(
+    alloc: Global,
+    words: &[Blob],
+    source: &mut S,
+    sink: &mut K,
+) -> Result<Finding, Failure>
+    ensures reads { S.faults source.old ≤ S.faults source.new }
+    ensures writes { K.faults sink.old ≤ K.faults sink.new }
+    ensures ends { HasCause (rules_asked words.now)
+        (both_sides (side S.rest S.faults source.old source.new) (side K.holds K.faults sink.old sink.new)) result }
+    ensures sink_kept { LeavesSink result → sink.new ≡ sink.old }
+    ensures finished { FinishesOnce result (K.finishes sink.old) (K.finishes sink.new) (K.is_finished sink.new) }
+    ensures source_kept { rules_asked words.now ≡ None → source.new ≡ source.old }
+{
+    match rules_asked(words) {
+        Some(rules) => judge_input(alloc, rules, source, sink),
+        None => Err(Failure::Usage),
+    }
+}

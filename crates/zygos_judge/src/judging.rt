@@ -1,0 +1,170 @@
+//! What is found of an input.
+ghost use Rattle.std.specs.Prelude.{◌≤◌, ℕ, List, IfOk, IfSome};
+ghost use Rattle.zy_capture.specs.declared.record.Record.{Record};
+ghost use Rattle.zy_explain.specs.Judged.{judged};
+ghost use Rattle.zy_observed.specs.Shown.{AreShown};
+ghost use Rattle.zy_outputs.specs.Observing.{IsObserving};
+ghost use Rattle.zy_read.specs.Seen.{side};
+ghost use Rattle.zy_sessions.specs.Sessions.{SessionsHold};
+ghost use Rattle.zy_verdict.specs.Numbers.{IsExplainedWith};
+ghost use Rattle.zygos_judge.specs.Words.{IsShardCount};
+ghost use Rattle.zygos_judge.specs.Finding.{HasFinding};
+ghost use Rattle.zygos_judge.specs.Input.{FindsIn};
+
+use crate::finding::{Finding, Open, Reason};
+use crate::naming::{command_number, first_other, name_of};
+use crate::refuting::refute;
+use std::alloc::Global;
+use zy_base::{Items, NoMemory, Source};
+use zy_capture::Outputs;
+use zy_explain::{First, Numbers, Rules, confirm};
+use zy_find::{Began, Found};
+use zy_input::{Stop, read_recording};
+use zy_outputs::{Observing, observe};
+use zy_refute::Observed;
+use zy_sessions::Sessions;
+use zy_verdict::Order;
+
+// How many steps are taken at a key for each of its calls, at most, while an order is looked for.
+const STEPS: usize = 64;
+
+/// Reads the two parts of an input, and judges them.
+pub(crate) fn find<S: Source>(alloc: Global, rules: Rules, source: &mut S) -> Result<Finding, Stop>
+    requires shards { IsShardCount rules.shards }
+    ensures reads { S.faults source.old ≤ S.faults source.new }
+    ensures ends { FindsIn rules (side S.rest S.faults source.old source.new) result }
+{
+    let recording = read_recording::<Sessions, S>(alloc, source)?;
+    let found = judge(
+        alloc,
+        rules,
+        &recording.capture.notes,
+        &recording.outputs,
+    );
+    drop(recording);
+    Ok(found?)
+}
+
+// Judges a recording, unless it has a command that is not followed.
+fn judge(
+    alloc: Global,
+    rules: Rules,
+    sessions: &Sessions,
+    outputs: &Outputs,
+) -> Result<Finding, NoMemory>
+    requires shards { IsShardCount rules.shards }
+    ensures found { IfOk result (λ finding. (count : ℕ) (records : List Record)
+        → SessionsHold sessions.now count records
+        → HasFinding (judged rules count records outputs.now.sessions) finding) }
+{
+    let observing = observe(alloc, rules.shards, rules.forget, sessions, outputs)?;
+    if let Some(name) = first_other(sessions, &observing) {
+        drop(observing);
+        let conn = name.conn;
+        let command = command_number(sessions, name).unwrap_or(u64::MAX);
+        return Ok(Finding::Unknown(Open::Other { conn, command }));
+    }
+    judge_observed(alloc, rules, sessions, outputs, observing)
+}
+
+// Judges what the outputs show.
+fn judge_observed(
+    alloc: Global,
+    rules: Rules,
+    sessions: &Sessions,
+    outputs: &Outputs,
+    observing: Observing,
+) -> Result<Finding, NoMemory>
+    ensures found { IfOk result (λ finding. (count : ℕ) (records : List Record)
+        → SessionsHold sessions.now count records
+        → IsObserving (judged rules count records outputs.now.sessions) observing
+        → HasFinding (judged rules count records outputs.now.sessions) finding) }
+{
+    match observing {
+        Observing::Calls(calls) => {
+            let found = judge_calls(alloc, rules, sessions, outputs, &calls);
+            drop(calls);
+            found
+        }
+        Observing::Kind {
+            conn,
+            session,
+            index,
+        } => {
+            let name = name_of(conn, session, index);
+            let command = command_number(sessions, name).unwrap_or(u64::MAX);
+            Ok(Finding::Refuted(Reason::Kind { conn, command }))
+        }
+        Observing::Surplus { conn, session } => {
+            Ok(Finding::Refuted(Reason::Surplus { conn, session }))
+        }
+        // It is named by the moment at which it had come: the number of records up to it.
+        Observing::EarlyEnd { record } => Ok(Finding::Refuted(Reason::EarlyEnd {
+            record: record.saturating_sub(1),
+        })),
+        Observing::Other { conn, .. } => Ok(Finding::Unknown(Open::Other { conn, command: 0 })),
+    }
+}
+
+// Checks an order, from a server that began with these items.
+fn confirmed(
+    alloc: Global,
+    rules: Rules,
+    sessions: &Sessions,
+    outputs: &Outputs,
+    began: Vec<Began>,
+    order: &Order,
+) -> Result<Option<Numbers>, NoMemory>
+    ensures explained { IfOk result (λ found. IfSome found (λ n. (count : ℕ) (records : List Record)
+        → SessionsHold sessions.now count records
+        → IsExplainedWith (judged rules count records outputs.now.sessions) n.commands n.ended)) }
+{
+    let mut firsts = Vec::new(alloc);
+    for Began { key, item } in began {
+        firsts.push(First { key, item })?;
+    }
+    let firsts = Items::from_vec(firsts);
+    let numbers = confirm(alloc, rules, sessions, outputs, &firsts, order);
+    drop(firsts);
+    numbers
+}
+
+// Judges the calls that the outputs show: looks for an order and checks it, and otherwise refutes a key.
+fn judge_calls(
+    alloc: Global,
+    rules: Rules,
+    sessions: &Sessions,
+    outputs: &Outputs,
+    calls: &[Observed],
+) -> Result<Finding, NoMemory>
+    ensures found { IfOk result (λ finding. (count : ℕ) (records : List Record)
+        → SessionsHold sessions.now count records
+        → AreShown (judged rules count records outputs.now.sessions) calls.now
+        → HasFinding (judged rules count records outputs.now.sessions) finding) }
+{
+    let may = zy_find::Rules {
+        warm: rules.warm,
+        forget: rules.forget,
+    };
+    match zy_find::find(alloc, may, &sessions.lasting, calls, STEPS)? {
+        Found::Ordered { order, began } => {
+            let numbers = confirmed(alloc, rules, sessions, outputs, began, &order);
+            drop(order);
+            match numbers? {
+                Some(found) => Ok(Finding::Explained {
+                    commands: found.commands,
+                    ended: found.ended,
+                }),
+                None => Ok(Finding::Unknown(Open::Search {
+                    conn: 0,
+                    command: 0,
+                })),
+            }
+        }
+        Found::Nothing { calls: amiss } => {
+            let found = refute(alloc, rules, sessions, calls, &amiss);
+            drop(amiss);
+            found
+        }
+    }
+}

@@ -1,0 +1,158 @@
+//! Refuting a key.
+ghost use Rattle.std.specs.Prelude.{◌≡◌, ℕ, List, true, IfOk, IfSome};
+ghost use Rattle.zy_capture.specs.declared.record.Record.{Record};
+ghost use Rattle.zy_explain.specs.Judged.{judged};
+ghost use Rattle.zy_observed.specs.AtKey.{IsStoreAt};
+ghost use Rattle.zy_sessions.specs.Sessions.{SessionsHold};
+ghost use Rattle.zy_verdict.specs.Losses.{MayLoseAt};
+ghost use Rattle.zygos_judge.specs.Calls.{IsCulprit, IsFoundOf};
+
+use crate::finding::{Finding, Open, Reason};
+use crate::naming::command_number;
+use mc_allows::CallName;
+use std::alloc::Global;
+use zy_base::{Blob, NoMemory};
+use zy_explain::Rules;
+use zy_observed::{Refuted, Rule, refute_key};
+use zy_refute::{Observed, Store};
+use zy_sessions::Sessions;
+use zy_verdict::an_explained_recording_has_courses;
+
+/// Refutes the key of one of the calls that stood in the way of an order; of several refuted calls the
+/// one that had ended first is named.
+pub(crate) fn refute(
+    alloc: Global,
+    rules: Rules,
+    sessions: &Sessions,
+    calls: &[Observed],
+    amiss: &[usize],
+) -> Result<Finding, NoMemory>
+    ensures found { IfOk result (IsFoundOf rules sessions.now calls.now) }
+{
+    let mut first = None;
+    for at in amiss {
+        if let Some(refuted) = refute_at(alloc, rules, sessions, calls, *at)? {
+            first = Some(sooner(rules, sessions, calls, first, refuted));
+        }
+    }
+    match first {
+        Some(refuted) => Ok(named(rules, sessions, calls, refuted)),
+        None => Ok(nearest(rules, sessions, calls, amiss)),
+    }
+}
+
+// Refutes the key of a call.
+fn refute_at(
+    alloc: Global,
+    rules: Rules,
+    sessions: &Sessions,
+    calls: &[Observed],
+    at: usize,
+) -> Result<Option<Refuted>, NoMemory>
+    ensures culprit { IfOk result (λ found. IfSome found (λ refuted.
+        IsCulprit rules sessions.now calls.now refuted.name)) }
+{
+    match calls.get(at).and_then(|one| one.call.key()) {
+        Some(key) => {
+            let store = store_at(rules, sessions, key);
+            refute_key(alloc, rules.shards, store, calls, key.bytes())
+        }
+        None => Ok(None),
+    }
+}
+
+// What a server may do to the item of a key.
+fn store_at(rules: Rules, sessions: &Sessions, key: &Blob) -> Store
+    ensures store { (count : ℕ) (records : List Record) (outputs : List (List (List ℕ)))
+        → SessionsHold sessions.now count records
+        → IsStoreAt (judged rules count records outputs) key.now result }
+{
+    Store {
+        warm: rules.warm,
+        forget: may_lose(rules, sessions, key),
+    }
+}
+
+// Checks whether a server may lose the item of a key.
+fn may_lose(rules: Rules, sessions: &Sessions, key: &Blob) -> bool
+    ensures lost { (count : ℕ) (records : List Record) (outputs : List (List (List ℕ)))
+        → SessionsHold sessions.now count records
+        → MayLoseAt (judged rules count records outputs) key.now → result ≡ true }
+{
+    if rules.forget {
+        return true;
+    }
+    sessions.has_exptime(key)
+}
+
+// Returns the one of two refuted calls that had ended first.
+fn sooner(
+    rules: Rules,
+    sessions: &Sessions,
+    calls: &[Observed],
+    one: Option<Refuted>,
+    other: Refuted,
+) -> Refuted
+    requires one { IfSome one (λ refuted. IsCulprit rules sessions.now calls.now refuted.name) }
+    requires other { IsCulprit rules sessions.now calls.now other.name }
+    ensures culprit { IsCulprit rules sessions.now calls.now result.name }
+{
+    match one {
+        Some(one) if end_of(calls, one.name) <= end_of(calls, other.name) => one,
+        _ => other,
+    }
+}
+
+// Returns the moment at which a call had ended, or the last of all.
+fn end_of(calls: &[Observed], name: CallName) -> u64 {
+    for one in calls {
+        if one.name == name {
+            return one.ended.unwrap_or(u64::MAX);
+        }
+    }
+    u64::MAX
+}
+
+// Says that a key is refuted, by a call at it.
+fn named(
+    rules: Rules,
+    sessions: &Sessions,
+    calls: &[Observed],
+    refuted: Refuted,
+) -> Finding
+    requires culprit { IsCulprit rules sessions.now calls.now refuted.name }
+    ensures found { IsFoundOf rules sessions.now calls.now result }
+{
+    an_explained_recording_has_courses();
+    let conn = refuted.name.conn;
+    let part = refuted.name.part as u64;
+    match (command_number(sessions, refuted.name), refuted.rule) {
+        (Some(command), Rule::Unmet) => Finding::Refuted(Reason::Unmet {
+            conn,
+            command,
+            part,
+        }),
+        (Some(command), Rule::Shared) => Finding::Refuted(Reason::Shared {
+            conn,
+            command,
+            part,
+        }),
+        (None, _) => Finding::Unknown(Open::Search {
+            conn,
+            command: u64::MAX,
+        }),
+    }
+}
+
+// Says that neither is known, near the first call that stood in the way of an order.
+fn nearest(rules: Rules, sessions: &Sessions, calls: &[Observed], amiss: &[usize]) -> Finding
+    ensures found { IsFoundOf rules sessions.now calls.now result }
+{
+    match amiss.first().and_then(|at| calls.get(*at)) {
+        Some(one) => Finding::Unknown(Open::Search {
+            conn: one.name.conn,
+            command: command_number(sessions, one.name).unwrap_or(u64::MAX),
+        }),
+        None => Finding::Unknown(Open::Search { conn: 0, command: 0 }),
+    }
+}

@@ -1,0 +1,101 @@
+//! The top call.
+ghost use Rattle.std.specs.Prelude.{◌≡◌, ◌≤◌, ℕ, None, Ok, Err, ⊤};
+ghost use Rattle.zy_base.specs.Outside.{Rose};
+ghost use Rattle.zy_read.specs.Seen.{side, both_sides, NoneRose, OfGiven, OfTold, WasWritten};
+ghost use Rattle.zy_shell.specs.declared.failure.Failure.TheVariants.{Usage, Refused as Rejected, ReadFault, WriteFault};
+ghost use Rattle.zy_shell.specs.Asked.{IsFaultOf, ReadsInput, IsToldGood, IsToldBad};
+ghost use Rattle.zy_shell.specs.Failure.{LeavesSink, IsThisOr};
+ghost use Rattle.zy_shell.specs.Finish.{FinishesOnce};
+ghost use Rattle.zy_shell.specs.Said.{Said};
+ghost use Rattle.zy_verdict.specs.Explained.{IsExplained};
+ghost use Rattle.zy_verdict.specs.Numbers.{IsExplainedWith};
+ghost use Rattle.zygos_judge.specs.declared.finding.Finding.TheVariants.{Explained, Refuted, Unknown};
+ghost use Rattle.zygos_judge.specs.declared.finding.Reason.TheVariants.{Unmet, Shared};
+ghost use Rattle.zygos_judge.specs.Words.{rules_asked};
+ghost use Rattle.zygos_judge.specs.Ends.{recording_with, Finds, JudgesAs, JudgesPart, IsJudgedOr};
+ghost use Rattle.zygos_judge.specs.Finding.{IsWithoutCourse};
+ghost use Rattle.zygos_judge.specs.Lines.{finding_line, line_for};
+
+use crate::command::carry_out;
+use crate::finding::Finding;
+use std::alloc::Global;
+use zy_base::{Blob, Sink, Source};
+use zy_shell::{Failure, say};
+
+/// Judges a recording: whether some order of all calls explains its answers and its times.
+///
+/// `words` are the arguments: `--warm`, `--may-forget` and `--shards N`. A capture and a replies file
+/// are read from `source` to its end, and one line is written to `sink`, which is finished once.
+///
+/// The line of a failure goes to `says`; a failure there changes nothing. The
+/// answer may always be `Err(OutOfMemory)`, but only before the first byte is written. Nothing is
+/// promised of when the answer is `Unknown`.
+pub fn serve_judge<S: Source, K: Sink, E: Sink>(
+    alloc: Global,
+    words: &[Blob],
+    source: &mut S,
+    sink: &mut K,
+    says: &mut E,
+) -> Result<Finding, Failure>
+    // What is found, for the bytes that the source gave: `r` is the recording in them.
+    ensures yes { (commands ended : ℕ) → result ≡ Ok (Explained commands ended)
+        → Finds (rules_asked words.now) (OfGiven (side S.rest S.faults source.old source.new))
+        (λ r. IsExplainedWith r commands ended)
+        (WasWritten (side K.holds K.faults sink.old sink.new) (finding_line (Explained commands ended))) }
+    ensures no { (reason : _) → result ≡ Ok (Refuted reason)
+        → Finds (rules_asked words.now) (OfGiven (side S.rest S.faults source.old source.new))
+        (λ r. IsExplained r → ⊥)
+        (WasWritten (side K.holds K.faults sink.old sink.new) (finding_line (Refuted reason))) }
+    ensures unmet { (conn command part : ℕ) → result ≡ Ok (Refuted (Unmet conn command part))
+        → Finds (rules_asked words.now) (OfGiven (side S.rest S.faults source.old source.new))
+        (λ r. IsWithoutCourse r conn command part)
+        (WasWritten (side K.holds K.faults sink.old sink.new) (finding_line (Refuted (Unmet conn command part)))) }
+    ensures shared { (conn command part : ℕ) → result ≡ Ok (Refuted (Shared conn command part))
+        → Finds (rules_asked words.now) (OfGiven (side S.rest S.faults source.old source.new))
+        (λ r. IsWithoutCourse r conn command part)
+        (WasWritten (side K.holds K.faults sink.old sink.new) (finding_line (Refuted (Shared conn command part)))) }
+    ensures unknown { (why : _) → result ≡ Ok (Unknown why)
+        → Finds (rules_asked words.now) (OfGiven (side S.rest S.faults source.old source.new)) (λ r. ⊤)
+        (WasWritten (side K.holds K.faults sink.old sink.new) (finding_line (Unknown why))) }
+
+    // The headline: the same for the bytes that the source reported.
+    ensures headline { (finding : _) → result ≡ Ok finding
+        → JudgesAs (rules_asked words.now) (OfTold (side S.rest S.faults source.old source.new))
+        (WasWritten (side K.holds K.faults sink.old sink.new)) finding }
+
+    // The other answers, each with its cause.
+    ensures usage { result ≡ Err Usage → rules_asked words.now ≡ None }
+    ensures unlawful { rules_asked words.now ≡ None → IsThisOr Usage result }
+    ensures refused { (r : _) → result ≡ Err (Rejected r)
+        → IsFaultOf (recording_with (rules_asked words.now)) (S.rest source.old) r }
+    ensures read_fault { result ≡ Err ReadFault
+        → ReadsInput (recording_with (rules_asked words.now)) × Rose (S.faults source.old) (S.faults source.new) }
+    ensures write_fault { result ≡ Err WriteFault → Rose (K.faults sink.old) (K.faults sink.new) }
+    ensures write_part { result ≡ Err WriteFault → JudgesPart (rules_asked words.now)
+        (both_sides (side S.rest S.faults source.old source.new) (side K.holds K.faults sink.old sink.new)) }
+
+    // When the answer must come, unless memory runs out.
+    ensures complete { IsToldGood (recording_with (rules_asked words.now)) (S.rest source.old)
+        → NoneRose (both_sides (side S.rest S.faults source.old source.new) (side K.holds K.faults sink.old sink.new))
+        → IsJudgedOr result }
+    ensures refuses { (r : _) → IsToldBad (recording_with (rules_asked words.now)) (S.rest source.old) r
+        → NoneRose (both_sides (side S.rest S.faults source.old source.new) (side K.holds K.faults sink.old sink.new))
+        → IsThisOr (Rejected r) result }
+
+    // What stays.
+    ensures sink_kept { LeavesSink result → sink.new ≡ sink.old }
+    ensures source_kept { rules_asked words.now ≡ None → source.new ≡ source.old }
+    ensures reads { S.faults source.old ≤ S.faults source.new }
+    ensures writes { K.faults sink.old ≤ K.faults sink.new }
+
+    // Whether the sink was finished.
+    ensures finished { FinishesOnce result (K.finishes sink.old) (K.finishes sink.new) (K.is_finished sink.new) }
+
+    // The line on standard error.
+    ensures said { Said (E.holds says.old) (E.holds says.new) (E.faults says.old) (E.faults says.new)
+        (line_for result) }
+{
+    let answer = carry_out(alloc, words, source, sink);
+    say(says, b"judge", b"[--warm] [--may-forget] [--shards N]", &answer);
+    answer
+}
