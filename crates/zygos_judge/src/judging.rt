@@ -35,12 +35,7 @@ pub(crate) fn find<S: Source>(alloc: Global, rules: Rules, source: &mut S) -> Re
     ensures ends { FindsIn rules (side S.rest S.faults source.old source.new) result }
 {
     let recording = read_recording::<Sessions, S>(alloc, source)?;
-    let found = judge(
-        alloc,
-        rules,
-        &recording.capture.notes,
-        &recording.outputs,
-    );
+    let found = judge(alloc, rules, &recording.capture.notes, &recording.outputs);
     drop(recording);
     Ok(found?)
 }

@@ -114,12 +114,7 @@ fn end_of(calls: &[Observed], name: CallName) -> u64 {
 }
 
 // Says that a key is refuted, by a call at it.
-fn named(
-    rules: Rules,
-    sessions: &Sessions,
-    calls: &[Observed],
-    refuted: Refuted,
-) -> Finding
+fn named(rules: Rules, sessions: &Sessions, calls: &[Observed], refuted: Refuted) -> Finding
     requires culprit { IsCulprit rules sessions.now calls.now refuted.name }
     ensures found { IsFoundOf rules sessions.now calls.now result }
 {
@@ -153,6 +148,9 @@ fn nearest(rules: Rules, sessions: &Sessions, calls: &[Observed], amiss: &[usize
             conn: one.name.conn,
             command: command_number(sessions, one.name).unwrap_or(u64::MAX),
         }),
-        None => Finding::Unknown(Open::Search { conn: 0, command: 0 }),
+        None => Finding::Unknown(Open::Search {
+            conn: 0,
+            command: 0,
+        }),
     }
 }

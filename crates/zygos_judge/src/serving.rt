@@ -96,6 +96,11 @@ pub fn serve_judge<S: Source, K: Sink, E: Sink>(
         (line_for result) }
 {
     let answer = carry_out(alloc, words, source, sink);
-    say(says, b"judge", b"[--warm] [--may-forget] [--shards N]", &answer);
+    say(
+        says,
+        b"judge",
+        b"[--warm] [--may-forget] [--shards N]",
+        &answer,
+    );
     answer
 }

@@ -37,15 +37,25 @@ fn write_reason<K: Sink>(sink: &mut K, reason: Reason) -> Result<(), Failed>
             write_command(sink, b"no kind connection ", conn, command)
         }
         Reason::Surplus { conn, session } => {
-            write_two(sink, b"no surplus connection ", conn as u64, b" session ", session)
+            write_two(
+                sink,
+                b"no surplus connection ",
+                conn as u64,
+                b" session ",
+                session,
+            )
         }
         Reason::EarlyEnd { record } => write_number(sink, b"no early-end record ", record),
-        Reason::Unmet { conn, command, part } => {
-            write_call(sink, b"no unmet connection ", conn, command, part)
-        }
-        Reason::Shared { conn, command, part } => {
-            write_call(sink, b"no shared connection ", conn, command, part)
-        }
+        Reason::Unmet {
+            conn,
+            command,
+            part,
+        } => { write_call(sink, b"no unmet connection ", conn, command, part) }
+        Reason::Shared {
+            conn,
+            command,
+            part,
+        } => { write_call(sink, b"no shared connection ", conn, command, part) }
     }
 }
 
