@@ -184,9 +184,9 @@ class Said(Wrapper):
     """What is said of commands, at a terminal and elsewhere."""
 
     def test_a_tool_is_no_command(self):
-        shutil.copy(f"{TOP}/tools/judge", f"{self.made}/tools")
-        status, _, said = self.run_it("zygos", "judge")
-        self.assertEqual((2, "zygos: judge: no such command, but a tool: tools/judge --help"), (status, said.split("\n")[0]))
+        shutil.copy(f"{TOP}/tools/show", f"{self.made}/tools")
+        status, _, said = self.run_it("zygos", "show")
+        self.assertEqual((2, "zygos: show: no such command, but a tool: tools/show --help"), (status, said.split("\n")[0]))
         for word in ("zygos_tools", "repo", "nothing"):
             self.assertEqual(f"zygos: {word}: no such command", self.run_it("zygos", word)[2].split("\n")[0])
 

@@ -22,9 +22,9 @@ IN_ORDER = "give a capture, a journal and a replies file, in this order; zygos r
 # a capture of no connection, as pcap writes it if no packet goes to the port
 NOTHING = b"ZYGCAP2\n\0\0\0\0E"
 # the commands whose output decides the advice, and how much of it
-HEADED = ("check", "linear", "pcap")
+HEADED = ("check", "linear", "judge", "pcap")
 # the commands that read standard input
-READING = ("run", "check", "linear", "pcap", "report")
+READING = ("run", "check", "linear", "judge", "pcap", "report")
 # in how many bytes of recorded packets ports are looked for
 MOST_PACKETS = 1 << 22
 FORWARDED = signal.SIGINT, signal.SIGTERM, signal.SIGHUP

@@ -13,7 +13,7 @@ CALLED = re.compile(r"\b(\w+)(?:::<[^>]*>)?\(\);")
 FUNCTION = re.compile(r"^(?P<indent> *)(?P<pub>pub )?(?:pub\(\w+\) )?(?:const |unsafe )*fn (?P<name>\w+)", re.M)
 CLAUSES = re.compile(r"^\s*(?:requires|ensures|ghost|let ghost)\b.*?\}\s*$", re.M | re.S)
 NAMES = re.compile(r"\b(\w+)(?:::<[^>]*>)?(?=\s*\()|(?:::|\()(\w+)(?=\)|,)")
-PROGRAMS = "zygos", "linear"
+PROGRAMS = "zygos", "linear", "judge"
 # what the language and the library's traits call
 ROOTS = "main", "drop", "read", "write", "finish", "eq", "clone", "cmp", "hash", "next", "from"
 
@@ -121,6 +121,10 @@ def sources(top, name):
                     yield text.read()
 
 
+# laws whose lemmas the proofs of another program cite
+CITED = {"recordings_have_no_fault", "there_is_one_recording_fault"}
+
+
 def vain_laws(top):
     """The laws of the crates of zygos that no code of them calls, nor a law that it calls, as crate and name."""
     needs = crates_in(top)
@@ -135,7 +139,7 @@ def vain_laws(top):
         if called not in used:
             used.add(called)
             wanted += [other for _, name, calls in laws if name == called for other in calls]
-    return [(crate, name) for crate, name, _ in laws if name not in used]
+    return [(crate, name) for crate, name, _ in laws if name not in used | CITED]
 
 
 def spare_calls(top):
