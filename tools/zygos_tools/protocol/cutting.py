@@ -65,7 +65,7 @@ class Cutter:
             self.keep(text[at:] if at else text)
 
     def wait(self, end: int, at: int, size: int) -> None:
-        """The frame at a place of so many bytes is not whole."""
+        """Notes that the frame which begins at `at`, of `size` bytes in all, is not whole."""
         if end == OVER:
             self.is_over = True
         elif end and self.keeps:

@@ -12,8 +12,8 @@ came, and REPLIES what the server answered. docs/GUIDE.md says how to use them.
 --listen       where clients connect to (default 127.0.0.1:11212)
 --server       the memcached that they reach (default 127.0.0.1:11211)
 --connections  end once N connections have come and gone (default: at Ctrl-C, a termination or a closed terminal)
---processes    so many processes share the clients (default 1), for busy servers
---every        record in windows of this length: of so many commands, as 100000, or of a time, as 60s, 10m or 1h
+--processes    the number of processes that share the clients (default 1), for busy servers
+--every        record in windows of this length, a number of commands (100000) or a time (60s, 10m, 1h)
 --ends         write into CAPTURE when each answer was complete, as a segment without bytes; tools/judge needs it
 --over         overwrite CAPTURE and REPLIES if there is something in them
 --repair       complete the files of a recording that was killed; says how many commands have no whole answer

@@ -18,7 +18,7 @@ to standard error.
             the answers to them
 --resume    after a lost packet, begin the connection's next session as soon as client and server are in step again: at
             a packet that begins with a command, once the client has had its answers
---every     write windows of this length: of so many commands, as 100000, or of a time, as 60s, 10m or 1h. The files are
+--every     write windows of this length, a number of commands (100000) or a time (60s, 10m, 1h). The files are
             my.000001.cap and my.000001.replies, my.000002.cap and so on
 --over      overwrite CAPTURE and REPLIES if there is something in them
 
