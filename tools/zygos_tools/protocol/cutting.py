@@ -65,7 +65,7 @@ class Cutter:
             self.keep(text[at:] if at else text)
 
     def wait(self, end: int, at: int, size: int) -> None:
-        """Notes that the frame which begins at `at`, of `size` bytes in all, is not whole."""
+        """Notes what is known of the frame at `at`, of which only the bytes up to `size` have come."""
         if end == OVER:
             self.is_over = True
         elif end and self.keeps:
