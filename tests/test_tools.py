@@ -260,7 +260,7 @@ def command():
         os.chmod(rt, 0o755)
         more = {"environment": {"PATH": f"{folder}:{os.environ['PATH']}"}}
         page = run("../zygos", "help", **more)
-        same("./zygos help", (0, 14, b""), (page.returncode, page.stdout.count(b"\n"), page.stderr))
+        same("./zygos help", (0, 16, b""), (page.returncode, page.stdout.count(b"\n"), page.stderr))
         none = run("../zygos", **more)
         same("./zygos without words", (2, b"", page.stdout), (none.returncode, none.stdout, none.stderr))
         begin = b"zygos: running the program without any proof\n"
