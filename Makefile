@@ -42,7 +42,7 @@ install: all
 	install -m 644 $(PROGRAMS:%=dist/%.built) '$(LIB)/bin'
 	install -m 755 $(TOOLS:%=tools/%) '$(LIB)/tools'
 	install -m 644 tools/repo/advising.py tools/repo/zygos_tools.py tools/repo/sources.sh '$(LIB)/tools/repo'
-	cd tools && find zygos_tools -name '*.py' -exec install -D -m 644 {} '$(abspath $(LIB))/tools/{}' \;
+	cd tools && find zygos_tools '(' -name '*.py' -o -name '*.sh' ')' -exec install -D -m 644 {} '$(abspath $(LIB))/tools/{}' \;
 	ln -sf ../lib/zygos/zygos '$(BIN)/zygos'
 	for one in $(TOOLS); do ln -sf ../lib/zygos/tools/$$one '$(BIN)'/zygos-$$one || exit; done
 	for one in zygos $(TOOLS:%=zygos-%); do tools/repo/manual '$(BIN)'/$$one >'$(MAN)'/$$one.1 || exit; done

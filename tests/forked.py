@@ -23,7 +23,8 @@ from zygos_tools.repository import TOP
 
 # seconds after which a program is ended: it hangs. Beside a hundred others it may take a hundred times as long as alone
 LONGEST = 3600
-FIRST_LINE = "#!/usr/bin/env python3\n"
+# how a tool of Python begins, which sh starts
+FIRST_LINES = "#!/bin/sh\n''':'"
 IMPORT = re.compile(r"^from (zygos_tools[.\w]*) import (\w+)", re.MULTILINE)
 
 
@@ -36,7 +37,7 @@ def code_of(tool: str) -> types.CodeType | None:
     """Returns the code of a tool, and imports its modules here for all its processes; None if it is not written in Python."""
     with open(path_of(tool), encoding="utf-8") as file:
         text = file.read()
-    if not text.startswith(FIRST_LINE):
+    if not text.startswith(FIRST_LINES):
         return None
     for package, name in IMPORT.findall(text):
         found = importlib.import_module(package)

@@ -15,7 +15,9 @@ import struct
 import subprocess
 import sys
 import tempfile
+import time
 import unittest
+from collections import Counter
 
 import forked
 import packets
@@ -32,6 +34,8 @@ JOURNAL = journal([Entry(1, 0, 0, 0, 0, Call("set", b"a", 0, value=b"x"), Reply(
 PLACE = "127.0.0.1:1"
 # the seconds after which a tool that still runs gets its signal again
 SECONDS_BETWEEN = 20
+# how often all tools are interrupted, and within how many seconds: about as long as they live beside each other
+ROUNDS, LIFE = 3, 2.0
 
 
 # ---- tools in forked processes
@@ -186,6 +190,78 @@ def interrupted():
             same(f"what {words[0]} leaves", ["pipe"], os.listdir(folder))
 
 
+# how each tool that sh starts is called in a folder with files of these names
+CALLED = {"capture": [], "show": ["capture"], "top": ["capture"], "part": ["replies", "replies"], "picture": ["journal"],
+          "compare": ["replies", "replies"], "inline": ["capture", "replies"], "warm": ["capture", "replies"],
+          "judge": ["--out", "/dev/null", "capture", "replies"], "packets": ["pcap"], "play": ["capture", "--server", PLACE],
+          "load": [PLACE], "lie": ["127.0.0.1:0", "stale"], "test": ["--help"], "check": ["--help"],
+          "record": ["--over", "--server", PLACE, "--listen", "127.0.0.1:0", "new.cap", "new.replies"]}
+
+
+def starts_by_sh(path):
+    if not os.path.isfile(path):
+        return False
+    with open(path, "rb") as file:
+        return file.read(10) == b"#!/bin/sh\n"
+
+
+# a Python that is interrupted as it begins, and then becomes the one that is at {0}
+INTERRUPTED = """#!{0} -IS
+import os, signal, sys
+os.kill(os.getpid(), signal.SIGINT)
+os.execv({0!r}, [{0!r}, *sys.argv[1:]])
+"""
+
+
+def interrupted_while_python_starts():
+    """A Ctrl-C that comes before the first module of a tool ends the tool as soon as that is imported, and nothing is said.
+    It is ignored if env cannot let it wait."""
+    same("the tools that sh starts", {name for name in os.listdir(path_of("")) if starts_by_sh(path_of(name))}, set(CALLED))
+    can_wait = not subprocess.run(["env", "--block-signal=INT", "true"], stderr=subprocess.DEVNULL, check=False).returncode
+    with tempfile.TemporaryDirectory() as folder:
+        environment = {**os.environ, "PATH": os.pathsep.join([folder, os.environ.get("PATH", os.defpath)])}
+        for name, text in (("python3", INTERRUPTED.format(sys.executable)), ("env", "#!/bin/sh\nexit 125\n")):
+            with open(os.path.join(folder, name), "w", encoding="utf-8") as file:
+                file.write(text)
+            os.chmod(file.name, 0o755)
+            for tool in CALLED:
+                ran = subprocess.run([path_of(tool), "--help"], env=environment, capture_output=True, check=False,
+                                     timeout=LONGEST)
+                is_ended = can_wait and name == "python3"
+                same(f"{tool}, interrupted while Python starts", (-signal.SIGINT if is_ended else 0, b"", not is_ended),
+                     (ran.returncode, ran.stderr, bool(ran.stdout)))
+
+
+def begun_together(draw):
+    """Begins all tools at once, each as the first of a group, and interrupts each at a random time of its life, half of
+    them with all that they began; a fourth twice. Returns what each has printed, with its status."""
+    with contextlib.ExitStack() as stack:
+        path = stack.enter_context(files(capture=CAPTURE, replies=REPLIES, journal=JOURNAL, pcap=packets.file_of()))
+        begun = {tool: stack.enter_context(subprocess.Popen(
+            [path_of(tool), *words], cwd=os.path.dirname(path["capture"]), stdin=subprocess.DEVNULL, stdout=subprocess.PIPE,
+            stderr=subprocess.PIPE, start_new_session=True)) for tool, words in CALLED.items()}
+        moments = sorted((draw.random() * LIFE, tool) for tool in [*begun, *draw.sample(sorted(begun), len(begun) // 4)])
+        start = time.monotonic()
+        for moment, tool in moments:
+            time.sleep(max(0, start + moment - time.monotonic()))
+            with contextlib.suppress(ProcessLookupError):
+                (os.killpg if draw.random() < 0.5 else os.kill)(begun[tool].pid, signal.SIGINT)
+        return {tool: (*ended_by_ctrl_c(one), one.returncode) for tool, one in begun.items()}
+
+
+def interrupted_at_any_time():
+    """A tool that Ctrl-C ends at any time of its life, beside others, prints no trace: it is ended by the signal, or as
+    without it."""
+    draw, ends_by = random.Random(3), Counter()
+    for _ in range(ROUNDS):
+        for tool, (_, said, status) in begun_together(draw).items():
+            text = said.decode(errors="replace")
+            ends_by[status == -signal.SIGINT] += 1
+            if not is_plain(tool, text) or status not in (-signal.SIGINT, *range(8)):
+                fail(f"{tool}, interrupted", f"status {status}, {text!r}")
+    same("some were ended by Ctrl-C", True, ends_by[True] > 0)
+
+
 def full_disks():
     """A full disk, and outputs that are inputs, or each other, or there already."""
     with files(capture=CAPTURE, replies=REPLIES, pcap=packets.file_of()) as path:
@@ -310,7 +386,8 @@ def unforeseen():
         same("the traces", 2, sum(name.endswith(".trace") for name in os.listdir(folder)))
 
 
-Tests = cases(cut_files, wrong_files, faults_by_json, bytes_after, orders, interrupted, full_disks, encodings, hostile_answers, deep_pipelines, spoiled_packets,
+Tests = cases(cut_files, wrong_files, faults_by_json, bytes_after, orders, interrupted,
+              interrupted_while_python_starts, interrupted_at_any_time, full_disks, encodings, hostile_answers, deep_pipelines, spoiled_packets,
               unforeseen)
 
 if __name__ == "__main__":

@@ -97,7 +97,7 @@ def sources():
 
 def is_script(path):
     with open(path, "rb") as file:
-        return file.read(30).startswith(b"#!/usr/bin/env python3")
+        return file.read(30).startswith((b"#!/usr/bin/env python3", b"#!/bin/sh\n''':'"))
 
 
 def flakes():

@@ -245,6 +245,16 @@ class Said(Wrapper):
         self.assertEqual(0, self.run_it("zygos", "build")[0])
         self.assertEqual(-signal.SIGTERM, self.at_terminal("zygos", "self")[0])
 
+    def test_ctrl_c_ends_the_script_without_a_trace_while_python_starts_for_its_advice(self):
+        self.stand_in(MAKING)
+        self.assertEqual(0, self.run_it("zygos", "build")[0])
+        self.write("bin/python3", f"#!{sys.executable} -IS\nimport os, signal, sys\nos.kill(os.getpid(), signal.SIGINT)\n"
+                   "os.execv(sys.executable, [sys.executable, *sys.argv[1:]])\n")
+        os.chmod(f"{self.room}/bin/python3", 0o755)
+        status, _, said = self.run_it("zygos", "report", wants="1")
+        self.assertIn(status, (-signal.SIGINT, 3))  # an env that cannot let it wait has it ignored
+        self.assertNotIn("Traceback", said)
+
     def test_an_output_that_is_full_fails_at_a_terminal_too(self):
         self.stand_in(MAKING)
         self.assertEqual(0, self.run_it("zygos", "build")[0])

@@ -113,7 +113,7 @@ def is_python(path: str) -> bool:
     if path.endswith(".py"):
         return True
     with open(os.path.join(TOP, path), "rb") as file:
-        return file.read(30).startswith(b"#!/usr/bin/env python3")
+        return file.read(30).startswith((b"#!/usr/bin/env python3", b"#!/bin/sh\n''':'"))
 
 
 def pyflakes() -> str | None:

@@ -13,6 +13,7 @@ import re
 import signal
 import sys
 import tempfile
+import time
 import traceback
 from collections.abc import Callable, Container, Iterable
 from typing import Any, NoReturn
@@ -28,6 +29,8 @@ UNFORESEEN = 70
 FAILED: dict[type[Exception], int] = {Fault: 1, OSError: 1, MemoryError: 1}
 # signals that end a tool once it has removed what it had begun to write
 ENDING = (signal.SIGINT, signal.SIGTERM, signal.SIGHUP)
+# how long a tool that was ended has for what is left to do
+SECONDS_OF_ENDING = 1
 FILE: Option = ("a file", lambda word: word or None)
 OUTPUT: Option = ("a file other than standard output", lambda word: word if word not in ("", "-") else None)
 
@@ -150,7 +153,26 @@ def of_system(error: OSError) -> str:
 
 
 def signalled(number: int, _: object) -> NoReturn:
+    """The handler of the first ending signal. One Ctrl-C may come twice, as from `timeout`, so what comes next waits a second
+    for the tool to remove what it had begun to write."""
+    last = time.monotonic() + SECONDS_OF_ENDING
+
+    def end_at_once(again: int, _: object) -> None:
+        if time.monotonic() > last:
+            signal.signal(again, signal.SIG_DFL)
+            signal.raise_signal(again)
+
+    handle_endings(end_at_once)
     raise Signalled(number)
+
+
+def repeat_signal(lost: Any) -> None:
+    """Where Python would only print what was raised, as in a destructor, an ending signal is raised anew."""
+    if isinstance(lost.exc_value, Signalled):
+        handle_endings(signalled)
+        signal.raise_signal(lost.exc_value.number)
+    else:
+        sys.__unraisablehook__(lost)
 
 
 def ending_signals() -> list[signal.Signals]:
@@ -158,10 +180,22 @@ def ending_signals() -> list[signal.Signals]:
     return [number for number in ENDING if number != signal.SIGHUP or signal.getsignal(number) != signal.SIG_IGN]
 
 
-def handle_endings(handler: signal.Handlers | Callable[[int, object], NoReturn]) -> None:
+def handle_endings(handler: signal.Handlers | Callable[[int, object], None]) -> None:
     """From now on the ending signals have this handler."""
     for number in ending_signals():
         signal.signal(number, handler)
+
+
+def fork() -> int:
+    """Makes a process, which an ending signal ends at once: no signal comes before that is so. Gives its number, or 0 in it."""
+    before = signal.pthread_sigmask(signal.SIG_BLOCK, ENDING)
+    try:
+        child = os.fork()
+        if not child:
+            handle_endings(signal.SIG_DFL)
+        return child
+    finally:
+        signal.pthread_sigmask(signal.SIG_SETMASK, before)
 
 
 def tell_failures_apart() -> None:
@@ -234,6 +268,7 @@ def run(main: Callable[[list[str]], object], page: str, name: str | None = None)
     if not with the name under which it was called."""
     screen.NAME = name or screen.NAME
     signal.signal(signal.SIGPIPE, signal.SIG_DFL)
+    sys.unraisablehook = repeat_signal
     try:
         handle_endings(signalled)
         status = guarded(main, page)

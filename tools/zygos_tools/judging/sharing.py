@@ -7,6 +7,7 @@ import selectors
 import signal
 from typing import IO
 
+from zygos_tools.cli import ends
 from zygos_tools.judging.clock import Clock, search
 from zygos_tools.judging.events import Unknown, Verdict, counted
 from zygos_tools.judging.keys import Keys
@@ -62,14 +63,13 @@ def begin(keys: Keys, share: list[bytes], clock: Clock, children: dict[int, IO[b
     """Begins a process for a share."""
     left = clock.left()
     read, write = os.pipe()
-    child = os.fork()
+    child = ends.fork()
     if child:
         os.close(write)
         children[child] = open(read, "rb", buffering=0)
         return
     try:
         os.close(read)
-        signal.signal(signal.SIGINT, signal.SIG_DFL)
         with open(write, "wb") as file:
             clock.go_on_in(left)
             pickle.dump(searched(keys, share, clock), file)

@@ -9,7 +9,6 @@ at most three are in memory.
 from __future__ import annotations
 
 import os
-import signal
 import sys
 from bisect import bisect_left
 from collections import OrderedDict
@@ -296,9 +295,8 @@ class Files:
         reading, number, window = self.reading, self.number, self.reading.window
         reading.flows.settle()
         sys.stdout.flush()
-        child = os.fork()
+        child = ends.fork()
         if not child:
-            ends.handle_endings(signal.SIG_DFL)
             status = 1
             try:
                 status = self.write(reading, number)
