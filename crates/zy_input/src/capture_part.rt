@@ -1,6 +1,6 @@
 //! Reading the capture, whose records are added to streams.
 ghost use Rattle.std.specs.Prelude.{◌≡◌, ◌<◌, ◌≤◌, ◌++◌, ◌∷◌, [], ℕ, List, length, take, true, None, Ok, ⊤};
-ghost use Rattle.std.specs.Prelude.{OnOk};
+ghost use Rattle.std.specs.Prelude.{OnOk, IfSome, IfNone};
 ghost use Rattle.zy_capture.specs.Standing.{StandsForRecords};
 ghost use Rattle.zy_capture.specs.Streams.{with_record};
 ghost use Rattle.zy_capture.specs.Verdict.{Verdict, is_within_record};
@@ -16,8 +16,8 @@ use crate::part::{Part, Taken};
 use crate::stop::{Refusal, Stop};
 use std::alloc::Global;
 use zy_base::NoMemory;
-use zy_capture::{CaptureFault, Reader, Record, Streams};
-use zy_read::Fed;
+use zy_capture::{CaptureFault, Held, Reader, Record, Streams};
+use zy_read::{Fed, Pieces, are_bytes};
 
 /// The reader of the capture, and the streams of the records that it gave, with notes on them.
 #[derive(Drop)]
@@ -38,6 +38,51 @@ impl<N: Notes> CapturePart<N> {
             reader: Reader::new(alloc),
             kept: None,
         }
+    }
+
+    // Takes the segment that the piece holds whole, if it begins with one. Otherwise, and if memory is
+    // refused, takes nothing.
+    #[inline(always)]
+    fn take_held(&mut self, pieces: &mut Pieces) -> Option<Taken>
+        requires goes { IsPartOpen (λ (u : ⊤). capture_kind N.holds) self.old }
+        ensures within { IfSome result (λ taken. taken.count ≤ length pieces.old) }
+        ensures some { IfSome result (λ taken. 0 < taken.count) }
+        ensures value { IfSome result (λ taken. (bytes : List ℕ)
+            → (capture_kind N.holds).stands self.old bytes → (capture_kind N.holds).goes_on bytes
+            → TakesInPart (capture_kind N.holds) self.new (bytes ++ take taken.count pieces.old)
+            taken.answer) }
+        ensures none { IfNone result (self.new ≡ self.old) }
+        ensures kept { pieces.new ≡ pieces.old }
+    {
+        match self.reader.take_held(pieces) {
+            Some(held) => {
+                are_bytes(pieces.left());
+                let Held { taken, segment } = held;
+                let answer = Ok(Some(Record::Segment(segment)));
+                let done = self.reader.is_done();
+                let fed = Fed { taken, answer };
+                Some(keep_taken(self.alloc, &self.reader, &mut self.kept, done, fed))
+            }
+            None => None,
+        }
+    }
+
+    // Takes bytes up to the end of a record within one, and a single byte elsewhere, which may end
+    // the capture.
+    fn take_next(&mut self, next: &[u8]) -> Taken
+        requires some { 0 < length next.now }
+        requires goes { IsPartOpen (λ (u : ⊤). capture_kind N.holds) self.old }
+        ensures within { result.count ≤ length next.now }
+        ensures taken { (whole : _) → result.answer ≡ Ok whole → 0 < result.count }
+        ensures value { (bytes : List ℕ) → (capture_kind N.holds).stands self.old bytes
+            → (capture_kind N.holds).goes_on bytes
+            → TakesInPart (capture_kind N.holds) self.new (bytes ++ take result.count next.now)
+            result.answer }
+    {
+        if self.reader.is_within_record() {
+            return self.take_piece(next);
+        }
+        self.take_byte(next[0])
     }
 
     // Takes one byte.
@@ -78,13 +123,11 @@ impl<N: Notes> Part for CapturePart<N> {
 
     ghost kind = { λ u. capture_kind N.holds };
 
-    // Takes bytes up to the end of a record within one, and a single byte elsewhere, which may end
-    // the capture.
-    fn take(&mut self, next: &[u8]) -> Taken {
-        if self.reader.is_within_record() {
-            return self.take_piece(next);
+    fn take(&mut self, pieces: &mut Pieces) -> Taken {
+        match self.take_held(pieces) {
+            Some(taken) => taken,
+            None => self.take_next(pieces.left()),
         }
-        self.take_byte(next[0])
     }
 
     fn end(self) -> Result<Noted<N>, Stop> {

@@ -10,7 +10,7 @@ use crate::stop::{Refusal, Stop};
 use std::alloc::Global;
 use zy_journal::Journal;
 use zy_journal_reader::JournalReader;
-use zy_read::{Fed, FileFeed};
+use zy_read::{Fed, FileFeed, Pieces};
 
 /// Where a journal ends.
 #[derive(Clone, Copy)]
@@ -59,8 +59,8 @@ impl Part for JournalPart {
 
     ghost kind = { journal_kind };
 
-    fn take(&mut self, next: &[u8]) -> Taken {
-        let Fed { taken, answer } = self.reader.feed_piece(next);
+    fn take(&mut self, pieces: &mut Pieces) -> Taken {
+        let Fed { taken, answer } = self.reader.feed_piece(pieces.left());
         let answer = match answer {
             Ok(_) => Ok(self.is_whole()),
             Err(FileFeed::Fault(fault)) => Err(Stop::Refused(Refusal::Journal(fault))),

@@ -7,6 +7,7 @@ use crate::part::{Part, Taken};
 use crate::stop::{Refusal, Stop};
 use std::alloc::Global;
 use zy_pcap::{Fed, Flows, PcapFeed, PcapReader};
+use zy_read::Pieces;
 
 /// The reader of recorded packets.
 #[derive(Drop)]
@@ -35,8 +36,8 @@ impl Part for PacketsPart {
     ghost kind = { packets_kind };
 
     // Takes all of the bytes, since the file ends with the source.
-    fn take(&mut self, next: &[u8]) -> Taken {
-        let Fed { taken, answer } = self.reader.feed_piece(next);
+    fn take(&mut self, pieces: &mut Pieces) -> Taken {
+        let Fed { taken, answer } = self.reader.feed_piece(pieces.left());
         let answer = match answer {
             Ok(()) => Ok(false),
             Err(PcapFeed::Fault(fault)) => Err(Stop::Refused(Refusal::Pcap(fault))),

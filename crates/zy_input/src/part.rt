@@ -27,16 +27,18 @@ pub(crate) trait Part: Drop {
     // What its bytes mean.
     ghost kind: { Setting → Kind Self Self.Gives };
 
-    // Takes the first of the next bytes, but none after the end of the part.
-    fn take(&mut self, next: &[u8]) -> Taken
-        requires some { 0 < length next.now }
+    // Takes the first of the bytes that are left of a piece, but none after the end of the part,
+    // and leaves them there.
+    fn take(&mut self, pieces: &mut Pieces) -> Taken
+        requires some { 0 < length pieces.old }
         requires goes { IsPartOpen kind self.old }
-        ensures within { result.count ≤ length next.now }
+        ensures within { result.count ≤ length pieces.old }
         ensures taken { (whole : _) → result.answer ≡ Ok whole → 0 < result.count }
         ensures value { (setting : Setting) (bytes : List ℕ) → (kind setting).stands self.old bytes
             → (kind setting).goes_on bytes
-            → TakesInPart (kind setting) self.new (bytes ++ take result.count next.now)
-            result.answer };
+            → TakesInPart (kind setting) self.new (bytes ++ take result.count pieces.old)
+            result.answer }
+        ensures kept { pieces.new ≡ pieces.old };
 
     // Returns what the taken bytes give, or their fault.
     fn end(self) -> Result<Self::Gives, Stop>
@@ -126,7 +128,7 @@ fn advance<P: Part, S: Source>(
     if !pieces.refill(source)? {
         return Ok(true);
     }
-    let Taken { count, answer } = part.take(pieces.left());
+    let Taken { count, answer } = part.take(pieces);
     pieces.pass(count);
     answer
 }

@@ -11,6 +11,7 @@ use crate::stop::{Refusal, Stop};
 use std::alloc::Global;
 use zy_base::{FileFault, NoMemory};
 use zy_capture::{Outputs, RepliesReader, SessionBytes};
+use zy_read::{Pieces, are_bytes};
 
 /// The reader of the replies file, and the outputs that it gave.
 #[derive(Drop)]
@@ -42,7 +43,9 @@ impl Part for RepliesPart {
     ghost kind = { λ u. replies_kind };
 
     // Takes all of the bytes, since the file ends with the source.
-    fn take(&mut self, next: &[u8]) -> Taken {
+    fn take(&mut self, pieces: &mut Pieces) -> Taken {
+        let next = pieces.left();
+        are_bytes(next);
         let fed = self.reader.feed_piece(next);
         keep_taken(self.alloc, &self.reader, &mut self.outputs, false, fed)
     }

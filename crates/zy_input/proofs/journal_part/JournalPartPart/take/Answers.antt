@@ -7,5 +7,6 @@ use Rattle.zy_input.proofs.journal_part.JournalPartPart.take.Goals as goal
 pub returns-in-Err-Fault-clause-value : goal.returns-in-Err-Fault-clause-value
 returns-in-Err-Fault-clause-value c setting bytes stands goes_on more =
     let told : c.feed_piece-taken.result.answer ≡ Err (Fault c.in-Err-Fault.fault) = search rules in
-    fault_in_piece setting c.args.self.now c.feed_piece-taken.new.self bytes (take c.feed_piece-taken.result.taken c.args.next.now) more c.feed_piece-taken.result.answer c.in-Err-Fault.fault told stands goes_on
-    c.feed_piece-taken.ensures.fed c.feed_piece-taken.ensures.exact c.feed_piece-taken.ensures.lasts
+    rw (← c.left.ensures.value)
+    (fault_in_piece setting c.args.self.now c.feed_piece-taken.new.self bytes (take c.feed_piece-taken.result.taken c.left.result.now) more c.feed_piece-taken.result.answer c.in-Err-Fault.fault told stands goes_on
+    c.feed_piece-taken.ensures.fed c.feed_piece-taken.ensures.exact c.feed_piece-taken.ensures.lasts)

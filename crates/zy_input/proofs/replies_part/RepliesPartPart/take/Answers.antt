@@ -1,7 +1,6 @@
-use Rattle.std.proofs.Common.{ℕ, false, ◌++◌, take, refl, sym, subst, arith}
+use Rattle.std.proofs.Common.{ℕ, false, ◌++◌, take, refl, sym, subst}
 use Rattle.zy_base.specs.declared.file_fault.FileFault.{FileFault}
 use Rattle.zy_read.specs.Bytes.{AreBytes}
-use Rattle.zy_read.proofs.ByteLemmas.{each_byte}
 use Rattle.zy_capture.specs.RepliesVerdict.{replies}
 use Rattle.zy_input.specs.declared.replies_part.RepliesPart.{RepliesPart}
 use Rattle.zy_input.specs.declared.stop.Refusal.TheVariants.{Replies as OfReplies}
@@ -15,15 +14,16 @@ use Rattle.zy_input.proofs.replies_part.RepliesPartPart.take.Goals as goal
 pub keep_taken-requires : goal.keep_taken-requires
 keep_taken-requires c =
     let fed = c.feed_piece-fed in
-    let small : AreBytes c.args.next.now = each_byte c.args.next.now (λ i. omega (arith, c.type_inv.next i)) in
-    record { keeping = λ gave is. keeping_on replies_keeping stays c.args.self.now.reader fed.new.self c.args.self.now.outputs c.requires.goes.1 c.args.next.now fed.result.taken gave fed.result.answer is c.requires.goes.2 small fed.ensures.fed fed.ensures.exact }
+    let small : AreBytes c.left-next.result.now = c.are_bytes.ensures.value in
+    record { keeping = λ gave is. keeping_on replies_keeping stays c.args.self.now.reader fed.new.self c.args.self.now.outputs c.requires.goes.1 c.left-next.result.now fed.result.taken gave fed.result.answer is c.requires.goes.2 small fed.ensures.fed fed.ensures.exact }
 
 pub returns-clause-value : goal.returns-clause-value
 returns-clause-value c setting bytes stands goes_on =
     let fed = c.feed_piece-fed in
-    let small : AreBytes c.args.next.now = each_byte c.args.next.now (λ i. omega (arith, c.type_inv.next i)) in
+    let small : AreBytes c.left-next.result.now = c.are_bytes.ensures.value in
     let part : RepliesPart = record { alloc = c.args.self.now.alloc; reader = fed.new.self; outputs = c.keep_taken.new.made } in
-    subst (λ (count : ℕ). TakesInPart replies_kind part (bytes ++ take count c.args.next.now) c.keep_taken.result.answer) (sym c.keep_taken.ensures.count)
-    (taken_on replies_keeping never (λ (f : FileFault). OfReplies f) StandsForRepliesPart HasOutputs fed.new.self c.args.self.now.outputs part.outputs part (bytes ++ take fed.result.taken c.args.next.now) fed.result.answer c.keep_taken.result.answer false (λ kept. kept)
-    (λ gave is. (keeping_on replies_keeping stays c.args.self.now.reader fed.new.self c.args.self.now.outputs bytes c.args.next.now fed.result.taken gave fed.result.answer is stands small fed.ensures.fed fed.ensures.exact, refl)) (λ given b reads. refl)
-    (λ fault is more. fault_ever replies (λ (f : FileFault). OfReplies f) c.args.self.now.reader stands.given bytes (take fed.result.taken c.args.next.now) more fed.result.answer fault is stands.reader fed.ensures.lasts) c.keep_taken.ensures.value)
+    rw (← c.left-next.ensures.value)
+    (subst (λ (count : ℕ). TakesInPart replies_kind part (bytes ++ take count c.left-next.result.now) c.keep_taken.result.answer) (sym c.keep_taken.ensures.count)
+    (taken_on replies_keeping never (λ (f : FileFault). OfReplies f) StandsForRepliesPart HasOutputs fed.new.self c.args.self.now.outputs part.outputs part (bytes ++ take fed.result.taken c.left-next.result.now) fed.result.answer c.keep_taken.result.answer false (λ kept. kept)
+    (λ gave is. (keeping_on replies_keeping stays c.args.self.now.reader fed.new.self c.args.self.now.outputs bytes c.left-next.result.now fed.result.taken gave fed.result.answer is stands small fed.ensures.fed fed.ensures.exact, refl)) (λ given b reads. refl)
+    (λ fault is more. fault_ever replies (λ (f : FileFault). OfReplies f) c.args.self.now.reader stands.given bytes (take fed.result.taken c.left-next.result.now) more fed.result.answer fault is stands.reader fed.ensures.lasts) c.keep_taken.ensures.value))
