@@ -1,8 +1,6 @@
 //! Walking through the entries of a journal.
 ghost use Rattle.std.specs.Prelude.{◌≡◌, ◌↔◌, ◌≤◌, ℕ, true, [], length, take, Some, IfOk, OnOk};
 ghost use Rattle.std.specs.List.{slice_get};
-ghost use Rattle.mc_calls.specs.Shard.{reply_to};
-ghost use Rattle.mc_shard.specs.Replay.{state_replayed};
 ghost use Rattle.zy_check.specs.Given.{IsNextCall};
 ghost use Rattle.zy_check.specs.Walk.{AreBeforeEntry, AreReplayed, AreTracked, FoundAt, FoundWrong, IsNextIn};
 
@@ -53,10 +51,13 @@ fn wrong_at(
     if !is_next(files, tracks, entry)? {
         return Ok(Some(Cause::NotNext { entry: at }));
     }
-    if !answers(&mut states[entry.shard as usize], entry)? {
+    // The shard's reply is kept, which shares its value with the shard's item; a copy of the entry's would not.
+    let reply = states[entry.shard as usize].answer(&entry.call)?;
+    if !are_same(&entry.reply, &reply) {
+        drop(reply);
         return Ok(Some(Cause::WrongReply { entry: at }));
     }
-    tracks[entry.tag.conn as usize].answer(entry.reply.copy()?)?;
+    tracks[entry.tag.conn as usize].answer(reply)?;
     Ok(None)
 }
 
@@ -78,18 +79,6 @@ fn is_next(files: &Files, tracks: &mut [Track], entry: &Entry) -> Result<bool, N
         return Ok(false);
     }
     Ok(track.is_due(entry, conn))
-}
-
-// Makes the call of an entry, and answers whether its reply is the entry's.
-fn answers(state: &mut Replay, entry: &Entry) -> Result<bool, NoMemory>
-    ensures same { IfOk result (λ same. same ≡ true
-        ↔ entry.now.reply ≡ reply_to state.old.state entry.now.call) }
-    ensures ok { OnOk result (state.new ≡ state_replayed state.old entry.now.call) }
-{
-    let reply = state.answer(&entry.call)?;
-    let same = are_same(&entry.reply, &reply);
-    drop(reply);
-    Ok(same)
 }
 
 // Checks whether two replies are the same.
