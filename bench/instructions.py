@@ -9,13 +9,18 @@ the instructions by which a segment is fed, from the piece of the input to the r
 functions that take the most: how many instructions of a command are their own, and how many they take with all that
 they call.
 
+With --check it also counts what a user waits for besides: `run --out both`, which writes a journal, `check` of such a
+run, and the programs `linear` and `judge` on a recording: the traffic of caches, of one connection, with a mark after
+each command.
+
 usage: bench/run instructions [--traffic KIND] [--commands N] [--keys N] [--functions N] [--check | --note] [PROGRAM]
 
 --traffic KIND only generated or cache
 --commands N   the number of commands (200000)
 --keys N       the number of keys of cache (half the commands)
 --functions N  the number of functions (40)
---check        counts 20,000 commands of zygos only; the status is 1 if a command takes more instructions than its bound
+--check        counts 20,000 commands of our programs only; the status is 1 if a command takes more instructions than its
+               bound. `linear` and `judge` are those that were built beside PROGRAM, or are left out
 --note         writes them into bench/figures.json, which the pages quote
 PROGRAM        a program that is built (if left out, the repository's, which is proved and built first if it isn't)
 """
@@ -27,12 +32,16 @@ import subprocess
 import tempfile
 
 import common
-from zygos_tools.files.formats import read_capture
+from zygos_tools.files.formats import capture, read_capture, segment
 from zygos_tools.files.part import Part
 
 ALONE = ["run", "--cores", "1", "--threads", "1"]
+BOTH = [*ALONE, "--out", "both"]
 # For --check, the number of commands and the bounds on the instructions of one: 3 % more than it takes.
-FEW, MOST = 20_000, {common.GENERATED: 5_260, common.CACHE: 3_330}
+FEW = 20_000
+MOST = {common.GENERATED: {"run": 5_260, "both": 8_690, "check": 12_100},
+        common.CACHE: {"run": 3_330, "both": 4_260, "check": 8_020},
+        "recorded": {"linear": 10_070, "judge": 15_420}}
 # The groups of bench/figures.json.
 GROUPS = {common.GENERATED: "instructions", common.CACHE: "instructions, cache"}
 # The functions by which a segment is fed.
@@ -109,12 +118,60 @@ def functions(count, commands, most):
         print(f"{own / commands:8.0f}{whole[name] / commands:8.0f}  {name[:100]}")
 
 
-def check(given, program, room):
-    """Checks whether a command takes more instructions than its bound."""
-    path, commands, _ = traffic(given, program, room, FEW)
-    each, most = counted(room, path, [program, *ALONE]).all / commands, MOST[given.traffic]
-    print(f"{given.traffic}: {each:.0f} instructions a command of {commands:,}; the bound is {most}", flush=True)
+def joined(program, words, path, room):
+    """The path of a capture and of what a run of it writes, joined."""
+    whole = os.path.join(room, "whole")
+    shutil.copyfile(path, whole)
+    common.run([program, *words], path, whole, append=True)
+    return whole
+
+
+def is_within(room, path, command, kind, work):
+    """Checks whether a command takes at most its bound of instructions, and prints both."""
+    each, most = counted(room, path, command).all / FEW, MOST[kind][work]
+    print(f"{kind} {work}: {each:.0f} instructions a command of {FEW:,}; the bound is {most}", flush=True)
     return each <= most
+
+
+def check(given, program, room):
+    """The works of zygos on this traffic that take more than their bounds."""
+    path, kind = traffic(given, program, room, FEW)[0], given.traffic
+    within = {"run": is_within(room, path, [program, *ALONE], kind, "run"),
+              "both": is_within(room, path, [program, *BOTH], kind, "both"),
+              "check": is_within(room, joined(program, BOTH, path, room), [program, "check"], kind, "check")}
+    return [f"{kind} {work}" for work, is_so in within.items() if not is_so]
+
+
+def recorded(room):
+    """The path of a recording of one connection, in which the answer to each command was complete before the next."""
+    path = os.path.join(room, "recorded")
+    words = ["--like", "cache", "--connections", 1, "--commands", FEW, "--keys", FEW // 2]
+    common.run([os.path.join(common.HERE, "traffic"), *words], sink=path)
+    with open(path, "rb") as file:
+        found = read_capture(Part("capture", file.read()))
+    with open(path, "wb") as file:
+        file.write(capture(found.count, [segment(record.connection, text)
+                                         for record in found.records for text in (record.text, b"")]))
+    return path
+
+
+def beside(program, name):
+    """The path of another program that was built with this one, in a folder of its own or in the same one."""
+    folder = os.path.dirname(program)
+    places = [os.path.join(folder, "..", "..", name, "out", name), os.path.join(folder, name)]
+    return next((os.path.normpath(path) for path in places if os.access(path, os.X_OK)), None)
+
+
+def check_recorded(program, room):
+    """The programs beside zygos that take more than their bounds on a recording."""
+    path, over = recorded(room), []
+    for name, words in (("linear", BOTH), ("judge", ALONE)):
+        other = beside(program, name)
+        if not other:
+            common.say(f"{name} is not built, and is left out")
+        elif not is_within(room, joined(program, words, path, room), [other], "recorded", name):
+            over.append(f"recorded {name}")
+    return over
 
 
 def report(given, program, room):
@@ -141,14 +198,17 @@ def main():
     if not shutil.which("valgrind"):
         common.stop("valgrind is not on this machine: apt-get install valgrind")
     program = common.built("zygos", given.program)
-    over = []
-    for kind in [given.traffic] if given.traffic else common.TRAFFIC:
+    over, one = [], given.traffic
+    for kind in [one] if one else common.TRAFFIC:
         given.traffic = kind
         with tempfile.TemporaryDirectory() as room:
-            if not given.check:
+            if given.check:
+                over += check(given, program, room)
+            else:
                 report(given, program, room)
-            elif not check(given, program, room):
-                over.append(kind)
+    if given.check and not one:
+        with tempfile.TemporaryDirectory() as room:
+            over += check_recorded(program, room)
     if over:
         common.stop(f"a command takes more instructions than its bound: {', '.join(over)}")
 
