@@ -19,8 +19,9 @@ usage: bench/run instructions [--traffic KIND] [--commands N] [--keys N] [--func
 --commands N   the number of commands (200000)
 --keys N       the number of keys of cache (half the commands)
 --functions N  the number of functions (40)
---check        counts 20,000 commands of our programs only; the status is 1 if a command takes more instructions than its
-               bound. `linear` and `judge` are those that were built beside PROGRAM, or are left out
+--check        counts 20,000 commands of our programs only, and the resident bytes of 100,000 in a run and a check; the
+               status is 1 if a command takes more than its bound. `linear` and `judge` are those that were built
+               beside PROGRAM, or are left out
 --note         writes them into bench/figures.json, which the pages quote
 PROGRAM        a program that is built (if left out, the repository's, which is proved and built first if it isn't)
 """
@@ -42,6 +43,9 @@ FEW = 20_000
 MOST = {common.GENERATED: {"run": 5_260, "both": 8_690, "check": 12_100},
         common.CACHE: {"run": 3_330, "both": 4_260, "check": 8_020},
         "recorded": {"linear": 10_070, "judge": 15_420}}
+# The same for resident bytes: 10 % more than it takes. Of few commands they would be those of this script.
+MANY = 100_000
+MOST_BYTES = {common.GENERATED: {"run": 1_250, "check": 1_370}, common.CACHE: {"run": 610, "check": 900}}
 # The groups of bench/figures.json.
 GROUPS = {common.GENERATED: "instructions", common.CACHE: "instructions, cache"}
 # The functions by which a segment is fed.
@@ -133,12 +137,24 @@ def is_within(room, path, command, kind, work):
     return each <= most
 
 
+def is_within_memory(path, command, kind, work):
+    """Checks whether a command takes at most its bound of memory, and prints both."""
+    each, most = common.run(command, path).resident / MANY, MOST_BYTES[kind][work]
+    print(f"{kind} {work} memory: {each:.0f} bytes a command of {MANY:,}; the bound is {most}", flush=True)
+    return each <= most
+
+
 def check(given, program, room):
     """The works of zygos on this traffic that take more than their bounds."""
     path, kind = traffic(given, program, room, FEW)[0], given.traffic
-    within = {"run": is_within(room, path, [program, *ALONE], kind, "run"),
+    whole = joined(program, BOTH, path, room)
+    run, checking = [program, *ALONE], [program, "check"]
+    within = {"run": is_within(room, path, run, kind, "run"),
               "both": is_within(room, path, [program, *BOTH], kind, "both"),
-              "check": is_within(room, joined(program, BOTH, path, room), [program, "check"], kind, "check")}
+              "check": is_within(room, whole, checking, kind, "check")}
+    path = traffic(given, program, room, MANY)[0]
+    within["run memory"] = is_within_memory(path, run, kind, "run")
+    within["check memory"] = is_within_memory(joined(program, BOTH, path, room), checking, kind, "check")
     return [f"{kind} {work}" for work, is_so in within.items() if not is_so]
 
 
@@ -210,7 +226,7 @@ def main():
         with tempfile.TemporaryDirectory() as room:
             over += check_recorded(program, room)
     if over:
-        common.stop(f"a command takes more instructions than its bound: {', '.join(over)}")
+        common.stop(f"a command takes more than its bound: {', '.join(over)}")
 
 
 main()

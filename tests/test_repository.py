@@ -78,15 +78,16 @@ def english():
 
 
 def instructions():
-    """A command takes no more instructions than its bound, of each kind of traffic and each work, if they can be counted
-    here. Programs that are not built are left out."""
+    """A command takes no more instructions and memory than its bounds, of each kind of traffic and each work, if they can
+    be counted here. Programs that are not built are left out."""
     program = built_program()
     if not shutil.which("valgrind"):
         skip("valgrind is not installed")
     ran = subprocess.run([os.path.join(TOP, "bench/run"), "instructions", "--check", program], capture_output=True,
                          check=False, timeout=LONGEST)
     counted = [line.partition(":")[0] for line in ran.stdout.decode().splitlines()]
-    wanted = [f"{kind} {work}" for kind in ("generated", "cache") for work in ("run", "both", "check")]
+    wanted = [f"{kind} {work}" for kind in ("generated", "cache")
+              for work in ("run", "both", "check", "run memory", "check memory")]
     wanted += [f"recorded {name}" for name in ("linear", "judge") if f": {name} is not built".encode() not in ran.stderr]
     same("the instructions of a command", (0, wanted), (ran.returncode, counted))
 

@@ -1,5 +1,5 @@
-use Rattle.std.proofs.Common.{ℕ, List, ◌++◌, take, refl, sym, subst}
-use Rattle.std.specs.Prelude.{Option, Result, Ok, Some}
+use Rattle.std.proofs.Common.{ℕ, List, ◌++◌, [], ◌∷◌, take, refl, sym, subst}
+use Rattle.std.specs.Prelude.{Option, Result, Ok, Err, Some}
 use Rattle.zy_read.specs.Bytes.{AreBytes}
 use Rattle.zy_read.specs.declared.not_taken.NotTaken.{NotTaken}
 use Rattle.zy_capture.specs.declared.capture_fault.CaptureFault.{CaptureFault}
