@@ -1,6 +1,6 @@
 -- What is left of histories that are walked.
 use Rattle.std.proofs.Common.{◌≡◌, ◌⊎◌, inl, inr, ℕ, zero, suc, ◌+◌, ◌*◌, ◌/◌, ◌%◌, ◌<◌, ◌≤◌, true, List, [], ◌∷◌, drop, length, get_or, set, add-one, replicate, refl, sym, ◌∙◌, ap, subst, arith}
-use Rattle.std.specs.Prelude.{Option, None, Some}
+use Rattle.std.specs.Prelude.{if◌then◌else◌, Bool, false, Option, None, Some}
 use Rattle.std.proofs.Math.Nat.{div-add-mod, mod-lt}
 use Rattle.std.proofs.lemmas.List.{get_or-set_same, get_or-set_other}
 use Rattle.std.proofs.lemmas.Bool.Decides.{nat_tests, eqb_tells}
@@ -8,7 +8,8 @@ use Rattle.mc_calls.specs.declared.entry.Entry.{Entry}
 use Rattle.mc_calls.specs.Order.{history_of}
 use Rattle.zy_journal.specs.Merged.{is_earlier}
 use Rattle.zy_journal.specs.declared.heads.Head.{Head}
-use Rattle.zy_journal.specs.Walk.{rests_of, first_stamp, head_of, AreHeads, AreBests, IsFirstOf, IsBest, IsLeast, IsTakenAt}
+use Rattle.zy_journal.specs.declared.heads.Least.{Least}
+use Rattle.zy_journal.specs.Walk.{rests_of, first_stamp, head_of, AreHeads, AreBests, IsFirstOf, IsBest, IsLeastIn, IsLeast, IsTakenAt}
 
 drop_none : (n : ℕ) → drop {A = Entry} n [] ≡ []
 drop_none zero = refl
@@ -200,6 +201,29 @@ module _ (rests : List (List Entry)) (low middle high : ℕ) (start : low ≤ mi
           ]
         ];
       }
+
+-- the first entry of a list, alone
+single : (rests : List (List Entry)) (shard stamp : ℕ) → head_of rests shard ≡ Some stamp → IsFirstOf rests shard (shard + 1) (record { shard = shard; stamp = stamp })
+single rests shard stamp is = record {
+  from = omega arith;
+  to = omega arith;
+  is = is;
+  first = λ other t from to not there. absurd (not (omega (arith, from, to)));
+}
+
+-- the first entry of one list more comes first, if its stamp is not above that of the one that was found
+pub first_before : (rests : List (List Entry)) (shard high stamp : ℕ) (least : Least) → shard < high → head_of rests shard ≡ Some stamp → stamp ≤ least.stamp → IsLeastIn rests (shard + 1) high least → IsFirstOf rests shard high (record { shard = shard; stamp = stamp })
+first_before rests shard high stamp least less is le found = go least.found found.0
+  where
+    go : (there : Bool) → IsBest rests (shard + 1) high (if there then Some (record { shard = least.shard; stamp = least.stamp }) else None) → IsFirstOf rests shard high (record { shard = shard; stamp = stamp })
+    go true behind =
+        first_stays rests shard (shard + 1) high (omega arith) (omega (arith, less)) (record { shard = shard; stamp = stamp }) (record { shard = least.shard; stamp = least.stamp }) le (single rests shard stamp is) behind
+    go false none = record {
+      from = omega arith;
+      to = less;
+      is = is;
+      first = λ other t from to not there. absurd (let o : Some t ≡ None = sym there ∙ none other (omega (arith, from, not)) to in cc);
+    }
 
 -- ---- of all lists
 

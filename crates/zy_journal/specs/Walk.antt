@@ -1,9 +1,11 @@
 -- What is left of histories that are walked, and which of their first entries comes next. No public clause cites this
 -- module.
-use Rattle.std.specs.Prelude.{◌≡◌, ◌≢◌, ℕ, ◌+◌, ◌*◌, ◌<◌, ◌≤◌, true, get_or, List, [], ◌∷◌, drop, Option, None, Some}
+use Rattle.std.specs.Prelude.{◌≡◌, ◌≢◌, ℕ, ◌+◌, ◌-◌, ◌*◌, ◌^◌, ◌<◌, ◌≤◌, true, false, get_or, List, [], ◌∷◌, drop}
+use Rattle.std.specs.Prelude.{Option, None, Some, if◌then◌else◌}
 use Rattle.mc_calls.specs.declared.entry.Entry.{Entry}
 use Rattle.mc_calls.specs.Order.{history_of}
 use Rattle.zy_journal.specs.declared.heads.Head.{Head}
+use Rattle.zy_journal.specs.declared.heads.Least.{Least}
 use Rattle.zy_journal.specs.Merged.{is_earlier}
 
 -- the lists, each without this many of its first entries
@@ -37,6 +39,15 @@ pub record IsFirstOf (rests : List (List Entry)) (low high : ℕ) (head : Head) 
 abbrev pub IsBest : List (List Entry) → ℕ → ℕ → Option Head → Type 0
 IsBest rests low high None = (shard : ℕ) → low ≤ shard → shard < high → head_of rests shard ≡ None
 IsBest rests low high (Some head) = IsFirstOf rests low high head
+
+-- the first entry that was found, if one was
+abbrev pub best_in : Least → Option Head
+best_in least = if least.found then Some (record { shard = least.shard; stamp = least.stamp }) else None
+
+-- this one was found of these lists; the stamp is the largest number if none was
+abbrev pub IsLeastIn : List (List Entry) → ℕ → ℕ → Least → Type 0
+IsLeastIn rests low high least =
+    IsBest rests low high (best_in least) × (least.found ≡ false → least.stamp ≡ 2 ^ 64 - 1)
 
 -- these are, for every 16 lists, the first entries that come first
 abbrev pub AreBests : List (List Entry) → List (Option Head) → Type 0

@@ -1,6 +1,6 @@
 //! The first entries of histories, and which of them comes first.
 ghost use Rattle.std.specs.Prelude.{◌≡◌, ◌+◌, ◌*◌, ◌<◌, ◌≤◌, ℕ, None, length, drop};
-ghost use Rattle.zy_journal.specs.Walk.{first_stamp, head_of, AreHeads, AreBests, IsBest};
+ghost use Rattle.zy_journal.specs.Walk.{first_stamp, head_of, AreHeads, AreBests, IsBest, IsLeastIn};
 
 use mc_calls::{Entries, Entry};
 
@@ -10,6 +10,21 @@ pub(crate) struct Head {
     pub(crate) shard: usize,
     pub(crate) stamp: u64,
 }
+
+// The first head of some histories, if one was found. While none was, the stamp is the largest number, so that a look
+// at one more history takes one comparison.
+#[derive(Clone, Copy)]
+pub(crate) struct Least {
+    pub(crate) found: bool,
+    pub(crate) shard: usize,
+    pub(crate) stamp: u64,
+}
+
+const NONE: Least = Least {
+    found: false,
+    shard: 0,
+    stamp: u64::MAX,
+};
 
 /// Returns the stamp of the entry at a place, if there is one.
 pub(crate) fn stamp_at(history: &[Entry], at: usize) -> Option<u64>
@@ -54,24 +69,36 @@ pub(crate) fn best_of(heads: &[Option<u64>; 256], group: usize) -> Option<Head>
     ensures value { (rests : _) → AreHeads rests heads.now
         → IsBest rests (16 * group) (16 * group + 16) result }
 {
-    let end = 16 * group + 16;
-    let mut best: Option<Head> = None;
-    let mut shard = 16 * group;
-    while shard < end {
-        best = first_of(best, head_at(shard, heads[shard]));
-        shard += 1;
+    let start = 16 * group;
+    let mut least = NONE;
+    let mut shard = start + 16;
+    // Backwards, so that the first of equal stamps counts.
+    while shard > start {
+        shard -= 1;
+        least = and_before(least, shard, heads[shard]);
     }
-    best
+    if !least.found {
+        return None;
+    }
+    Some(Head {
+        shard: least.shard,
+        stamp: least.stamp,
+    })
 }
 
-// Returns the head of a history with this stamp, if there is one.
-fn head_at(shard: usize, stamp: Option<u64>) -> Option<Head>
-    ensures value { (rests : _) → head_of rests shard ≡ stamp
-        → IsBest rests shard (shard + 1) result }
+// Returns the first head of some histories and of the one before them.
+#[inline(always)]
+fn and_before(least: Least, shard: usize, head: Option<u64>) -> Least
+    ensures value { (rests : _) (high : ℕ) → shard < high → head_of rests shard ≡ head
+        → IsLeastIn rests (shard + 1) high least → IsLeastIn rests shard high result }
 {
-    match stamp {
-        Some(stamp) => Some(Head { shard, stamp }),
-        None => None,
+    match head {
+        Some(stamp) if stamp <= least.stamp => Least {
+            found: true,
+            shard,
+            stamp,
+        },
+        _ => least,
     }
 }
 
