@@ -29,7 +29,7 @@ all: $(PROGRAMS:%=$(OUT)/%)
 $(OUT)/%: dist/%.s dist/%.built dist/rt.c
 	@tools/build $* --shipped
 	@mkdir -p $(OUT)
-	$(CC) $(CFLAGS) $(LDFLAGS) -o $@ dist/$*.s dist/rt.c
+	CC='$(CC)' CFLAGS='$(CFLAGS)' LDFLAGS='$(LDFLAGS)' tools/repo/assemble $* $@
 
 check: all
 	tests/gate 'tools/test --program $(OUT)/zygos $(TESTS)' 'tests/dist --at $(OUT) $(PROGRAMS)'

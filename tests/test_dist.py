@@ -95,6 +95,13 @@ exec cc -x assembler -c "$source" -o "$output"
     "toolchain/bin/ld.lld": "",
     "toolchain/lib/libc.so.6": "",
 }
+# a compiler whose assembler reads no name in quotes in an instruction
+OLD = """#!/bin/sh
+for one in "$@"; do
+    case $one in *.s) ! grep -qE '(jne|callq).*"' "$one" || exit 1 ;; esac
+done
+exec cc "$@"
+"""
 
 
 @unittest.skipUnless(shutil.which("cc"), "there is no C compiler")
@@ -181,7 +188,7 @@ class Taken(Dist):
         self.assertEqual(0, self.run_it("tools/build", "zygos", "--ask", has_rt=False)[0])
 
     def test_what_is_not_of_this_source_is_not_taken(self):
-        no_rt = 'zygos: rt is not on PATH; README.md, "Try it", says where it comes from, and what works without it\n'
+        no_rt = 'zygos: rt is not on PATH, so nothing can be proved here; README.md, "What is proved", says where it comes from\n'
         for name, text, why in (
             ("crates/low/src/lib.rt", "// another\n", "dist/ is not of this source: crates/low/src/lib.rt has changed since"),
             ("crates/low/src/new.rt", "", "dist/ is not of this source: crates/low/src/new.rt has changed since"),
@@ -204,7 +211,22 @@ class Taken(Dist):
 
     def test_a_compiler_is_needed(self):
         said = self.run_it("zygos", "check", has_rt=False, CC="no-such-compiler")[1]
-        self.assertEqual("zygos: dist/zygos.s needs a C compiler: apt-get install gcc, or set CC", said.splitlines()[0])
+        self.assertEqual("zygos: dist/zygos.s needs a C compiler, and there is no no-such-compiler: apt-get install gcc, or set CC",
+                         said.splitlines()[0])
+
+    def test_a_compiler_that_fails_is_named(self):
+        self.write("../kit/failing", "#!/bin/sh\necho it fails >&2\nexit 1\n", 0o755)
+        said = self.run_it("zygos", "check", has_rt=False, CC=f"{self.room}/kit/failing")[1]
+        self.assertEqual(["it fails", f"zygos: {self.room}/kit/failing does not make a program of dist/zygos.s and dist/rt.c"],
+                         said.splitlines()[:2])
+
+    def test_an_old_assembler_is_given_numbers_for_names_in_quotes(self):
+        self.write("crates/zygos/src/main.rt", PROGRAM.replace(".Lmore", '"more::<#1>"'))
+        self.assertEqual((0, "tools/release: dist/zygos.s is of this source\n"), self.run_it("tools/release", skipped=2))
+        self.assertIn('jne "more::<#1>"', self.read(f"{self.made}/dist/zygos.s"))
+        self.write("../kit/old", OLD, 0o755)
+        self.assertEqual(1, self.run_it("zygos", "check", has_rt=False, CC=f"{self.room}/kit/old")[0])
+        self.assertIn("origin dist\n", self.read(f"{self.made}/out/zygos.built"))
 
     def test_only_build_proves(self):
         self.run_it("zygos", "check")

@@ -143,7 +143,7 @@ class Wrapper(unittest.TestCase):
 
 class WithoutRt(Wrapper):
     def test_it_says_where_rt_comes_from_before_anything(self):
-        wanted = (70, b"", 'zygos: rt is not on PATH; README.md, "Try it", says where it comes from, and what works without it\n')
+        wanted = (70, b"", 'zygos: rt is not on PATH, so nothing can be proved here; README.md, "What is proved", says where it comes from\n')
         for words in (("zygos", "run"), ("zygos", "check"), ("zygos", "build"), ("zygos", "try", "run"),
                       ("tools/build", "zygos")):
             with self.subTest(words):

@@ -30,19 +30,18 @@ not_shipped() {
 
 # take PROGRAM: assembles the program of dist/ as if it had been built here, and notes where it comes from
 take() {
-    local cc=${CC:-cc} begun sources why
+    local begun sources why
     [ -f "$top/dist/$1.built" ] || return 1
     begun=$(mktemp) || return 1
     sources=$(source_sum "$1")
     why=$(not_shipped "$1" "$sources")
-    [ -n "$why" ] || command -v "$cc" >/dev/null || why="dist/$1.s needs a C compiler: apt-get install gcc, or set CC"
     if [ -n "$why" ]; then
         rm -f "$begun"
         echo "$1: $why" >&2
         return 1
     fi
     # while it is made, the program and its stamp have other names
-    "$cc" -O2 -o "$(program_of "$1").new" "$top/dist/$1.s" "$top/dist/rt.c" && mv -f "$(program_of "$1").new" "$(program_of "$1")" &&
+    CFLAGS=-O2 LDFLAGS='' "$top/tools/repo/assemble" "$1" "$(program_of "$1").new" && mv -f "$(program_of "$1").new" "$(program_of "$1")" &&
         printf 'sources %s\nrt %s\nprogram %s\norigin dist\n' "$sources" "$(shipped "$1" rt)" "$(sum_of "$(program_of "$1")")" \
             >"$(stamp_of "$1").new" && touch -r "$begun" "$(stamp_of "$1").new" && mv -f "$(stamp_of "$1").new" "$(stamp_of "$1")"
     set -- "$1" $?
