@@ -2,12 +2,13 @@
 import os
 import random
 import re
+import resource
 import signal
 import subprocess
 import tempfile
 import unittest
 
-from checks import LONGEST, TOP, built_program, cases, fail, program_path, run, same
+from checks import LONGEST, TOP, built_program, cases, fail, program_path, run, same, skip
 from traffic import (Recorder, Server, at_once, connected, files_of, free_port, memcached, patched, take, talk,
                      until)
 from zygos_tools.files import spool
@@ -21,6 +22,8 @@ from zygos_tools.recording.counting import Count
 
 # a wait for answers that a loaded machine does not end
 WAITS = "--wait", "3600"
+# the open files of a server of 4,096 connections, and of what else a test has open
+FILES = 4200
 
 
 def played(name, server, given, *words, status=0):
@@ -93,12 +96,17 @@ def later_sessions():
 
 
 def many():
-    records = [segment(c, b"mn\r\n") for c in range(4096)]
-    plays("4,096 connections", replies([b"MN\r\n"] * 4096), capture(4096, records),
-          said="tools/play: 4096 connections, 4096 commands answered\n")
     records = [segment(c, b"mn\r\n") for c in range(20)]
     plays("few connections at a time", replies([b"MN\r\n"] * 20), capture(20, records), "--connections", "3",
           said="tools/play: 20 connections, 20 commands answered\n")
+    # the server of this process has a file for each connection
+    most = resource.getrlimit(resource.RLIMIT_NOFILE)[1]
+    if 0 <= most < FILES:
+        skip(f"{most} files may be open (ulimit -Hn), not {FILES}")
+    resource.setrlimit(resource.RLIMIT_NOFILE, (most, most))
+    records = [segment(c, b"mn\r\n") for c in range(4096)]
+    plays("4,096 connections", replies([b"MN\r\n"] * 4096), capture(4096, records),
+          said="tools/play: 4096 connections, 4096 commands answered\n")
 
 
 def large():
