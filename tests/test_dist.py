@@ -214,6 +214,14 @@ class Taken(Dist):
         self.assertEqual("zygos: dist/zygos.s needs a C compiler, and there is no no-such-compiler: apt-get install gcc, or set CC",
                          said.splitlines()[0])
 
+    def test_an_older_c_library_gets_what_it_lacks(self):
+        """The assembler finds out what the library has by a program of its own: without it, a second file is compiled."""
+        self.write("../kit/older", "#!/bin/sh\ncase \"$*\" in *probe.c*) exit 1 ;; esac\necho \"$*\" >>\"$made/words\"\nexec cc \"$@\"\n",
+                   0o755)
+        self.assertEqual(1, self.run_it("zygos", "check", has_rt=False, CC=f"{self.room}/kit/older")[0])
+        self.assertIn(" -pthread ", self.read(f"{self.made}/words"))
+        self.assertIn(f"{self.made}/dist/rt.c {self.made}/tools/repo/older.c\n", self.read(f"{self.made}/words"))
+
     def test_a_compiler_that_fails_is_named(self):
         self.write("../kit/failing", "#!/bin/sh\necho it fails >&2\nexit 1\n", 0o755)
         said = self.run_it("zygos", "check", has_rt=False, CC=f"{self.room}/kit/failing")[1]
