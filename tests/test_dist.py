@@ -403,7 +403,9 @@ class Installed(Dist):
         status, said = self.run_it("tools/release", "--tar")
         self.assertEqual((0, "is made"), (status, said.strip()[-7:]))
         name = f"zygos-{self.read(f'{TOP}/VERSION').strip()}-x86_64-linux"
-        subprocess.run(["tar", "-C", self.room, "-xf", f"{self.made}/out/{name}.tar.xz"], check=True)
+        kind = "xz" if shutil.which("xz") else "gz"
+        subprocess.run(["tar", "-C", self.room, "-xf", f"{self.made}/out/{name}.tar.{kind}"], check=True)
+        self.assertIn("bin/zygos-judge --check", self.read(f"{self.room}/{name}/README"))
         self.check_copy(f"{self.room}/{name}")
         subprocess.run(["sha256sum", "--quiet", "-c", "SHA256SUMS"], cwd=f"{self.room}/{name}", check=True)
 
