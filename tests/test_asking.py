@@ -19,25 +19,28 @@ SEARCHED, OTHER_LINE = "unknown search connection 1 command 0", "unknown other c
 BY_PROGRAM = "order found, by the proved program, on the bytes as they were recorded"
 FOUND = "order found: 2 commands, 2 calls, 1 keys"
 ACCUSED = "no: key a: no order of these commands explains their answers, whatever came before"
-# what stands for ./zygos: it keeps its words and what it reads, and `judge` says one thing
+# what stands for ./zygos: it keeps its words and what it reads, and `judge` says one thing, or first one and then another
 STAND_IN = """#!/bin/sh
 echo "$@" >>%(folder)s/words
 if [ "$1" = judge ]; then
     cat >%(folder)s/given
-    echo '%(line)s'
-    exit %(status)s
+    if [ "$(grep -c ^judge %(folder)s/words)" = 1 ]; then echo '%(line)s'; exit %(status)s; fi
+    echo '%(line_then)s'
+    exit %(status_then)s
 fi
 cat >/dev/null
 echo 'yes commands 2 ended 2 by linear'
 """
 
 
-def asked(line, status, *words, records=RIGHT, answers=(STORED, HIT), names=("sent", "told"), given=b"", said=b""):
-    """What the tool does if the program says this: its status, its lines, the words of all that it ran, and what the
-    program read."""
+def asked(line, status, *words, records=RIGHT, answers=(STORED, HIT), names=("sent", "told"), given=b"", said=b"", then=None):
+    """What the tool does if the program says this, and `then` when it is asked again: its status, its lines, the words of all
+    that it ran, and what the program read last."""
     with tempfile.TemporaryDirectory() as folder:
-        script = STAND_IN % {"folder": folder, "line": line, "status": status}
-        paths = written(folder, sent=capture(2, records), told=replies(answers), zygos=script.encode(), words=b"",
+        line_then, status_then = then or (line, status)
+        script = STAND_IN % {"folder": folder, "line": line, "status": status, "line_then": line_then,
+                             "status_then": status_then}
+        paths = written(folder, sent=capture(len(answers), records), told=replies(answers), zygos=script.encode(), words=b"",
                         given=b"")
         os.chmod(paths["zygos"], stat.S_IRWXU)
         with mock.patch.object(command, "ZYGOS", paths["zygos"]):
@@ -129,6 +132,70 @@ def unknown_is_searched():
          (told["verdict"], told["proved"], told["checked"]))
 
 
+# a `touch`, a `stats` and a `gat` between RIGHT, and what the program is given in their place
+TOUCH, STATS, GAT = b"touch a 5\r\n", b"stats\r\n", b"gat 0 a\r\n"
+LISTED, TOUCHED = b"STAT pid 1\r\nEND\r\n", b"TOUCHED\r\n"
+OUTSIDE = [RIGHT[0], RIGHT[1], segment(0, TOUCH + STATS), segment(0, MARK), segment(0, MARK), segment(1, STATS), segment(1, MARK),
+           segment(1, GAT), segment(1, MARK)]
+INSIDE = [segment(0, b"set a 0 1 1\r\nx\r\n"), RIGHT[1], segment(0, b"mg a\r\n"), segment(0, MARK), *RIGHT[2:]]
+TRANSLATED = "translated: gat 1, stats left out 2, touch 1"
+OF_TRANSLATED = "order found, by the proved program, on the bytes as they are translated"
+
+
+def others_are_translated():
+    """If it does not know a command, it is asked about what the recording is translated to, and its verdict is about that."""
+    more = {"records": OUTSIDE, "answers": (STORED + TOUCHED + LISTED, LISTED + HIT)}
+    yes = "yes commands 3 ended 3"
+    status, lines, words, given = asked(OTHER_LINE, 7, "--check", then=(yes, 0), **more)
+    same("an order", (0, [OF_TRANSLATED, TRANSLATED, yes], ["judge --shards 16"] * 2,
+                      capture(2, INSIDE) + replies((STORED + b"HD\r\n", HIT))), (status, lines, words, given))
+    told = json.loads(asked(OTHER_LINE, 7, "--json", then=(yes, 0), **more)[1][0])
+    same("as JSON", ("order found", True, {"gat": 1, "stats left out": 2, "touch": 1}, 3),
+         (told["verdict"], told["proved"], told["translated"], told["commands"]))
+    lie = {**more, "answers": (STORED + TOUCHED + LISTED, LISTED + OTHER)}
+    no = "proved no of the recording as it is translated: "
+    status, lines, _, _ = asked(OTHER_LINE, 7, "--check", then=(NO, 1), **lie)
+    same("a no", (1, f"{no}key a: no", TRANSLATED), (status, lines[0][: len(no) + 9], lines[-1]))
+    status, lines, _, _ = asked(OTHER_LINE, 7, "--check", then=("no early-end record 5", 1), **more)
+    same("its records have the recorded numbers", (1, f"{no}early end, record 8"), (status, lines[0][: len(no) + 19]))
+    status, lines, _, _ = asked(OTHER_LINE, 7, "--check", then=("no kind connection 1 command 0", 1), **more)
+    same("so have its commands", (1, f"{no}kind, connection 1, command 1"), (status, lines[0][: len(no) + 29]))
+    status, lines, words, _ = asked(OTHER_LINE, 7, "--check", then=(SEARCHED, 7), **lie)
+    same("unknown again", (1, "no, not proved: key a", 2), (status, lines[0][:21], len(words)))
+    same("nothing to translate", ["judge --shards 16", "linear --shards 16"], asked(OTHER_LINE, 7, "--check")[2])
+    same("with --may-forget, no exptime", capture(2, [RIGHT[0], *INSIDE[1:]]) + replies((STORED + b"HD\r\n", HIT)),
+         asked(OTHER_LINE, 7, "--check", "--may-forget", then=(yes, 0), **more)[3])
+
+
+NEVER, TWO_WORDS, PROXY = b"ERROR Too many open connections\r\n", b"set a 0 0 3\r\nx y\r\n", b"SERVER_ERROR Connection timed out\r\n"
+LARGE = b"set a 0 0 9\r\n123456789\r\n"
+FULL = b"SERVER_ERROR out of memory storing object\r\n"
+LOOKS = [segment(1, GET), segment(1, MARK)]
+# recordings of right servers that the program refuses, each with its line
+DOUBTFUL = (
+    ("a connection that is refused and sends nothing", [*RIGHT, segment(2, MARK)], (STORED, HIT, NEVER), "no early-end record 4"),
+    ("a connection that is refused", [*RIGHT, segment(2, GET), segment(2, MARK)], (STORED, HIT, NEVER), NO),
+    ("an authentication", [segment(0, TWO_WORDS), segment(0, MARK), *LOOKS], (STORED, b"END\r\n"), NO),
+    ("a set that a proxy passed on", [segment(0, SET), segment(0, MARK), *LOOKS], (PROXY, HIT), NO),
+    ("a store that removes an item before it is whole",
+     [*RIGHT[:2], segment(2, LARGE[:15]), *LOOKS, segment(2, LARGE[15:]), segment(2, MARK)], (STORED, b"END\r\n", FULL), NO),
+)
+
+
+def no_of_a_right_server():
+    """A `no` is passed over if a right server may have given the answers: its connections may not have been served, a proxy
+    may have passed on what it says has failed, or a command was executed before it was whole."""
+    for name, records, answers, line in DOUBTFUL:
+        status, lines, _, _ = asked(line, 1, "--check", records=records, answers=answers)
+        same(name, (True, False), (status in (0, 7), "proved" in lines[0]))
+    lie = [*RIGHT, segment(2, GET), segment(2, MARK)]
+    status, lines, _, _ = asked(NO, 1, "--check", records=lie, answers=(STORED, OTHER, NEVER))
+    same("a lie beside one", (1, "no, not proved: key a"), (status, lines[0][:21]))
+    other = [*RIGHT, segment(0, b"set b 0 0 3\r\nx y\r\n"), segment(0, MARK)]
+    status, lines, _, _ = asked(NO, 1, "--check", records=other, answers=(STORED * 2, OTHER))
+    same("another key's two words", (1, "proved no: key a"), (status, lines[0][:16]))
+
+
 def it_may_not_be_there():
     """Without the program, or if it fails, all is as if nobody had asked."""
     for line, status in (("", 0), (YES, 1), (NO, 0), ("no", 1), (YES, 70), ("", 6), ("yes commands 0 ended 0", 0),
@@ -148,5 +215,5 @@ def nobody_waits_for_it():
         same("not there", None, asking.ask(os.path.join(folder, "none"), [], [b""], 10))
 
 
-Tests = cases(yes_needs_no_search, it_is_not_asked, without_times, no_is_explained, unknown_is_searched,
+Tests = cases(yes_needs_no_search, it_is_not_asked, without_times, no_is_explained, unknown_is_searched, others_are_translated, no_of_a_right_server,
               it_may_not_be_there, nobody_waits_for_it)

@@ -115,13 +115,13 @@ def items_that_were_not_shown():
     joined, there = (0, b"append a 0 0 1\r\nx\r\n", b"STORED\r\n"), (0, b"add a 0 0 1\r\n1\r\n", b"NOT_STORED\r\n")
     counted, word = (0, b"incr a 1\r\n", b"5\r\n"), (0, b"incr a 1\r\n", b"CLIENT_ERROR cannot increment or decrement non-numeric value\r\n")
     deleted, missing = (0, b"delete a\r\n", b"DELETED\r\n"), (0, b"delete a\r\n", b"NOT_FOUND\r\n")
-    for steps, wanted in (([joined, GONE], "no"), ([there, GONE], "no"), ([joined, counted], "no"), ([word, counted], "no"),
-                          ([word, (0, b"get a\r\n", hit(b"a", b"7"))], "no"), ([there, missing], "no"),
-                          ([word, missing], "no"), ([there, word, joined, deleted], "order found"),
+    for steps, wanted in (([joined, GONE], "unknown"), ([there, GONE], "unknown"), ([joined, counted], "no"), ([word, counted], "no"),
+                          ([word, (0, b"get a\r\n", hit(b"a", b"7"))], "no"), ([there, missing], "unknown"),
+                          ([word, missing], "unknown"), ([there, word, joined, deleted], "order found"),
                           ([there, counted], "order found"), ([word, joined, word], "order found"),
                           ([there, (0, b"append a 0 0 1\r\nx\r\n", b"NOT_STORED\r\n")], "unknown")):
         same(f"{steps}", wanted, judged(steps, is_warm=True)[0])
-        if wanted == "no":
+        if wanted == "no" or steps[-1] in (GONE, missing):  # the item may have had an exptime
             same(f"{steps}, if items may be lost", "order found" if steps[-1] in (GONE, missing) else "no",
                  judged(steps, is_warm=True, loses=True)[0])
 
@@ -142,9 +142,9 @@ def items_before_drawn_recordings():
             texts[at] = OTHERS[texts[at]]
             drawn.outputs[connection] = b"".join(texts)
             word, lines = verdict(drawn.capture(), outputs_of(drawn.replies()), is_warm=True)
-            counts[word if word != "unknown" else lines[0].partition(": an item of ")[2].partition(";")[0]] += 1
-    same("with another answer", {"no", "order found", "nearly 1 MiB may have been there at first, to which nothing could"
-                                 " be joined"}, set(counts))
+            counts[word if word != "unknown" else lines[0].partition(": an item ")[2].partition(";")[0]] += 1
+    same("with another answer", {"no", "order found", "of nearly 1 MiB may have been there at first, to which nothing could"
+                                 " be joined", "that was there at first may have had an exptime: --may-forget lets items go"}, set(counts))
 
 
 # ---- meta commands that the profile leaves out
@@ -272,6 +272,23 @@ def flushes_with_a_delay():
     same("with noreply", "unknown", judged(quiet)[0])
     refused = [ONE, (0, b"flush_all 1\r\n", b"CLIENT_ERROR bad command line format\r\n"), GONE]
     same("a server that refuses it", "no", judged(refused)[0])
+
+
+def items_from_before_that_expire():
+    """An item that was there before the recording may have had an exptime."""
+    there, other = (0, b"get a\r\n", hit(b"a", b"1")), (0, *stored(b"b", b"1"))
+    again = (0, b"append a 0 0 1\r\n1\r\n", b"STORED\r\n")
+    said = "an item that was there at first may have had an exptime: --may-forget lets items go"
+    for name, steps, wanted in (
+            ("it goes", [there, GONE], "unknown"), ("it goes, and is stored", [there, GONE, ONE, there], "unknown"),
+            ("it is joined to, and goes", [there, again, GONE], "unknown"), ("it goes twice", [there, GONE, there], "no"),
+            ("it is stored anew, and goes", [there, ONE, GONE], "no"), ("another value", [there, (0, b"get a\r\n", hit(b"a", b"2"))], "no"),
+            ("it goes while it is stored", [there, TWO, (0, b"get a\r\n", hit(b"a", b"1"))], "no"),
+            ("it stays", [there, other, there], "order found")):
+        word, lines, _ = judged(steps, is_warm=True)
+        same(name, (wanted, wanted == "unknown"), (word, wanted == "unknown" and said in lines[0]))
+    same("from an empty store", "no", judged([ONE, GONE])[0])
+    same("with --may-forget", "order found", judged([there, GONE], is_warm=True, loses=True)[0])
 
 
 # ---- connections that are not served
@@ -468,6 +485,6 @@ def flags_are_told():
 
 Tests = cases(uniques_after_a_restart, uniques_that_do_not_count, items_that_were_not_shown, items_before_drawn_recordings,
               a_block_that_is_dropped, batches_that_cannot_be_followed, what_is_unknown_names_commands,
-              items_in_any_order, lists_of_operators, answers_that_are_left, flushes_with_a_delay, connections_that_are_refused,
+              items_in_any_order, lists_of_operators, answers_that_are_left, flushes_with_a_delay, items_from_before_that_expire, connections_that_are_refused,
               authentications, stores_that_fail, stores_that_fail_early, quiet_stores_that_may_fail, lines_that_may_be_carried_out, commands_of_sessions_that_ended,
               no_key_is_left, files_that_are_none, at_a_terminal, flags_are_told, hot_keys_hold_nobody_up)

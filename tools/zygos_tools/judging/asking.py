@@ -1,4 +1,5 @@
-"""Asks the proved program `judge` about the bytes of a recording, before anything is searched.
+"""Asks the proved program `judge` about the bytes of a recording, before anything is searched: as they were recorded, and
+if it does not know some command, as they are translated.
 
 Nothing is proved or built for this. If the program is not there, is stopped or ends without a verdict, nothing is said,
 and the search goes on as if there were no such program.
@@ -16,6 +17,7 @@ from zygos_tools.files.formats import Segment, capture_head, capture_records, sh
 from zygos_tools.files.part import Part
 from zygos_tools.judging.events import Asked, No
 from zygos_tools.judging.reading import Recording
+from zygos_tools.judging.translating import Translation
 from zygos_tools.repository import TOP
 
 # the lines of the program, and the status that each has
@@ -47,9 +49,36 @@ class Answer(NamedTuple):
     def word(self) -> str:
         return self.line.split()[0]
 
+    def renumbered(self, translation: Translation) -> Answer:
+        """The same about the recording of a translation: commands and records have the numbers that they have there."""
+        line = self.line
+        if self.word != "no":
+            return self
+        if self.found["rule"]:
+            line = line.replace(f"record {self.found['record']}", f"record {translation.record(int(self.found['record']))}")
+        elif self.found["of_command"]:
+            where, command = int(self.found["where"]), int(self.found["command"])
+            line = line.replace(f"command {command}", f"command {translation.command(where, command)}")
+        found = self.found.re.fullmatch(line)
+        return Answer(line, found) if found else self
+
+    def passed_over(self) -> Answer:
+        """What is left of a `no` that is passed over."""
+        return self._replace(line="unknown")
+
     def commands(self) -> int:
         """How many commands an order has that was found."""
         return int(self.found["commands"])
+
+    def keys(self, recording: Recording) -> list[bytes]:
+        """The key that a `no` is about, if it is about one."""
+        if not self.found["of_command"] or self.found["of_command"] == "kind":
+            return []
+        table, asked = recording.table, recording.of_connection[int(self.found["where"])]
+        command = int(self.found["command"])
+        calls = table.calls_of(asked[command]) if command < len(asked) else []
+        keys = [table.key[call] for call in calls][int(self.found["part"] or 0) :]
+        return [table.keys[key] for key in keys[:1] if key >= 0]
 
     def fault(self, recording: Recording | None) -> No:
         """A `no` of the program in words, with the command if it is found in what was read."""
@@ -66,8 +95,7 @@ class Answer(NamedTuple):
         if not recording or command >= len(recording.of_connection[connection]):
             return No(f"{why}: {RULES[rule]}", connections=[connection])
         table, number = recording.table, recording.of_connection[connection][command]
-        keys = [table.key[call] for call in table.calls_of(number)][int(self.found["part"] or 0) :]
-        named = [table.keys[key] for key in keys[:1] if key >= 0 and rule != "kind"]
+        named = self.keys(recording)
         why += "".join(f", key {shown(key)}" for key in named)
         return No(f"{why}: {RULES[rule]}", Asked(table, number), keys=named)
 

@@ -20,15 +20,14 @@ from array import array
 from collections import Counter
 from collections.abc import Iterable, Iterator
 
-from zygos_tools.files.formats import (END, JOURNAL_START, MOST_CONNECTIONS, MOST_HOLD, Segment, capture_head,
-                                       capture_records, capture_start, close, hold, output_start, pieces, replies_start,
-                                       segment)
-from zygos_tools.files.part import Part
+from zygos_tools.files.formats import (END, JOURNAL_START, MOST_CONNECTIONS, MOST_HOLD, capture_start, hold, output_start,
+                                       pieces, replies_start, segment)
 from zygos_tools.judging.events import ADD, CAS, DELETE, REPLACE, SET, Unknown
 from zygos_tools.judging.keys import Keys
 from zygos_tools.judging.orders import CHANGED, WAS_LOST, Order
 from zygos_tools.judging.reading import Recording, sessions_of
 from zygos_tools.judging.replay import Replay
+from zygos_tools.judging.rewriting import READ_AS, rewritten
 from zygos_tools.judging.table import (ANSWERED, DROPPED, LOST, QUIET, REPLACED, VERB_OF, VERBS, WANT_BITS,
                                        WANT_OF)
 from zygos_tools.protocol.meaning import Command, line_of, words_of
@@ -39,9 +38,6 @@ from zygos_tools.protocol.uniques import cut_line, with_unique
 STORING = (b"set", b"add", b"replace", b"append", b"prepend", b"cas", b"incr", b"decr", b"ms")
 # the calls that give an item another exptime; a value that is joined to it keeps the old one
 GIVING = (SET, ADD, REPLACE, CAS)
-# what is counted of a command that another one takes the place of, by its first word
-READ_AS = {b"touch": "touch", b"gat": "gat", b"gats": "gat", b"bget": "gat", b"version": "words left out",
-           b"mn": "words left out"}
 
 
 class Added:
@@ -222,37 +218,16 @@ class Certificate:
         if self.is_recorded_capture():
             yield self.recording.capture
             return
-        part = Part("capture", self.recording.capture)
-        version, count = capture_head(part)
-        yield capture_start(self.added.count, version)
+        yield capture_start(self.added.count, self.recording.version)
         yield from self.added.sets()
-        writers: dict[int, Session] = {}
-        sessions, deletes = Counter[int](), iter([*self.added.deletes, (1 << 62, b"")])
+        deletes = iter([*self.added.deletes, (1 << 62, b"")])
         due, text = next(deletes)
-        of_session = self.by_session()
-        for place, record in enumerate(capture_records(part, version, count)):
+        for place, record in rewritten(self.recording, self.frames, self.replay.answers):
             while due <= place:
                 yield segment(self.added.deleter, text)
                 due, text = next(deletes)
-            connection = record.connection
-            if not isinstance(record, Segment):
-                yield close(connection)
-                sessions[connection] += 1
-                writers.pop(connection, None)
-                continue
-            writer = writers.get(connection)
-            if writer is None:
-                session = connection, sessions[connection]
-                writer = writers[connection] = Session(self, of_session[session], session in self.recording.surplus)
-            if record.text:
-                yield from pieces(connection, writer.sent(record.text))
-            elif writer.keeps_mark():
-                yield segment(connection, b"")
+            yield record
         yield END
-
-    def by_session(self) -> dict[tuple[int, int], array[int]]:
-        """The commands of each session."""
-        return dict(sessions_of(self.recording))
 
     # ---- the journal and the replies
 
@@ -291,39 +266,3 @@ class Certificate:
         yield from self.capture()
         yield from self.journal()
         yield from self.replies()
-
-
-class Session:
-    """A session of the capture that is written: the commands whose bytes come next, and whose marks."""
-
-    def __init__(self, certificate: Certificate, asked: array[int], has_surplus: bool):
-        self.table, self.frames, self.answers = certificate.table, certificate.frames, certificate.replay.answers
-        self.asked, self.at, self.read, self.written, self.has_surplus = asked, 0, 0, 0, has_surplus
-        self.answered = iter([command for command in asked if self.table.state[command] & ANSWERED])
-
-    def sent(self, text: bytes) -> bytes:
-        """The bytes of a segment in place of those that were recorded. Of a command that ends later at least one byte
-        is left for then, so that it is sent when it was."""
-        found, at, sizes = [], 0, self.table.frame_size
-        while at < len(text) and self.at < len(self.asked):
-            command = self.asked[self.at]
-            frame, count = self.frames.get(command), sizes[command] - self.read
-            if count > len(text) - at:
-                self.read += len(text) - at
-                if frame is None:
-                    found.append(text[at:])
-                else:
-                    stop = min(self.written + len(text) - at, max(0, len(frame) - 1))
-                    found.append(frame[self.written : stop])
-                    self.written = max(self.written, stop)
-                return b"".join(found)
-            found.append(text[at : at + count] if frame is None else frame[self.written :])
-            at, self.at, self.read, self.written = at + count, self.at + 1, 0, 0
-        return b"".join([*found, text[at:]])
-
-    def keeps_mark(self) -> bool:
-        """Whether the next mark is that of an answer which zygos gives too."""
-        command = next(self.answered, None)
-        if command is None:
-            return not self.has_surplus
-        return not self.table.state[command] & DROPPED and self.answers.get(command) != b""

@@ -36,7 +36,8 @@ little memory. docs/JUDGE.md says what `yes` means, and what it does not.
 
 If all keys are judged, no files are written, and ends of answers are known or --times none is given, the proved program
 `./zygos judge` is asked first, if it is there. After its `yes` nothing is searched, and the first line says so. A `no`
-that it proves begins with `proved no: ..`, another one after it with `no, not proved: ..`.
+that it proves begins with `proved no: ..`, another one after it with `no, not proved: ..`. If it does not know a
+command, it is asked again about what the recording is translated to, and the first line of a verdict says so.
 """
 from __future__ import annotations
 
@@ -49,7 +50,7 @@ import sys
 import tempfile
 import time
 from collections import Counter
-from collections.abc import Callable, Iterator
+from collections.abc import Callable, Iterable, Iterator
 from fnmatch import fnmatchcase
 from typing import IO, Any
 
@@ -64,7 +65,10 @@ from zygos_tools.judging.certificate import Certificate
 from zygos_tools.judging.clock import Clock
 from zygos_tools.judging.events import No, Unknown, Verdict, counted
 from zygos_tools.judging.judge import Judge
+from zygos_tools.judging.reading import Recording
 from zygos_tools.judging.times import ENDS, NONE, SEGMENTS
+from zygos_tools.judging.translating import Translation
+from zygos_tools.judging.trusting import is_doubtful
 from zygos_tools.protocol.order_files import connections_of, digest, order_text
 from zygos_tools.repository import TOP
 
@@ -79,6 +83,7 @@ NOT_USED = "ends of answers are not used (--times segments): each client is take
 NOT_CLOSED = "commands name keys that are left out too, so no checker is asked"
 NOT_CERTIFIED = "not certified: --check asks the proved program, and --out FILES keeps the files for it"
 BY_PROGRAM = "order found, by the proved program, on the bytes as they were recorded"
+OF_TRANSLATED = "order found, by the proved program, on the bytes as they are translated"
 REFUSED = "the proved program refuses this order, so there is no verdict; please report it, with the recording"
 # how much processor time the search has
 SECONDS = 600
@@ -123,6 +128,15 @@ def expected_memory(capture: bytes, outputs_of: list[Output]) -> tuple[int, int]
     return commands, int(OWN + (commands * OF_COMMAND + size * OF_BYTE) / 1e6)
 
 
+def counts_in(found: Counter[str]) -> str:
+    """What is counted, to be printed."""
+    return ", ".join(f"{name} {count}" for name, count in sorted(found.items()) if count)
+
+
+class Explained(Exception):
+    """The proved program knows an order."""
+
+
 class Judging:
     """A recording that is judged by the words of the command."""
 
@@ -138,6 +152,8 @@ class Judging:
         self.checked = self.recording = ""
         # what the proved program `judge` said, if it was asked and answered
         self.answer: asking.Answer | None = None
+        # the recording as it was translated for that, if it was
+        self.translation: Translation | None = None
         self.clock = Clock(given.get("--seconds", SECONDS), self.screen.ticker(), "--seconds" in given)
 
     def say(self, line: str) -> None:
@@ -159,7 +175,8 @@ class Judging:
         if faults:
             self.refuse(faults)
         elif self.is_told("yes"):
-            self.say(BY_PROGRAM)
+            self.say(OF_TRANSLATED if self.translation else BY_PROGRAM)
+            self.say_translated()
             self.say(self.checked)
         elif not self.accept():
             word = "unknown"
@@ -171,6 +188,8 @@ class Judging:
         """Looks for an order. Gives the faults, if there are some."""
         try:
             return self.search()
+        except Explained:
+            return []
         except Verdict as verdict:
             others = self.judge.faults if self.judge else []
             return [*others, verdict] if verdict not in others else [*others]
@@ -186,17 +205,16 @@ class Judging:
         replies = outputs_in(self.names[1], capture_hint=": the replies file comes second",
                              keep=kept.append if self.may_ask() else None)[0]
         self.is_read = True
-        self.ask([capture, *kept])
+        may_ask = self.ask([capture, *kept])
         kept.clear()
-        if self.is_told("yes"):
-            return []
         commands, megabytes = expected_memory(capture, replies)
         if megabytes > MUCH:
             self.screen.say(f"about {commands:,} commands, for which about {megabytes:,} MB of memory are needed")
         judge = self.judge = Judge(
             capture, replies, given.get("--shards", 16), given.get("--times"), "--warm" in given,
             "--may-forget" in given, given.get("--states", 200000), self.clock, is_first="--first" in given,
-            is_chosen=chosen_by(given))
+            is_chosen=chosen_by(given), asks=self.ask_translated if may_ask else None)
+        self.doubt(judge.recording)
         if not judge.keys.names and {"--keys", "--except-keys"} & set(given):
             raise Unknown(f"no key {self.choice()}")
         if "--order" in given:
@@ -220,20 +238,45 @@ class Judging:
         return (not self.to_output and self.given.get("--times") in (None, ENDS, NONE)
                 and not {"--keys", "--except-keys", "--out", "--order"} & set(self.given))
 
-    def ask(self, recorded: list[bytes]) -> None:
-        """Asks the proved program about the bytes of a capture and a replies file, if it may say something of them."""
-        times = self.given.get("--times")
-        if not self.may_ask() or times != NONE and not asking.has_marks(recorded[0]):
+    def ask(self, recorded: list[bytes]) -> bool:
+        """Asks the proved program about the bytes of a capture and a replies file, if it may say something of them. Gives
+        whether it says something, which is no order."""
+        has_marks = self.may_ask() and asking.has_marks(recorded[0])
+        if not self.may_ask() or self.given.get("--times") != NONE and not has_marks:
+            return False
+        return self.ask_of(recorded, has_marks) is not None
+
+    def ask_translated(self, recording: Recording) -> None:
+        """Asks about what the recording is translated to, if that is another one, and if there is no verdict yet."""
+        self.doubt(recording)
+        if self.is_told("no"):
             return
+        translation = Translation(recording, "--may-forget" in self.given)
+        if not (translation.frames or translation.counts) or not translation.is_whole():
+            return
+        self.ask_of(translation.pieces(), bool(recording.marks), translation)
+
+    def ask_of(self, pieces: Iterable[bytes], has_marks: bool, translation: Translation | None = None) -> asking.Answer | None:
+        """Asks about these bytes, and keeps a verdict, which is raised if it is an order. Gives what the program said."""
         words = [word for word in ("--warm", "--may-forget") if word in self.given]
         self.screen.show("asking the proved program")
-        answer = asking.ask(ZYGOS, [*words, "--shards", str(self.given.get("--shards", 16))], recorded,
+        answer = asking.ask(ZYGOS, [*words, "--shards", str(self.given.get("--shards", 16))], pieces,
                             self.given.get("--seconds", SECONDS))
         if answer is None or answer.word == "yes" and not answer.commands():
-            return
+            return None
         # it takes marks into account, so that only its `yes` holds also without them
-        if answer.word == "yes" or times != NONE or not asking.has_marks(recorded[0]):
-            self.answer, self.checked = answer, answer.line if answer.word != "unknown" else ""
+        if answer.word == "yes" or self.given.get("--times") != NONE or not has_marks:
+            known = answer.word != "unknown"
+            self.answer = answer.renumbered(translation) if translation else answer
+            self.translation, self.checked = translation if known else None, answer.line if known else ""
+            if answer.word == "yes":
+                raise Explained
+        return answer
+
+    def doubt(self, recording: Recording) -> None:
+        """Passes over a `no` of the program, if a right server may have given these answers."""
+        if self.answer and self.is_told("no") and is_doubtful(recording, self.answer, "--may-forget" in self.given):
+            self.answer, self.checked, self.translation = self.answer.passed_over(), "", None
 
     def is_told(self, word: str) -> bool:
         """Whether the proved program gave this verdict."""
@@ -248,8 +291,14 @@ class Judging:
         """What is said of the first fault: if the proved program was asked, whether a `no` is proved."""
         line, *more = fault.told()
         if fault.word == "no" and self.answer:
-            line = f"proved {line}" if self.is_told("no") else f"no, not proved: {fault.why}"
+            proved = "proved no of the recording as it is translated" if self.translation else "proved no"
+            line = f"{proved if self.is_told('no') else 'no, not proved'}: {fault.why}"
         return [line, *more]
+
+    def say_translated(self) -> None:
+        """Says what the proved program was given in place of what was recorded."""
+        if self.translation:
+            self.say(f"translated: {counts_in(self.translation.counts)}")
 
     # ---- what is found
 
@@ -282,6 +331,7 @@ class Judging:
         if len(faults) > MOST_FAULTS:
             self.say(f"  and {len(faults) - MOST_FAULTS:,} more")
         self.say_left_out()
+        self.say_translated()
         if faults[0].word == "no" and self.judge and self.judge.kind == SEGMENTS:
             self.say(NOT_USED if self.judge.recording.marks else NO_ENDS)
 
@@ -296,7 +346,7 @@ class Judging:
         commands = len(judge.table.verb)
         yield f"order found: {commands} commands, {len(judge.order)} calls, {len(judge.keys.names)} keys"
         found = self.certificate.counts if self.certificate else judge.recording.notes
-        counts = ", ".join(f"{name} {count}" for name, count in sorted(found.items()) if count)
+        counts = counts_in(found)
         yield f"translated: {counts}" if counts else "nothing is translated"
         if judge.kind == SEGMENTS:
             yield NOT_USED if judge.recording.marks else NO_ENDS
@@ -361,6 +411,7 @@ class Judging:
         """Prints the verdict and the counts as one line."""
         judge, is_proved = self.judge, self.is_told("yes") or self.is_told("no")
         found = self.certificate.counts if self.certificate else judge.recording.notes if judge else Counter[str]()
+        found = self.translation.counts if self.translation else found
         counts: dict[str, int | None] = {"commands": len(judge.table.verb) if judge else 0,
                                          "calls": len(judge.table.kind) if judge else 0, **self.counts(faults)}
         if self.answer and self.is_told("yes"):

@@ -155,4 +155,5 @@ def leave_out_entering(recording: Recording) -> None:
         return
     for one in firsts:
         table.state[one] |= DROPPED
+    recording.entered += firsts
     recording.notes["authentications left out"] += len(firsts)

@@ -31,12 +31,14 @@ class Judge:
 
     With `is_first` the search stops at the first fault. `faults` has what is said of answers that no run gives, and of
     keys that have no order. `is_chosen` says which keys are looked at; `is_closed` is whether no command names some
-    that are and some that are not.
+    that are and some that are not. `asks` is called with what was read, before an answer is held against its command, if
+    all sessions can be followed.
     """
 
     def __init__(self, capture: bytes, outputs: Iterable[Output], shards: int = 16, kind: str | None = None,
                  is_warm: bool = False, loses: bool = False, limit: int = 200000, clock: Clock | None = None,
-                 has_reasons: bool = True, is_first: bool = True, is_chosen: Callable[[bytes], bool] | None = None):
+                 has_reasons: bool = True, is_first: bool = True, is_chosen: Callable[[bytes], bool] | None = None,
+                 asks: Callable[[Recording], None] | None = None):
         self.clock, self.shards, self.is_first = clock or Clock(), shards, is_first
         self.recording = Recording(capture, shards, self.clock.look)
         self.table = self.recording.table
@@ -46,6 +48,8 @@ class Judge:
             raise Unknown("no command was recorded")
         self.kind = times.set_times(self.recording, kind)
         leave_out_entering(self.recording)
+        if asks and not unfollowed:
+            asks(self.recording)
         self.is_closed = self.leave_out(is_chosen) if is_chosen else True
         seeing = Seeing(self.recording, is_chosen or (lambda _: True))
         seeing.all()

@@ -68,7 +68,7 @@ class Recording:
     what that is, and those of `outside` have a faulty line, each with its number. Of keys that are `unsure` nothing can
     be refused, each for its reason. `forgetting` has the commands after which the server may lose items, and `tails` the
     last commands of sessions, if they have no end and another session follows. `surplus` has the sessions whose last
-    answer is to no command. `early` has when the first bytes of a command came, if it came in several segments, and
+    answer is to no command. `entered` has the authentications that are left out. `early` has when the first bytes of a command came, if it came in several segments, and
     `since` the same of each connection's command that is not whole.
     """
 
@@ -83,6 +83,7 @@ class Recording:
         self.forgetting: list[int] = []
         self.tails: set[int] = set()
         self.surplus: set[tuple[int, int]] = set()
+        self.entered: list[int] = []
         self.early: dict[int, int] = {}
         self.since: dict[int, int] = {}
         self.unsure: dict[bytes, str] = {}

@@ -39,6 +39,13 @@ def has_exptime(event: Event) -> bool:
     return event.kind not in (GET, FLUSH) and bool(event.table.meaning(event.command).numbers.get("exptime", 0))
 
 
+def expiry(event: Event, number: int) -> Event:
+    """A call that may remove the item of a key, or not, just before another call on it."""
+    event = copy.copy(event)
+    event.id, event.kind, event.want, event.item, event.optional = -number, SET, "failed", None, False
+    return event
+
+
 def may_pad(event: Event) -> bool:
     """Whether a call may have made a number shorter, which then keeps its length in memcached, with spaces."""
     if event.kind not in (INCR, DECR) or event.want not in ("number", None):
@@ -156,8 +163,25 @@ class Reason:
                     " with a number")
         if not self.states.loses and any(map(has_exptime, self.all)) and self.may_be_lost(self.all):
             return "an item may have been lost, as the key has an exptime: --may-forget lets items go"
+        if self.keys.is_warm and not self.states.loses and self.may_expire():
+            return "an item that was there at first may have had an exptime: --may-forget lets items go"
         forgotten = doubts.forgetting(self.all) if doubts and not self.states.loses else None
         return forgotten if forgotten and self.may_be_lost(self.all) else None
+
+    def may_expire(self) -> bool:
+        """Whether there may be an order where the items that were there at first have expired: at some time before the first
+        store that surely took their place was sent, or between that and this store."""
+        events = list(self.all)
+        for number, name in enumerate(self.names):
+            own = [event for event in events if event.key == name]
+            stores = [event for event in own if event.kind in (SET, ADD, REPLACE, CAS) and event.want == "stored"]
+            first = min(stores, key=lambda event: event.end, default=None)
+            if first is not None:
+                events.insert(events.index(first), expiry(first, 2 * number + 1))
+            before = expiry(own[0], 2 * number + 2)
+            before.connection, before.begin, before.end = before.id, -1, first.begin - 1 if first else FOREVER
+            events.insert(0, before)
+        return not self.is_stuck(events)
 
     def has_order_with_joins(self) -> bool:
         """Whether there may be an order where padded numbers to which values were joined are numbers."""
