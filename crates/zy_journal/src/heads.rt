@@ -11,8 +11,8 @@ pub(crate) struct Head {
     pub(crate) stamp: u64,
 }
 
-// The first head of some histories, if one was found. While none was, the stamp is the largest number, so that a look
-// at one more history takes one comparison.
+// The first head of some histories, if one was found. While none was, the stamp is the largest number, so that one
+// comparison of stamps is enough for one more history.
 #[derive(Clone, Copy)]
 pub(crate) struct Least {
     pub(crate) found: bool,
