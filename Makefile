@@ -45,7 +45,7 @@ install: all
 	cd tools && find zygos_tools '(' -name '*.py' -o -name '*.sh' ')' -exec install -D -m 644 {} '$(abspath $(LIB))/tools/{}' \;
 	ln -sf ../lib/zygos/zygos '$(BIN)/zygos'
 	for one in $(TOOLS); do ln -sf ../lib/zygos/tools/$$one '$(BIN)'/zygos-$$one || exit; done
-	for one in zygos $(TOOLS:%=zygos-%); do tools/repo/manual '$(BIN)'/$$one >'$(MAN)'/$$one.1 || exit; done
+	export PYTHONDONTWRITEBYTECODE=1; for one in zygos $(TOOLS:%=zygos-%); do tools/repo/manual '$(BIN)'/$$one >'$(MAN)'/$$one.1 || exit; done
 	cp -R --no-preserve=ownership $(PAGES) '$(DOC)'
 
 clean:

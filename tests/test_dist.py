@@ -406,6 +406,8 @@ class Installed(Dist):
         kind = "xz" if shutil.which("xz") else "gz"
         subprocess.run(["tar", "-C", self.room, "-xf", f"{self.made}/out/{name}.tar.{kind}"], check=True)
         self.assertIn("bin/zygos-judge --check", self.read(f"{self.room}/{name}/README"))
+        # what Python compiles depends on the times of files, and changes when a tool is first run
+        self.assertNotIn("__pycache__", self.read(f"{self.room}/{name}/SHA256SUMS"))
         self.check_copy(f"{self.room}/{name}")
         subprocess.run(["sha256sum", "--quiet", "-c", "SHA256SUMS"], cwd=f"{self.room}/{name}", check=True)
 
