@@ -230,6 +230,10 @@ LISTS = (
     (b"lru_crawler metadump all", b"key=k exp=-1 la=0 cas=1 fetch=no cls=1 size=63\nkey=l exp=0\nEND\r\n"),
     (b"lru_crawler mgdump all", b"mg k\r\nmg l\r\nEN\r\n"), (b"lru_crawler metadump all", b"BUSY currently processing\r\n"),
     (b"slabs automove 0", b"OK\r\n"), (b"lru mode flat", b"OK\r\n"), (b"cache_memlimit 100", b"OK\r\n"),
+    (b"stats sizes_enable", b"STAT sizes_status enabled\r\n"),
+    (b"stats sizes_enable", b"STAT sizes_status error\r\nSTAT sizes_error no_memory\r\n"),
+    (b"stats sizes", b"STAT sizes_status disabled\r\nEND\r\n"), (b"refresh_certs", b"Error TLS not enabled\r\n"),
+    (b"shutdown", b"ERROR: shutdown not enabled\r\n"), (b"gat 0", b"END\r\n"),
     (b"me k", b"EN\r\n"), (b"slabs reassign 1 2", b"NOTFULL source class has no spare page\r\n"),
 )
 
@@ -248,6 +252,12 @@ def lists_of_operators():
     same("a log", ("order found", {"watch left out": 1}), judged(watched)[:2])
     word, _, judge = judged([*watched, (0, b"get k\r\n", hit(b"k", b"x"))])
     same("a log, and a get", ("unknown", [b"k"]), (word, sorted(judge.keys.found)))
+
+
+def a_list_without_an_end():
+    """`stats sizes_disable` is answered without an END, as no other list is, and what follows it is not accused."""
+    lines = [(1, b"stats sizes_disable\r\nget a\r\nget b\r\n", b"STAT sizes_status disabled\r\n" + hit(b"a", b"1") + b"END\r\n"), ONE]
+    same("its session is unknown", "unknown", judged([ONE, *lines, (0, b"get a\r\n", hit(b"a", b"1"))])[0])
 
 
 def answers_that_are_left():
@@ -485,6 +495,6 @@ def flags_are_told():
 
 Tests = cases(uniques_after_a_restart, uniques_that_do_not_count, items_that_were_not_shown, items_before_drawn_recordings,
               a_block_that_is_dropped, batches_that_cannot_be_followed, what_is_unknown_names_commands,
-              items_in_any_order, lists_of_operators, answers_that_are_left, flushes_with_a_delay, items_from_before_that_expire, connections_that_are_refused,
+              items_in_any_order, lists_of_operators, a_list_without_an_end, answers_that_are_left, flushes_with_a_delay, items_from_before_that_expire, connections_that_are_refused,
               authentications, stores_that_fail, stores_that_fail_early, quiet_stores_that_may_fail, lines_that_may_be_carried_out, commands_of_sessions_that_ended,
               no_key_is_left, files_that_are_none, at_a_terminal, flags_are_told, hot_keys_hold_nobody_up)

@@ -74,7 +74,7 @@ def what_does_nothing():
     name = "faulty line left out"
     for line, answer, counted in (
             (b"stats\r\n", b"STAT pid 1\r\nEND\r\n", "stats left out"), (b"stats settings\r\n", b"STAT a 1\r\nEND\r\n", "stats left out"),
-            (b"stats reset\r\n", b"RESET\r\n", "stats left out"), (b"stats sizes_enable\r\n", b"STAT sizes_status enabled\r\nEND\r\n",
+            (b"stats reset\r\n", b"RESET\r\n", "stats left out"), (b"stats sizes_enable\r\n", b"STAT sizes_status enabled\r\n",
                                                               "stats left out"),
             (b"stats detail on\r\n", b"OK\r\n", "stats left out"), (b"stats cachedump 1 1\r\n", b"ITEM a [1 b; 0 s]\r\nEND\r\n",
                                                                "stats left out"),

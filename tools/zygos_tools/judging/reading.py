@@ -43,6 +43,7 @@ FAR_EXPTIME = "an exptime is one that memcached does not take"
 LONG_BLOCK = "a block is longer than memcached takes"
 BINARY = "a stream begins as the binary protocol does"
 CLOSING = "a line is one on which memcached closes the connection"
+DISABLING = "after `stats sizes_disable` the server sends no END, and where its answer ends is not known"
 WATCHING = "after a watch the server sends lines that no command asked for"
 BAD_LINE = "a line is one that the profile leaves out, and what follows it may have been read otherwise"
 LEFT_OUT = "a command on it is one that the profile leaves out"
@@ -50,7 +51,7 @@ BAD_META = "an ms has a flag that the profile leaves out, and its block may be d
 # how many keys are named in a line
 MOST_NAMED = 8
 # the commands of operators, which touch no item
-OPERATORS = (b"stats", b"slabs", b"lru", b"lru_crawler", b"watch", b"extstore", b"cache_memlimit", b"me")
+OPERATORS = (b"stats", b"slabs", b"lru", b"lru_crawler", b"watch", b"extstore", b"cache_memlimit", b"me", b"refresh_certs", b"shutdown")
 
 
 class Odd(NamedTuple):
@@ -243,8 +244,8 @@ class Recording:
         self.notes[f"{name} with a delay left out" if name == "flush_all" else f"{name} left out"] += 1
         if name in ("flush_all", "cache_memlimit") or words[:2] == [b"slabs", b"reassign"]:
             self.forgetting.append(number)
-        if name == "watch":
-            self.be_odd(connection, WATCHING)
+        if name == "watch" or words[:2] == [b"stats", b"sizes_disable"]:
+            self.be_odd(connection, WATCHING if name == "watch" else DISABLING)
 
     def add_calls(self, number: int, command: Command, frame_at: int, line_size: int) -> None:
         """The calls of a command on its keys."""
@@ -378,7 +379,9 @@ def read_flush(words: list[bytes]) -> Command | None:
 
 
 def read_get(words: list[bytes]) -> Command | None:
-    """`gat` and `gats`: an exptime, and keys; `bget`."""
+    """`gat` and `gats`: an exptime, and keys; `bget`. Without a key it does nothing."""
+    if len(words) == 2 and words[0] != b"bget" and is_exptime(words[1]):
+        return Command("stats")
     keys = words[1:] if words[0] == b"bget" else words[2:]
     is_one = len(keys) > 0 and (words[0] == b"bget" or is_exptime(words[1]))
     return meant(b" ".join([b"gets" if words[0] == b"gats" else b"get", *keys])) if is_one else None

@@ -16,6 +16,8 @@ from zygos_tools.protocol.meaning import Command, frames_of, line_of, words_of
 # and `detail dump`, and of the `metadump` and the `mgdump` of `lru_crawler`
 LISTS = (b"VALUE ", b"STAT ", b"ITEM ", b"PREFIX ", b"key=", b"mg ")
 META, FAULT = re.compile(rb"(HD|VA|EN|NS|EX|NF)[ \r\n]"), re.compile(rb"((CLIENT|SERVER)_)?ERROR\b")
+# the last lines of `stats sizes_enable`, after which memcached sends no END
+LAST_STAT = re.compile(rb"STAT sizes_(status enabled|error [^ \n]+)\r\n")
 UNIQUE_MARK = re.compile(rb" c[0-9]{1,20}(?=[ \r\n])")
 NAME = re.compile(rb"[a-z_]{2,16}")
 # the numbers of flags and of uniques, counters and lengths are below these
@@ -58,7 +60,7 @@ def answer_end(text: bytes, begin: int) -> int:
     at = line_end(text, begin)
     if begin == first and text.startswith(b"VA ", begin):
         return block_end(text, begin, at, 1)
-    while text.startswith(LISTS, begin) and at < len(text):
+    while text.startswith(LISTS, begin) and at < len(text) and not LAST_STAT.match(text, begin):
         if text.startswith(b"VALUE ", begin):
             at = block_end(text, begin, at, 3)
         begin, at = at, line_end(text, at)
@@ -82,7 +84,8 @@ def is_whole(answer: bytes) -> bool:
         size = number(words[1], MOST_SIZE) if len(words) > 1 else None
         return size is not None and answer[:at].endswith(b"\n") and len(answer) == at + size + 2
     if answer.startswith(LISTS):
-        return answer.endswith((b"\nEND\r\n", b"\nEN\r\n")) or b"ERROR" in answer.rpartition(b"\n")[0].rpartition(b"\n")[2]
+        last = answer.rfind(b"\n", 0, -1) + 1
+        return LAST_STAT.fullmatch(answer, last) is not None or answer.endswith((b"\nEND\r\n", b"\nEN\r\n")) or b"ERROR" in answer.rpartition(b"\n")[0].rpartition(b"\n")[2]
     return answer.endswith(b"\n")
 
 

@@ -9,6 +9,7 @@ from collections import deque
 from collections.abc import Iterator
 from typing import Generic, NamedTuple, Protocol, TypeVar
 
+from zygos_tools.protocol.answers import LAST_STAT
 from zygos_tools.protocol.cutting import NOT_YET, Cutter
 from zygos_tools.protocol.table import BY_WORD, ERRORS, META_CODES, NO_KIND
 
@@ -126,11 +127,13 @@ class Answers(Cutter):
         # the first word of the last line, and what the answer has so far that this line is of
         self.word = b""
         self.items: list[list[bytes]] = []
+        # whether that line is the last one of `stats sizes_enable`
+        self.is_last = False
 
     def feed(self, text: bytes) -> Iterator[Answer]:
         """The answers that end in these further bytes."""
         for whole, _, end in self.frames(text, self.end_of):
-            if self.word not in LONG and not self.word.startswith(KEY):
+            if (self.word not in LONG or self.is_last) and not self.word.startswith(KEY):
                 items, self.items = self.items, []
                 yield Answer(self.word, items, end - len(whole) + len(text))
 
@@ -141,6 +144,7 @@ class Answers(Cutter):
             return NOT_YET
         words = words_of(text[at:stop])
         word = self.word = words[0] if words else b""
+        self.is_last = word == b"STAT" and LAST_STAT.match(text[at : stop + 1]) is not None
         if word in ITEMS and len(words) > ITEMS[word]:
             self.items.append(words)
         size = number(words, SIZES[word]) if word in SIZES else None
