@@ -365,6 +365,16 @@ def spoiled_packets():
             looks(f"spoiled packets {number}", words, given=bytes(text[: draw.randrange(len(text))] if number % 2 else text))
 
 
+def no_packets():
+    """tools/packets says what a file is that has no packets, and what may be done about it."""
+    for given, wanted in ((b"\x1f\x8b\x08" + bytes(99), "it is a compressed file: decompress it first"),
+                          (b"PK\x03\x04" + bytes(99), "it is a compressed file: decompress it first"),
+                          (CAPTURE, "it is a capture: give it to zygos run"), (REPLIES, "it is a replies file: give a file"),
+                          (JOURNAL, "it is a journal: give a file"), (b"set a 0 0 1\r\n" * 3, "it is text: give a file"),
+                          (bytes(99), "give a file as tcpdump -w writes it"), (packets.file_of(), "no request goes to port")):
+        looks(f"packets of {given[:8]!r}", ["packets"], given=given, must_fail=True, wanted=wanted)
+
+
 def unforeseen():
     """What nobody foresaw is one line with status 70, and its trace is in a file."""
     with tempfile.TemporaryDirectory() as folder:
@@ -387,7 +397,8 @@ def unforeseen():
 
 
 Tests = cases(cut_files, wrong_files, faults_by_json, bytes_after, orders, interrupted,
-              interrupted_while_python_starts, interrupted_at_any_time, full_disks, encodings, hostile_answers, deep_pipelines, spoiled_packets,
+              interrupted_while_python_starts, interrupted_at_any_time, full_disks, encodings, hostile_answers, deep_pipelines,
+              spoiled_packets, no_packets,
               unforeseen)
 
 if __name__ == "__main__":

@@ -47,7 +47,7 @@ from typing import Any
 
 from zygos_tools.cli import ends
 from zygos_tools.files import inputs
-from zygos_tools.files.kinds import is_packets
+from zygos_tools.files.kinds import HEAD, is_packets
 from zygos_tools.files.outputs import Beside, refuse_full, told_apart
 from zygos_tools.files.part import Fault
 from zygos_tools.recording import windows
@@ -214,7 +214,7 @@ def look(text: bytes, name: str, port: int, **how: Any) -> tuple[Reading, Report
     """What is read of a file, the report on it, and why it is refused or has nothing for the port."""
     reading = Reading(port, **how)
     reading.read(text)
-    return reading, Report(reading), refusal(reading, text[:4], name)
+    return reading, Report(reading), refusal(reading, text[:HEAD], name)
 
 
 def read_windows(found: dict[str, Any], names: list[str]) -> int:

@@ -1,6 +1,7 @@
 """What each fault of recorded packets says of a file, and what to do about it."""
 from __future__ import annotations
 
+from zygos_tools.files import kinds
 from zygos_tools.recording.packets import recorded
 
 AGAIN = "tcpdump -r {name} -w some.pcap"
@@ -41,10 +42,18 @@ LINKS = {0: "BSD loopback", 101: "raw IP", 105: "WLAN", 113: "any interface", 12
          276: "any interface"}
 
 
+def other_kind(begin: bytes) -> str | None:
+    """What a file is that begins so, and what to do about it; None if that is not known, or if it is packets."""
+    kind = kinds.kind_of(begin)
+    if kind is None or kind in (kinds.PACKETS, kinds.EMPTY):
+        return None
+    return f"it is {kind}: {kinds.CURES.get(kind, 'give a file as tcpdump -w writes it')}"
+
+
 def told(fault: recorded.PacketFault, begin: bytes, name: str, port: int) -> tuple[str, str]:
     """A fault of a file in words, and what to do; the file begins so, and has this name."""
     says, do = FAULTS[fault.number]
     which = WHICH.get(fault.number, "tcp port {port}").format(port=port)
     number = f"{fault.at} ({LINKS[fault.at]})" if fault.at in LINKS else fault.at
-    other = BEGINNINGS.get(begin[:4], "give a file as tcpdump -w writes it").format(name=name)
+    other = BEGINNINGS.get(begin[:4], other_kind(begin) or "give a file as tcpdump -w writes it").format(name=name)
     return says.format(number=number), do.format(name=name, which=which, begin=other)
