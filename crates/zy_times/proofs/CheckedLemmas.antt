@@ -21,7 +21,7 @@ use Rattle.zy_check.specs.Cause.{HasVerdict}
 use Rattle.zy_check.specs.Answered.{answered_by, AreAnswered}
 use Rattle.zy_check.specs.OfRun.{given_by_records}
 use Rattle.zy_times.specs.declared.times.Times.{Times}
-use Rattle.zy_times.specs.Times.{Recording}
+use Rattle.zy_times.specs.Recording.{Recording}
 use Rattle.zy_times.specs.Line.{TimesHold}
 use Rattle.zy_times.specs.Recorded.{IsOfRun, IsRecorded}
 

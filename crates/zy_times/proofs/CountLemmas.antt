@@ -55,13 +55,6 @@ module _ (count : List Record → ℕ) (rises : (records : List Record) (r : Rec
         subst (λ (n : ℕ). AreRises (λ m. count (take m (records ++ r ∷ []))) n moments) (sym size)
         (rises_same (λ m. count (take m records)) (λ m. count (take m (records ++ r ∷ []))) (length records) same moments (count_grows (records ++ r ∷ [])) (omega (arith, one, two, is)) are)
 
--- before the first record nothing was counted
-pub counts_none : (count : List Record → ℕ) → count [] ≡ 0 → AreRises (λ m. count (take m [])) 0 []
-counts_none count none = record {
-  size = sym none;
-  each = λ number moment is. absurd (cc);
-}
-
 -- what is never counted
 pub counts_never : (count : List Record → ℕ) (records : List Record) → count (take (length records) records) ≡ 0 → AreRises (λ m. count (take m records)) (length records) []
 counts_never count records none = record {

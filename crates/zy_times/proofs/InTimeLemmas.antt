@@ -9,14 +9,20 @@ use Rattle.mc_calls.specs.declared.entry.Entry.{Entry}
 use Rattle.zy_capture.specs.declared.record.Record.{Record}
 use Rattle.zy_capture.specs.declared.record.Record.TheVariants as Kinds
 use Rattle.zy_capture.specs.Streams.{closes}
+use Rattle.mc_parse.specs.declared.command.Command.{Command}
+use Rattle.zy_frame.specs.Cut.{commands_of}
 use Rattle.zy_check.proofs.ListLemmas.{there, take_one}
 use Rattle.zy_times.specs.First.{IsFirstRise, Grows}
-use Rattle.zy_times.specs.Times.{Recording, sent_by, marks_by, marks_in, answered_in, first_in, sent_until, MarksFit}
-use Rattle.zy_times.specs.InTime.{IsEntrySent, IsEntryEnded, AreOfCommands, IsInTime, IsLateAfter, NoneIsLate}
+use Rattle.zy_times.specs.Recording.{Recording, answered_in, MarksFit}
+use Rattle.zy_times.specs.Sessions.{sent_in, marks_at}
+use Rattle.zy_times.specs.Times.{marks_in}
+use Rattle.zy_times.specs.InTime.{numbered_entry, IsEntrySent, IsEntryEnded, AreOfCommands, IsInTime, IsLateAfter, NoneIsLate}
 use Rattle.zy_times.proofs.FirstLemmas.{later}
-use Rattle.zy_times.proofs.TrueLemmas.{between_rises}
-use Rattle.zy_times.proofs.RecordLemmas.{commands_count, commands_stay, marks_more, mark_bytes, over_closed}
-use Rattle.zy_times.proofs.SessionLemmas.{sent_grows, sent_later, ended_later}
+use Rattle.zy_times.proofs.TrueLemmas.{trues_rise}
+use Rattle.zy_times.proofs.RecordLemmas.{marks_more, mark_bytes}
+use Rattle.zy_times.proofs.StreamLemmas.{bytes_of, stream_same, bytes_none, bytes_close}
+use Rattle.zy_times.proofs.NumberLemmas.{number_within}
+use Rattle.zy_times.proofs.SessionLemmas.{count_of, no_commands, sent_grows, marks_grow}
 
 -- ---- the first moment
 
@@ -73,20 +79,50 @@ most_within (suc n) bound (x ∷ xs) each =
     omega (arith, rest, first)
 
 module _ (r : Recording) where
+  -- ---- later moments
+
+  -- the number of commands of an entry's session that were sent
+  abbrev sent_with : Entry → ℕ → ℕ
+  sent_with e = sent_in r.records e.tag.conn (numbered_entry r e).session
+
+  -- a sent command stays sent
+  pub sent_later : (e : Entry) (first last : ℕ) → first ≤ last → IsEntrySent r e first → IsEntrySent r e last
+  sent_later e first last order is =
+      let grown = later (sent_with e) (sent_grows r.records e.tag.conn (numbered_entry r e).session) first last order in omega (arith, grown, is)
+
+  -- an ended one stays ended
+  pub ended_later : (e : Entry) (first last : ℕ) → first ≤ last → IsEntryEnded r e first → IsEntryEnded r e last
+  ended_later e first last order is =
+      let session = (numbered_entry r e).session in
+      let grown = later (marks_at r.records e.tag.conn session) (marks_grow r.records e.tag.conn session) first last order in
+      omega (arith, grown, is)
+
   -- ---- steps
 
-  -- with a record no mark comes, or no command is sent
-  step_kind : (moment : ℕ) → ((conn session : ℕ) → marks_by r conn session (moment + 1) ≡ marks_by r conn session moment) ⊎ ((conn : ℕ) → sent_by r conn (moment + 1) ≡ sent_by r conn moment)
+  -- no mark comes with the next record
+  abbrev NoMark : ℕ → Type 0
+  NoMark moment = (conn session : ℕ) → marks_at r.records conn session (moment + 1) ≡ marks_at r.records conn session moment
+
+  -- no command is sent with it
+  abbrev NoneSent : ℕ → Type 0
+  NoneSent moment = (conn session : ℕ) → sent_in r.records conn session (moment + 1) ≡ sent_in r.records conn session moment
+
+  step_kind : (moment : ℕ) → NoMark moment ⊎ NoneSent moment
   step_kind moment = dite (dec_lt moment (length r.records))
       (λ low. let at = there r.records moment low in by_kind at.0 (take_one r.records moment at.0 at.1))
-      (λ high. inr (λ conn. ap (commands_count conn) (take_all (moment + 1) r.records (omega arith)) ∙ sym (ap (commands_count conn) (take_all moment r.records (omega arith)))))
+      (λ high. inr (λ conn session. ap (count_of conn session) (take_all (moment + 1) r.records (omega arith)) ∙ sym (ap (count_of conn session) (take_all moment r.records (omega arith)))))
     where
-      by_kind : (x : Record) → take (moment + 1) r.records ≡ take moment r.records ++ x ∷ [] → ((conn session : ℕ) → marks_by r conn session (moment + 1) ≡ marks_by r conn session moment) ⊎ ((conn : ℕ) → sent_by r conn (moment + 1) ≡ sent_by r conn moment)
-      by_kind (Kinds.Close closed) is = inr (λ conn. ap (commands_count conn) is ∙ commands_stay (take moment r.records) conn (Kinds.Close closed) tt)
+      -- a record without bytes
+      quiet : (x : Record) → take (moment + 1) r.records ≡ take moment r.records ++ x ∷ [] → ((now conn session : ℕ) → bytes_of now conn session x ≡ []) → NoneSent moment
+      quiet x is none conn session =
+          ap (count_of conn session) is ∙ ap (λ (b : List ℕ). length (commands_of b)) (stream_same (take moment r.records) x conn session (none (closes conn (take moment r.records)) conn session))
+
+      by_kind : (x : Record) → take (moment + 1) r.records ≡ take moment r.records ++ x ∷ [] → NoMark moment ⊎ NoneSent moment
+      by_kind (Kinds.Close closed) is = inr (quiet (Kinds.Close closed) is (λ now conn session. bytes_close now conn session closed))
       by_kind (Kinds.Segment s) is = by_bytes s.bytes refl
         where
-          by_bytes : (bytes : List ℕ) → s.bytes ≡ bytes → ((conn session : ℕ) → marks_by r conn session (moment + 1) ≡ marks_by r conn session moment) ⊎ ((conn : ℕ) → sent_by r conn (moment + 1) ≡ sent_by r conn moment)
-          by_bytes [] none = inr (λ conn. ap (commands_count conn) is ∙ commands_stay (take moment r.records) conn (Kinds.Segment s) none)
+          by_bytes : (bytes : List ℕ) → s.bytes ≡ bytes → NoMark moment ⊎ NoneSent moment
+          by_bytes [] none = inr (quiet (Kinds.Segment s) is (λ now conn session. bytes_none now conn session s none))
           by_bytes (byte ∷ bytes) some = inl (λ conn session.
               let more = ap (λ (rs : List Record). marks_in rs conn session) is ∙ marks_more (take moment r.records) (Kinds.Segment s) conn session in
               let own = mark_bytes (closes conn (take moment r.records)) conn session s (λ none. let both : byte ∷ bytes ≡ [] = sym some ∙ none in cc) in
@@ -99,24 +135,29 @@ module _ (r : Recording) where
       let within = slice_get_within r.entries q late.e late.is_last in
       let rises = t.rises p q (omega arith) (omega (arith, within)) in
       dite (dec_lt late.late.moment (t.moment p))
-      (λ before. t.unended q late.e late.is_last (ended_later r late.e.tag.conn late.e.tag.index late.late.moment (t.moment q) (omega (arith, before, rises)) late.late.ended))
-      (λ behind. late.late.unsent (sent_later r late.other.tag.conn late.other.tag.index (t.moment p) late.late.moment (omega (arith, behind)) (t.sent p late.other late.is_first))))
+      (λ before. t.unended q late.e late.is_last (ended_later late.e late.late.moment (t.moment q) (omega (arith, before, rises)) late.late.ended))
+      (λ behind. late.late.unsent (sent_later late.other (t.moment p) late.late.moment (omega (arith, behind)) (t.sent p late.other late.is_first))))
 
   -- ---- from pairs to moments
 
   module _ (fit : MarksFit r) (commands : AreOfCommands r) (none : NoneIsLate r) where
-    -- the first moment at which the command of an entry was sent
-    first_of : (p : ℕ) (e : Entry) → slice_get r.entries p ≡ Some e → (moment : ℕ) × (moment ≤ length r.records) × IsFirstRise (sent_by r e.tag.conn) e.tag.index moment
+    -- at this moment the command of an entry was sent first
+    abbrev IsFirst : Entry → ℕ → Type 0
+    IsFirst e moment = (moment ≤ length r.records) × IsFirstRise (sent_with e) (numbered_entry r e).number moment
+
+    first_of : (p : ℕ) (e : Entry) → slice_get r.entries p ≡ Some e → (moment : ℕ) × IsFirst e moment
     first_of p e is =
-        let there = commands p e is in
-        let whole = ap (commands_count e.tag.conn) (take_all (length r.records) r.records (omega arith)) in
-        first_exists (sent_by r e.tag.conn) (sent_grows r e.tag.conn) e.tag.index (length r.records) (omega (arith, there, whole))
+        let session = (numbered_entry r e).session in
+        let low = number_within r e.tag.conn e.tag.index (commands p e is) in
+        let whole = ap (count_of e.tag.conn session) (take_all (length r.records) r.records (omega arith)) in
+        let found = first_exists (sent_with e) (sent_grows r.records e.tag.conn session) (numbered_entry r e).number (length r.records) (omega (arith, low, whole)) in
+        (found.0, (found.1, found.2))
 
     -- those of some entries from a place on
     record Firsts (from : ℕ) (es : List Entry) : Type 0 where
       moments : List ℕ
       size : length moments ≡ length es
-      each : (p moment : ℕ) (e : Entry) → slice_get es p ≡ Some e → slice_get moments p ≡ Some moment → (moment ≤ length r.records) × IsFirstRise (sent_by r e.tag.conn) e.tag.index moment
+      each : (p moment : ℕ) (e : Entry) → slice_get es p ≡ Some e → slice_get moments p ≡ Some moment → IsFirst e moment
 
     firsts : (from : ℕ) (es : List Entry) → ((p : ℕ) (e : Entry) → slice_get es p ≡ Some e → slice_get r.entries (from + p) ≡ Some e) → Firsts from es
     firsts from [] are = record { moments = []; size = refl; each = λ p moment e is there. absurd (cc) }
@@ -126,16 +167,15 @@ module _ (r : Recording) where
         let rest = firsts (from + 1) es (λ p x is. let on : from + 1 + p ≡ from + suc p = omega arith in ap (slice_get r.entries) on ∙ are (suc p) x is) in record {
           moments = first.0 ∷ rest.moments;
           size = ap suc rest.size;
-          each = λ p moment x is there. here first.0 first.1 first.2 rest p moment x is there;
+          each = λ p moment x is there. here first.0 first.1 rest p moment x is there;
         }
       where
-        here : (m : ℕ) → m ≤ length r.records → IsFirstRise (sent_by r e.tag.conn) e.tag.index m → (rest : Firsts (from + 1) es) → (p moment : ℕ) (x : Entry) → slice_get (e ∷ es) p ≡ Some x → slice_get (m ∷ rest.moments) p ≡ Some moment → (moment ≤ length r.records) × IsFirstRise (sent_by r x.tag.conn) x.tag.index moment
-        here m within is_first rest zero moment x is there =
+        here : (m : ℕ) → IsFirst e m → (rest : Firsts (from + 1) es) → (p moment : ℕ) (x : Entry) → slice_get (e ∷ es) p ≡ Some x → slice_get (m ∷ rest.moments) p ≡ Some moment → IsFirst x moment
+        here m is_first rest zero moment x is there =
             let same_entry : e ≡ x = cc in
             let same_moment : m ≡ moment = cc in
-            subst (λ (k : ℕ). (k ≤ length r.records) × IsFirstRise (sent_by r x.tag.conn) x.tag.index k) same_moment
-            (subst (λ (y : Entry). (m ≤ length r.records) × IsFirstRise (sent_by r y.tag.conn) y.tag.index m) same_entry (within, is_first))
-        here m within is_first rest (suc p) moment x is there = rest.each p moment x is there
+            subst (IsFirst x) same_moment (subst (λ (y : Entry). IsFirst y m) same_entry is_first)
+        here m is_first rest (suc p) moment x is there = rest.each p moment x is there
 
     abbrev all : Firsts 0 r.entries
     all = firsts 0 r.entries (λ p e is. let on : 0 + p ≡ p = omega arith in ap (slice_get r.entries) on ∙ is)
@@ -157,12 +197,9 @@ module _ (r : Recording) where
         let above = most_above (p + 1) p at.0 all.moments at.1 (omega arith) in
         let first = (all.each p at.0 e is at.1).1.above in
         let none_at_zero : at.0 ≡ 0 = omega (arith, above, moment_is) in
-        let sent = subst (λ (m : ℕ). e.tag.index < sent_by r e.tag.conn m) none_at_zero first in
-        let nothing = no_commands_at e.tag.conn in
+        let sent = subst (IsEntrySent r e) none_at_zero first in
+        let nothing = ap (λ (l : List Command). length l) no_commands in
         omega (arith, sent, nothing)
-      where
-        no_commands_at : (conn : ℕ) → sent_by r conn 0 ≡ 0
-        no_commands_at conn = over_closed []
     open_at p e is (suc last) moment_is ended =
         let source = most_is (p + 1) all.moments (omega (arith, moment_is)) in
         let size = all.size in
@@ -173,26 +210,23 @@ module _ (r : Recording) where
         let next : last + 1 ≡ suc last = omega arith in
         elim (step_kind last) [
           | inl no_mark ↦ (
-              let before : IsEntryEnded r e last = record {
-                session = ended.session;
-                from = ended.from;
-                until = ended.until;
-                marked = let marked = ended.marked in let same = no_mark e.tag.conn ended.session in let now = ap (marks_by r e.tag.conn ended.session) next in omega (arith, marked, same, now);
-              } in
+              let session = (numbered_entry r e).session in
+              let marked = no_mark e.tag.conn session in
+              let now = ap (marks_at r.records e.tag.conn session) next in
+              let before : IsEntryEnded r e last = omega (arith, ended, marked, now) in
               dite (dec_lt source.0 p)
               (λ earlier. none source.0 p earlier (record { other = other.0; e = e; is_first = other.1; is_last = is; late = record { moment = last; ended = before; unsent = unsent source.0 last other.0 other.1 at } }))
               (λ same_place.
               let same : source.0 ≡ p = omega (arith, below, same_place) in
               let here : slice_get all.moments p ≡ Some (suc last) = ap (slice_get all.moments) (sym same) ∙ at in
               let low = (all.each p (suc last) e is here).1.first last (omega arith) in
-              let fits = fit last e.tag.conn ended.session in
-              let few = between_rises (answered_in r e.tag.conn) (first_in r e.tag.conn ended.session) (sent_until r e.tag.conn ended.session last) e.tag.index (omega (arith, low)) in
-              let marked = before.marked in
-              omega (arith, fits, few, marked)))
-          | inr no_command ↦ (
+              let fits = fit last e.tag.conn session in
+              let few = trues_rise (sent_with e last) (numbered_entry r e).number (answered_in r e.tag.conn session) low in
+              omega (arith, fits, few, before)))
+          | inr none_sent ↦ (
               let above = (all.each source.0 (suc last) other.0 other.1 at).1.above in
-              let same = no_command other.0.tag.conn in
-              let now = ap (sent_by r other.0.tag.conn) next in
+              let same = none_sent other.0.tag.conn (numbered_entry r other.0).session in
+              let now = ap (sent_with other.0) next in
               absurd (unsent source.0 last other.0 other.1 at (omega (arith, above, same, now))))
         ]
 
@@ -208,7 +242,7 @@ module _ (r : Recording) where
       sent = λ p e is.
           let at = found p e is in
           let above = most_above (p + 1) p at.0 all.moments at.1 (omega arith) in
-          sent_later r e.tag.conn e.tag.index at.0 (moment_of p) above (all.each p at.0 e is at.1).1.above;
+          sent_later e at.0 (moment_of p) above (all.each p at.0 e is at.1).1.above;
       unended = λ p e is ended. open_at p e is (moment_of p) refl ended;
     }
 
@@ -222,5 +256,5 @@ module _ (r : Recording) where
       let within = slice_get_within r.entries p e is_e in
       let rises = t.rises q p (omega arith) (omega (arith, within)) in
       absurd (dite (dec_lt late.moment (t.moment q))
-      (λ before. t.unended p e is_e (ended_later r e.tag.conn e.tag.index late.moment (t.moment p) (omega (arith, before, rises)) late.ended))
-      (λ behind. late.unsent (sent_later r other.tag.conn other.tag.index (t.moment q) late.moment (omega (arith, behind)) (t.sent q other is_other)))))
+      (λ before. t.unended p e is_e (ended_later e late.moment (t.moment p) (omega (arith, before, rises)) late.ended))
+      (λ behind. late.unsent (sent_later other (t.moment q) late.moment (omega (arith, behind)) (t.sent q other is_other)))))

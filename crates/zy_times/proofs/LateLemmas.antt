@@ -1,25 +1,16 @@
 -- Walking through the entries: the latest moment at which a command was sent so far.
 use Rattle.std.specs.List.{slice_get}
-use Rattle.std.proofs.Common.{◌≡◌, ℕ, ◌+◌, ◌<◌, ◌≤◌, max, List, ◌∷◌, length, drop, Option, None, Some, refl, sym, ap, ◌∙◌, subst, arith}
+use Rattle.std.proofs.Common.{◌≡◌, ℕ, ◌+◌, ◌<◌, ◌≤◌, max, List, ◌∷◌, drop, Option, None, Some, refl, sym, ap, ◌∙◌, subst, arith}
 use Rattle.std.specs.Prelude.{◌↔◌}
 use mathlib.Core.Logic.{dite}
 use native.Mathlib.Decide.{dec_lt}
 use Rattle.mc_calls.specs.declared.entry.Entry.{Entry}
 use Rattle.zy_check.proofs.WalkLemmas.{left_first}
-use Rattle.zy_times.specs.First.{AreRises}
-use Rattle.zy_times.specs.Times.{Recording, sent_by}
+use Rattle.zy_times.specs.Recording.{Recording}
 use Rattle.zy_times.specs.InTime.{IsEntrySent, IsEntryEnded, AreLate, IsOutOfTime}
-use Rattle.zy_times.specs.Ending.{IsFrom, IsEndedFrom}
+use Rattle.zy_times.specs.Spans.{IsFrom}
 use Rattle.zy_times.specs.Recorded.{CameBefore, IsLateAt, IsFirstUnsent}
-use Rattle.zy_times.proofs.FirstLemmas.{above_from, at_first}
-use Rattle.zy_times.proofs.SessionLemmas.{sent_grows, sent_stays, sent_later}
-
--- a command is sent from its moment on
-pub sent_from : (r : Recording) (conn index at : ℕ) (sent : List ℕ) → AreRises (sent_by r conn) (length r.records) sent → slice_get sent index ≡ Some at → (moment : ℕ) → (index < sent_by r conn moment) ↔ (at ≤ moment)
-sent_from r conn index at sent are is moment = (
-  at_first (sent_by r conn) (length r.records) sent (sent_grows r conn) (sent_stays r conn) are index moment at is,
-  above_from (sent_by r conn) (length r.records) sent (sent_grows r conn) (sent_stays r conn) are index moment at is,
-)
+use Rattle.zy_times.proofs.InTimeLemmas.{sent_later}
 
 -- before the first entry
 pub before_first : (r : Recording) → CameBefore r 0 0
@@ -29,20 +20,20 @@ before_first r = record {
   unsent = λ moment below. absurd (omega arith);
 }
 
-module _ (r : Recording) (at latest : ℕ) (e : Entry) (first : Option ℕ) (is : slice_get r.entries at ≡ Some e) (ends : IsEndedFrom r e.tag.conn e.tag.index first) (h : CameBefore r at latest) where
+module _ (r : Recording) (at latest : ℕ) (e : Entry) (first : Option ℕ) (is : slice_get r.entries at ≡ Some e) (ends : (moment : ℕ) → IsEntryEnded r e moment ↔ IsFrom first moment) (h : CameBefore r at latest) where
   -- no earlier entry is of a command that was sent later than this one's end
   not_late : ((moment : ℕ) → first ≡ Some moment → latest ≤ moment) → (p : ℕ) → p < at → AreLate r p at → ⊥
   not_late on_time p order late =
       let both : Some late.e ≡ Some e = sym late.is_last ∙ is in
       let same : late.e ≡ e = cc in
       let ended : IsEntryEnded r e late.late.moment = subst (λ (x : Entry). IsEntryEnded r x late.late.moment) same late.late.ended in
-      go first on_time ((ends.exact late.late.moment).0 ended)
+      go first on_time ((ends late.late.moment).0 ended)
     where
       go : (o : Option ℕ) → ((moment : ℕ) → o ≡ Some moment → latest ≤ moment) → IsFrom o late.late.moment → ⊥
       go None on_time from = from
       go (Some moment) on_time from =
           let order_is = on_time moment refl in
-          late.late.unsent (sent_later r late.other.tag.conn late.other.tag.index latest late.late.moment (omega (arith, order_is, from)) (h.sent p late.other order late.is_first))
+          late.late.unsent (sent_later r late.other latest late.late.moment (omega (arith, order_is, from)) (h.sent p late.other order late.is_first))
 
   -- it is not late
   pub before_more : (sent : ℕ) → ((moment : ℕ) → IsEntrySent r e moment ↔ (sent ≤ moment)) → ((moment : ℕ) → first ≡ Some moment → latest ≤ moment) → CameBefore r (at + 1) (max latest sent)
@@ -51,7 +42,7 @@ module _ (r : Recording) (at latest : ℕ) (e : Entry) (first : Option ℕ) (is 
         (λ low. h.none p q order low late)
         (λ high. let last : q ≡ at = omega arith in not_late on_time p (omega arith) (subst (λ (n : ℕ). AreLate r p n) last late));
     sent = λ p x below there. dite (dec_lt p at)
-        (λ low. sent_later r x.tag.conn x.tag.index latest (max latest sent) (omega arith) (h.sent p x low there))
+        (λ low. sent_later r x latest (max latest sent) (omega arith) (h.sent p x low there))
         (λ high.
         let last : p ≡ at = omega arith in
         let both : Some e ≡ Some x = sym is ∙ ap (slice_get r.entries) (sym last) ∙ there in
@@ -67,14 +58,14 @@ module _ (r : Recording) (at latest : ℕ) (e : Entry) (first : Option ℕ) (is 
   late_here moment first_is below = record {
     e = e;
     is = is;
-    ended = (here.exact moment).1 (omega arith);
-    first = λ other ended. (here.exact other).0 ended;
+    ended = (here moment).1 (omega arith);
+    first = λ other ended. (here other).0 ended;
     unsent = h.unsent moment below;
     before = h.none;
   }
     where
-      here : IsEndedFrom r e.tag.conn e.tag.index (Some moment)
-      here = subst (IsEndedFrom r e.tag.conn e.tag.index) first_is ends
+      here : (n : ℕ) → IsEntryEnded r e n ↔ IsFrom (Some moment) n
+      here = subst (λ (o : Option ℕ). (n : ℕ) → IsEntryEnded r e n ↔ IsFrom o n) first_is ends
 
 -- the first entry for which it is late
 pub out_of_time : (r : Recording) (at moment first : ℕ) → IsLateAt r at moment → IsFirstUnsent r moment first → IsOutOfTime r at first
@@ -86,7 +77,7 @@ out_of_time r at moment first late unsent = record {
       let both : Some one.e ≡ Some late.e = sym one.is_last ∙ late.is in
       let same : one.e ≡ late.e = cc in
       let from = late.first one.late.moment (subst (λ (x : Entry). IsEntryEnded r x one.late.moment) same one.late.ended) in
-      one.late.unsent (sent_later r one.other.tag.conn one.other.tag.index moment one.late.moment from (unsent.before p one.other below one.is_first));
+      one.late.unsent (sent_later r one.other moment one.late.moment from (unsent.before p one.other below one.is_first));
 }
   where
     order : first < at

@@ -1,12 +1,14 @@
 pub mod FirstLemmas
 pub mod TrueLemmas
 pub mod RecordLemmas
+pub mod StreamLemmas
 pub mod CountLemmas
-pub mod LineLemmas
 pub mod SessionLemmas
-pub mod EndLemmas
+pub mod LineLemmas
+pub mod NumberLemmas
 pub mod SpanLemmas
 pub mod FitLemmas
+pub mod WalkLemmas
 pub mod InTimeLemmas
 pub mod LateLemmas
 pub mod JudgeLemmas

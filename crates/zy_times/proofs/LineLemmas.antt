@@ -1,232 +1,244 @@
--- The times of a connection, and of all connections, after one further record.
+-- The times of a session, of a connection, and of all connections, after one further record.
 use Rattle.std.specs.List.{slice_get, slice_set}
-use Rattle.std.proofs.Common.{◌≡◌, ℕ, zero, suc, ◌+◌, ◌<◌, ◌≤◌, ◌==◌, Bool, true, List, [], ◌∷◌, ◌++◌, length, take, get_or, replicate, Some, refl, sym, ap, ◌∙◌, subst, arith}
+use Rattle.std.proofs.Common.{◌≡◌, ℕ, ◌+◌, ◌<◌, Bool, List, [], ◌∷◌, ◌++◌, length, take, replicate, Some, refl, sym, ap, ◌∙◌, subst, arith}
 use Rattle.std.specs.Prelude.{if◌then◌else◌}
-use Rattle.std.proofs.lemmas.List.{append-nil, length-append, length-set, take_all, take-append-le, get_or_at}
-use Rattle.std.proofs.lemmas.Option.{slice_get_within}
+use Rattle.std.proofs.lemmas.List.{append-nil, length-append, length-map, length-set, take_all}
 use mathlib.Core.Logic.{dite}
-use native.Mathlib.Decide.{ℕ_discrete, dec_lt}
+use native.Mathlib.Decide.{ℕ_discrete}
 use Rattle.zy_base.proofs.SetLemmas.{slice_get-set, slice_get-set_other}
 use Rattle.zy_capture.specs.declared.record.Record.{Record}
 use Rattle.zy_capture.specs.declared.record.Record.TheVariants as Kinds
 use Rattle.zy_capture.specs.declared.record.Segment.{Segment}
-use Rattle.zy_capture.specs.Streams.{closes, last_grown}
+use Rattle.zy_capture.specs.Streams.{closes, stream}
+use Rattle.mc_parse.specs.declared.command.Command.{Command}
 use Rattle.zy_frame.specs.declared.frame_kind.FrameKind.{FrameKind}
-use Rattle.zy_frame.specs.Cut.{frames_of}
+use Rattle.zy_frame.specs.Frame.{command_of}
+use Rattle.zy_frame.specs.Cut.{commands_of, frames_of}
 use Rattle.zy_frame.specs.Feed.{Appends}
 use Rattle.zy_frame.specs.Progress.{StandsFor}
-use Rattle.zy_run.specs.Commands.{streams_in, commands_over}
-use Rattle.zy_run.specs.Output.{commands_before}
-use Rattle.zy_run.proofs.StreamLemmas.{length-streams_in}
 use Rattle.zy_input.specs.Parts.{conn_of}
-use Rattle.zy_check.proofs.ListLemmas.{get_append, get_behind}
 use Rattle.zy_times.specs.declared.line.Line.{Line}
 use Rattle.zy_times.specs.declared.session.Session.{Session}
 use Rattle.zy_times.specs.declared.times.Times.{Times}
 use Rattle.zy_times.specs.First.{AreRises}
 use Rattle.zy_times.specs.Times.{marks_in}
-use Rattle.zy_times.specs.Line.{SessionHolds, LineHolds, TimesHold}
-use Rattle.zy_times.proofs.CountLemmas.{counts_more, counts_same, counts_none, counts_never}
-use Rattle.zy_times.proofs.RecordLemmas.{streams_more, stream_is, front_of, open_of, grown_is, over_closed, length-front, closes_more, IsOfOther, is_same, step_other, closes_other, commands_count, commands_rise, commands_sent, commands_stay, commands_of_other, first_stays, mark_of, marks_more, marks_rise, mark_other, mark_close, mark_else, mark_bytes, mark_here, marks_past}
-
--- the marks of a session
-abbrev marks_count : ℕ → ℕ → List Record → ℕ
-marks_count conn session records = marks_in records conn session
+use Rattle.zy_times.specs.Line.{SessionHolds, BeginsNext, LineHolds, TimesHold}
+use Rattle.zy_times.proofs.CountLemmas.{counts_more, counts_same, counts_never}
+use Rattle.zy_times.proofs.FirstLemmas.{each_next}
+use Rattle.zy_times.proofs.RecordLemmas.{closes_more, IsOfOther, is_same, closes_other, mark_of, marks_more, marks_rise, mark_other, mark_close, mark_else, mark_bytes, mark_here, marks_past}
+use Rattle.zy_times.proofs.SessionLemmas.{count_of, marks_count, count_rises, no_commands}
+use Rattle.zy_times.proofs.StreamLemmas.{bytes_of, stream_more, stream_same, bytes_other, bytes_close, bytes_else, bytes_none, bytes_here, stream_past}
 
 -- ---- a session
 
-module _ (records : List Record) (r : Record) (conn session : ℕ) (s : Session) (begun : session ≤ closes conn records) (h : SessionHolds records conn session s) where
-  -- the record is no mark of it
-  pub session_same : mark_of (closes conn records) conn session r ≡ 0 → SessionHolds (records ++ r ∷ []) conn session s
-  session_same none = record {
-    first = h.first ∙ sym (first_stays records conn r session begun);
-    marks = counts_same (marks_count conn session) (λ rs x. marks_rise rs x conn session) records r s.marks.items (let more = marks_more records r conn session in omega (arith, more, none)) h.marks;
+module _ (records : List Record) (r : Record) (conn session : ℕ) (s : Session) (h : SessionHolds records conn session s) where
+  abbrev one_more : List Record
+  one_more = records ++ r ∷ []
+
+  same_marks : mark_of (closes conn records) conn session r ≡ 0 → AreRises (λ m. marks_in (take m one_more) conn session) (length one_more) s.marks.items
+  same_marks unmarked =
+      counts_same (marks_count conn session) (λ rs x. marks_rise rs x conn session) records r s.marks.items (let more = marks_more records r conn session in omega (arith, more, unmarked)) h.marks
+
+  -- the record has none of its bytes
+  module _ (none : bytes_of (closes conn records) conn session r ≡ []) where
+    same_sent : AreRises (λ m. count_of conn session (take m one_more)) (length one_more) s.sent.items
+    same_sent = counts_same (count_of conn session) (count_rises conn session) records r s.sent.items (ap (λ (b : List ℕ). length (commands_of b)) (stream_same records r conn session none)) h.sent
+
+    -- and is no mark of it
+    pub session_same : mark_of (closes conn records) conn session r ≡ 0 → SessionHolds one_more conn session s
+    session_same unmarked = record { sent = same_sent; marks = same_marks unmarked }
+
+    -- and is a mark of it
+    pub session_marked : (t : Session) → mark_of (closes conn records) conn session r ≡ 1 → t.sent ≡ s.sent → t.marks.items ≡ s.marks.items ++ (length records + 1) ∷ [] → SessionHolds one_more conn session t
+    session_marked t one sent more = record {
+      sent = subst (λ (v : _). AreRises (λ m. count_of conn session (take m one_more)) (length one_more) v.items) (sym sent) same_sent;
+      marks = subst (AreRises (λ m. marks_in (take m one_more) conn session) (length one_more)) (sym more)
+          (counts_more (marks_count conn session) (λ rs x. marks_rise rs x conn session) records r 1 s.marks.items
+          (let grown = marks_more records r conn session in omega (arith, grown, one)) h.marks);
+    }
+
+  -- it brought these frames
+  pub session_sent : (t : Session) (given : List FrameKind) → frames_of (stream conn session one_more) ≡ frames_of (stream conn session records) ++ given
+      → mark_of (closes conn records) conn session r ≡ 0 → t.sent.items ≡ s.sent.items ++ replicate (length given) (length records + 1) → t.marks ≡ s.marks → SessionHolds one_more conn session t
+  session_sent t given due unmarked sent marks = record {
+    sent = subst (AreRises (λ m. count_of conn session (take m one_more)) (length one_more)) (sym sent)
+        (counts_more (count_of conn session) (count_rises conn session) records r (length given) s.sent.items count_is h.sent);
+    marks = subst (λ (v : _). AreRises (λ m. marks_in (take m one_more) conn session) (length one_more) v.items) (sym marks) (same_marks unmarked);
   }
+    where
+      count_is : count_of conn session one_more ≡ count_of conn session records + length given
+      count_is =
+          let long = ap (λ (l : List FrameKind). length l) due ∙ length-append (frames_of (stream conn session records)) given in
+          let new = length-map (frames_of (stream conn session one_more)) command_of in
+          let old = length-map (frames_of (stream conn session records)) command_of in
+          omega (arith, long, new, old)
 
-  -- the record is one
-  pub session_marked : (t : Session) → mark_of (closes conn records) conn session r ≡ 1 → t.first ≡ s.first → t.marks.items ≡ s.marks.items ++ (length records + 1) ∷ [] → SessionHolds (records ++ r ∷ []) conn session t
-  session_marked t one first more = record {
-    first = first ∙ h.first ∙ sym (first_stays records conn r session begun);
-    marks = subst (AreRises (λ m. marks_in (take m (records ++ r ∷ [])) conn session) (length (records ++ r ∷ []))) (sym more)
-        (counts_more (marks_count conn session) (λ rs x. marks_rise rs x conn session) records r 1 s.marks.items (let grown = marks_more records r conn session in omega (arith, grown, one)) h.marks);
-  }
-
--- ---- the open session
-
--- its stream after a segment
-open_grown : (records : List Record) (s : Segment) → open_of (records ++ Kinds.Segment s ∷ []) s.conn ≡ open_of records s.conn ++ s.bytes
-open_grown records s =
-    let conn = s.conn in
-    let is : (s.conn == conn) ≡ true = is_same s.conn conn refl in
-    let still : closes conn (records ++ Kinds.Segment s ∷ []) ≡ closes conn records = let more = closes_more conn records (Kinds.Segment s) in omega (arith, more) in
-    let streams : streams_in (records ++ Kinds.Segment s ∷ []) conn ≡ last_grown (streams_in records conn) s.bytes = streams_more records (Kinds.Segment s) conn ∙ ap (λ (b : Bool). if b then last_grown (streams_in records conn) s.bytes else streams_in records conn) is in
-    stream_is (records ++ Kinds.Segment s ∷ []) conn (closes conn (records ++ Kinds.Segment s ∷ []))
-    ∙ (λ i. get_or (streams i) (still i) []) ∙ ap (λ (l : List (List ℕ)). get_or l (closes conn records) []) (grown_is records conn s.bytes)
-    ∙ get_or_at (front_of records conn) (open_of records conn ++ s.bytes) [] [] (closes conn records) (length-front records conn)
-
--- its stream after a record of another connection
-open_other : (records : List Record) (r : Record) (conn : ℕ) → IsOfOther conn r → open_of (records ++ r ∷ []) conn ≡ open_of records conn
-open_other records r conn other =
-    let still : closes conn (records ++ r ∷ []) ≡ closes conn records = let more = closes_more conn records r in let none = closes_other conn r other in omega (arith, more, none) in
-    let streams : streams_in (records ++ r ∷ []) conn ≡ streams_in records conn = streams_more records r conn ∙ step_other conn r (streams_in records conn) other in
-    stream_is (records ++ r ∷ []) conn (closes conn (records ++ r ∷ [])) ∙ (λ i. get_or (streams i) (still i) []) ∙ sym (stream_is records conn (closes conn records))
-
--- ---- the lines
-
--- nothing came yet
-pub line_none : (conn : ℕ) (line : Line) → StandsFor line.framer [] → line.sent.items ≡ [] → (s : Session) → line.sessions.items ≡ s ∷ [] → s.first ≡ 0 → s.marks.items ≡ [] → LineHolds [] conn line
-line_none conn line framer sent s sessions first marks = record {
-  count = ap (λ (l : List Session). length l) sessions;
-  framer = framer;
-  sent = subst (AreRises (λ m. commands_count conn (take m [])) 0) (sym sent) (counts_none (commands_count conn) no_commands_yet);
-  sessions = λ session t is. of_first session t (ap (λ (l : List Session). slice_get l session) (sym sessions) ∙ is);
+-- a session that has just begun
+session_none : (records : List Record) (conn session : ℕ) (s : Session) → stream conn session records ≡ [] → marks_in records conn session ≡ 0 → s.sent.items ≡ [] → s.marks.items ≡ [] → SessionHolds records conn session s
+session_none records conn session s none unmarked sent marks = record {
+  sent = subst (AreRises (λ m. count_of conn session (take m records)) (length records)) (sym sent)
+      (counts_never (count_of conn session) records (ap (count_of conn session) whole ∙ ap (λ (b : List ℕ). length (commands_of b)) none ∙ ap (λ (l : List Command). length l) no_commands));
+  marks = subst (AreRises (λ m. marks_in (take m records) conn session) (length records)) (sym marks)
+      (counts_never (marks_count conn session) records (ap (marks_count conn session) whole ∙ unmarked));
 }
   where
-    no_commands_yet : commands_count conn [] ≡ 0
-    no_commands_yet = over_closed []
+    whole : take (length records) records ≡ records
+    whole = take_all (length records) records (omega arith)
 
-    of_first : (session : ℕ) (t : Session) → slice_get (s ∷ []) session ≡ Some t → SessionHolds [] conn session t
-    of_first zero t is =
-        let same : s ≡ t = cc in
-        record {
-          first = ap (λ (x : Session). x.first) (sym same) ∙ first;
-          marks = subst (AreRises (λ m. marks_in (take m []) conn 0) 0) (sym (ap (λ (x : Session). x.marks.items) (sym same) ∙ marks)) (counts_none (marks_count conn 0) refl);
-        }
-    of_first (suc session) t is = absurd (cc)
+-- ---- a line
 
--- a record of another connection
-pub line_other : (records : List Record) (r : Record) (conn : ℕ) (line : Line) → IsOfOther conn r → LineHolds records conn line → LineHolds (records ++ r ∷ []) conn line
-line_other records r conn line other h = record {
-  count = let more = closes_more conn records r in let none = closes_other conn r other in let count = h.count in omega (arith, more, none, count);
-  framer = subst (StandsFor line.framer) (sym (open_other records r conn other)) h.framer;
-  sent = counts_same (commands_count conn) (λ rs x. commands_rise rs conn x) records r line.sent.items (commands_of_other records conn r other) h.sent;
-  sessions = λ session s is.
-      let below = slice_get_within line.sessions.items session s is in
-      let count = h.count in
-      session_same records r conn session s (omega (arith, below, count)) (h.sessions session s is) (mark_other (closes conn records) conn session r other);
+-- the stream of the open session
+abbrev open_of : List Record → ℕ → List ℕ
+open_of records conn = stream conn (closes conn records) records
+
+-- the sessions that were, and one that began
+each_begun : (records : List Record) (conn : ℕ) (old new : List Session) → BeginsNext old new
+    → ((session : ℕ) (s : Session) → slice_get old session ≡ Some s → SessionHolds records conn session s)
+    → stream conn (length old) records ≡ [] → marks_in records conn (length old) ≡ 0
+    → (session : ℕ) (s : Session) → slice_get new session ≡ Some s → SessionHolds records conn session s
+each_begun records conn old new begun each none unmarked session s is =
+    each_next (SessionHolds records conn) old begun.session each (session_none records conn (length old) begun.session none unmarked begun.sent begun.marks) session s
+    (ap (λ (l : List Session). slice_get l session) (sym begun.appended) ∙ is)
+
+-- nothing came yet
+pub line_none : (conn : ℕ) (line : Line) → StandsFor line.framer [] → BeginsNext [] line.sessions.items → LineHolds [] conn line
+line_none conn line framer begun = record {
+  count = ap (λ (l : List Session). length l) begun.appended;
+  framer = framer;
+  sessions = each_begun [] conn [] line.sessions.items begun (λ session s is. absurd (cc)) refl refl;
 }
 
+-- a record of another connection
+line_other : (records : List Record) (r : Record) (conn : ℕ) (line : Line) → IsOfOther conn r → LineHolds records conn line → LineHolds (records ++ r ∷ []) conn line
+line_other records r conn line other h = record {
+  count = let count = h.count in omega (arith, still, count);
+  framer = subst (StandsFor line.framer) (sym open_same) h.framer;
+  sessions = λ session s is. session_same records r conn session s (h.sessions session s is)
+      (bytes_other (closes conn records) conn session r other) (mark_other (closes conn records) conn session r other);
+}
+  where
+    still : closes conn (records ++ r ∷ []) ≡ closes conn records
+    still = let more = closes_more conn records r in let none = closes_other conn r other in omega (arith, more, none)
+
+    open_same : open_of (records ++ r ∷ []) conn ≡ open_of records conn
+    open_same = ap (λ (n : ℕ). stream conn n (records ++ r ∷ [])) still
+        ∙ stream_same records r conn (closes conn records) (bytes_other (closes conn records) conn (closes conn records) r other)
+
 module _ (records : List Record) (s : Segment) (old new : Line) (h : LineHolds records s.conn old) where
-  still_closed : closes s.conn (records ++ Kinds.Segment s ∷ []) ≡ closes s.conn records
+  abbrev now_closed : ℕ
+  now_closed = closes s.conn records
+
+  abbrev with_segment : List Record
+  with_segment = records ++ Kinds.Segment s ∷ []
+
+  still_closed : closes s.conn with_segment ≡ closes s.conn records
   still_closed = let more = closes_more s.conn records (Kinds.Segment s) in omega (arith, more)
 
-  -- a segment with bytes
-  pub line_sent : (given : List FrameKind) → (s.bytes ≡ [] → ⊥) → StandsFor new.framer (open_of records s.conn ++ s.bytes) → frames_of (open_of records s.conn ++ s.bytes) ≡ frames_of (open_of records s.conn) ++ given
-      → new.sent.items ≡ old.sent.items ++ replicate (length given) (length records + 1) → new.sessions ≡ old.sessions → LineHolds (records ++ Kinds.Segment s ∷ []) s.conn new
-  line_sent given some framer due sent sessions = record {
-    count = let same = still_closed in let count = h.count in let long = ap (λ (v : _). length v.items) sessions in omega (arith, same, count, long);
-    framer = subst (StandsFor new.framer) (sym (open_grown records s)) framer;
-    sent = subst (AreRises (λ m. commands_count s.conn (take m (records ++ Kinds.Segment s ∷ []))) (length (records ++ Kinds.Segment s ∷ []))) (sym sent)
-        (counts_more (commands_count s.conn) (λ rs x. commands_rise rs s.conn x) records (Kinds.Segment s) (length given) old.sent.items (commands_sent records s.conn s given refl due) h.sent);
-    sessions = λ session t is.
-        let there : slice_get old.sessions.items session ≡ Some t = ap (λ (v : _). slice_get v.items session) (sym sessions) ∙ is in
-        let below = slice_get_within old.sessions.items session t there in
+  here_grown : stream s.conn now_closed with_segment ≡ open_of records s.conn ++ s.bytes
+  here_grown = stream_more records (Kinds.Segment s) s.conn now_closed
+      ∙ ap (λ (l : List ℕ). open_of records s.conn ++ l) (bytes_here now_closed s.conn now_closed s refl refl)
+
+  open_grown : open_of with_segment s.conn ≡ open_of records s.conn ++ s.bytes
+  open_grown = ap (λ (n : ℕ). stream s.conn n with_segment) still_closed ∙ here_grown
+
+  -- the last session has changed
+  line_set : (k : ℕ) (last t : Session) → k + 1 ≡ length old.sessions.items → slice_get old.sessions.items k ≡ Some last → new.sessions.items ≡ slice_set old.sessions.items k t
+      → StandsFor new.framer (open_of records s.conn ++ s.bytes) → (SessionHolds records s.conn now_closed last → SessionHolds with_segment s.conn now_closed t) → LineHolds with_segment s.conn new
+  line_set k last t at is sessions framer holds = record {
+    count =
+        let same = still_closed in
         let count = h.count in
-        session_same records (Kinds.Segment s) s.conn session t (omega (arith, below, count)) (h.sessions session t there) (mark_bytes (closes s.conn records) s.conn session s some);
+        let long = ap (λ (l : List Session). length l) sessions ∙ length-set old.sessions.items k t in
+        omega (arith, same, count, long);
+    framer = subst (StandsFor new.framer) (sym open_grown) framer;
+    sessions = λ session u there.
+        let count = h.count in
+        let last_is : k ≡ now_closed = omega (arith, at, count) in
+        let got : slice_get (slice_set old.sessions.items k t) session ≡ Some u = ap (λ (l : List Session). slice_get l session) (sym sessions) ∙ there in
+        dite (ℕ_discrete session k)
+        (λ same.
+        let both : Some t ≡ Some u = sym (slice_get-set old.sessions.items k t (omega (arith, at))) ∙ (λ i. slice_get (slice_set old.sessions.items k t) (sym same i)) ∙ got in
+        let here : t ≡ u = cc in
+        let place : now_closed ≡ session = omega (arith, same, last_is) in
+        subst (λ (n : ℕ). SessionHolds with_segment s.conn n u) place
+        (subst (SessionHolds with_segment s.conn now_closed) here
+        (holds (subst (λ (n : ℕ). SessionHolds records s.conn n last) last_is (h.sessions k last is)))))
+        (λ other.
+        let back : slice_get old.sessions.items session ≡ Some u = sym (slice_get-set_other old.sessions.items k session t other) ∙ got in
+        let differs : now_closed ≡ session → ⊥ = λ (now : now_closed ≡ session). other (omega (arith, now, last_is)) in
+        session_same records (Kinds.Segment s) s.conn session u (h.sessions session u back)
+        (bytes_else now_closed s.conn session s differs) (mark_else now_closed s.conn session s differs));
   }
 
+  -- a segment with bytes
+  line_sent : (k : ℕ) (last t : Session) (given : List FrameKind) → (s.bytes ≡ [] → ⊥) → k + 1 ≡ length old.sessions.items → slice_get old.sessions.items k ≡ Some last → new.sessions.items ≡ slice_set old.sessions.items k t
+      → StandsFor new.framer (open_of records s.conn ++ s.bytes) → frames_of (open_of records s.conn ++ s.bytes) ≡ frames_of (open_of records s.conn) ++ given
+      → t.sent.items ≡ last.sent.items ++ replicate (length given) (length records + 1) → t.marks ≡ last.marks → LineHolds with_segment s.conn new
+  line_sent k last t given some at is sessions framer due sent marks = line_set k last t at is sessions framer
+      (λ holds. session_sent records (Kinds.Segment s) s.conn now_closed last holds t given (ap frames_of here_grown ∙ due) (mark_bytes now_closed s.conn now_closed s some) sent marks)
+
   -- the same, as a framer was fed
-  pub line_fed : (piece : List ℕ) (before after : List FrameKind) (number moment : ℕ) → piece ≡ s.bytes → (s.bytes ≡ [] → ⊥) → ((fed : List ℕ) → StandsFor old.framer fed → StandsFor new.framer (fed ++ piece)) → ((fed : List ℕ) → StandsFor old.framer fed → Appends fed piece before after)
-      → before ≡ [] → number ≡ length after → moment ≡ length records + 1 → new.sent.items ≡ old.sent.items ++ replicate number moment → new.sessions ≡ old.sessions → LineHolds (records ++ Kinds.Segment s ∷ []) s.conn new
-  line_fed piece before after number moment is some fed due empty count now sent sessions =
+  pub line_fed : (k : ℕ) (last t : Session) (before after : List FrameKind) (number moment : ℕ) → (s.bytes ≡ [] → ⊥) → k + 1 ≡ length old.sessions.items → slice_get old.sessions.items k ≡ Some last → new.sessions.items ≡ slice_set old.sessions.items k t
+      → ((fed : List ℕ) → StandsFor old.framer fed → StandsFor new.framer (fed ++ s.bytes)) → ((fed : List ℕ) → StandsFor old.framer fed → Appends fed s.bytes before after) → before ≡ [] → number ≡ length after
+      → moment ≡ length records + 1 → t.sent.items ≡ last.sent.items ++ replicate number moment → t.marks ≡ last.marks → LineHolds with_segment s.conn new
+  line_fed k last t before after number moment some at is sessions fed due empty count now sent marks =
       let appends = due (open_of records s.conn) h.framer in
       let long = ap (λ (l : List FrameKind). length l) appends.appended ∙ length-append before appends.given in
       let none = ap (λ (l : List FrameKind). length l) empty in
       let number_is : number ≡ length appends.given = omega (arith, long, none, count) in
-      line_sent appends.given some (subst (λ (l : List ℕ). StandsFor new.framer (open_of records s.conn ++ l)) is (fed (open_of records s.conn) h.framer))
-      (subst (λ (l : List ℕ). frames_of (open_of records s.conn ++ l) ≡ frames_of (open_of records s.conn) ++ appends.given) is appends.due)
-      (sent ∙ (λ i. old.sent.items ++ replicate (number_is i) (now i))) sessions
+      line_sent k last t appends.given some at is sessions (fed (open_of records s.conn) h.framer) appends.due (sent ∙ (λ i. last.sent.items ++ replicate (number_is i) (now i))) marks
 
   -- a mark
-  pub line_marked : (last : Session) → s.bytes ≡ [] → new.framer ≡ old.framer → new.sent ≡ old.sent → (k : ℕ) → k + 1 ≡ length old.sessions.items → (t : Session) → slice_get old.sessions.items k ≡ Some last → new.sessions.items ≡ slice_set old.sessions.items k t
-      → t.first ≡ last.first → t.marks.items ≡ last.marks.items ++ (length records + 1) ∷ [] → LineHolds (records ++ Kinds.Segment s ∷ []) s.conn new
-  line_marked last none framer sent k at t is sessions first marks = record {
-    count = let same = still_closed in let count = h.count in let long = ap (λ (l : List Session). length l) sessions ∙ length-set old.sessions.items k t in omega (arith, same, count, long);
-    framer = subst (StandsFor new.framer) (sym (open_grown records s ∙ ap (λ (l : List ℕ). open_of records s.conn ++ l) none ∙ append-nil (open_of records s.conn))) (subst (λ (f : _). StandsFor f (open_of records s.conn)) (sym framer) h.framer);
-    sent = counts_same (commands_count s.conn) (λ rs x. commands_rise rs s.conn x) records (Kinds.Segment s) new.sent.items (commands_stay records s.conn (Kinds.Segment s) none) (subst (λ (v : _). AreRises (λ m. commands_count s.conn (take m records)) (length records) v.items) (sym sent) h.sent);
-    sessions = λ session u there.
-        let count = h.count in
-        let got : slice_get (slice_set old.sessions.items k t) session ≡ Some u = ap (λ (l : List Session). slice_get l session) (sym sessions) ∙ there in
-        dite (ℕ_discrete session k)
-        (λ same.
-        let both : Some t ≡ Some u = sym (slice_get-set old.sessions.items k t (omega arith)) ∙ (λ i. slice_get (slice_set old.sessions.items k t) (sym same i)) ∙ got in
-        let here : t ≡ u = cc in
-        subst (λ (n : ℕ). SessionHolds (records ++ Kinds.Segment s ∷ []) s.conn n u) (sym same)
-        (subst (SessionHolds (records ++ Kinds.Segment s ∷ []) s.conn k) here
-        (session_marked records (Kinds.Segment s) s.conn k last (omega (arith, at, count)) (h.sessions k last is) t (mark_here (closes s.conn records) s.conn k s refl (omega (arith, at, count)) none) first marks)))
-        (λ other.
-        let back : slice_get old.sessions.items session ≡ Some u = sym (slice_get-set_other old.sessions.items k session t other) ∙ got in
-        let below = slice_get_within old.sessions.items session u back in
-        session_same records (Kinds.Segment s) s.conn session u (omega (arith, below, count)) (h.sessions session u back) (mark_else (closes s.conn records) s.conn session s (λ now. other (omega (arith, now, at, count)))));
-  }
+  pub line_marked : (k : ℕ) (last t : Session) → s.bytes ≡ [] → k + 1 ≡ length old.sessions.items → slice_get old.sessions.items k ≡ Some last → new.sessions.items ≡ slice_set old.sessions.items k t
+      → new.framer ≡ old.framer → t.sent ≡ last.sent → t.marks.items ≡ last.marks.items ++ (length records + 1) ∷ [] → LineHolds with_segment s.conn new
+  line_marked k last t none at is sessions framer sent marks = line_set k last t at is sessions stands
+      (λ holds. session_marked records (Kinds.Segment s) s.conn now_closed last holds (bytes_none now_closed s.conn now_closed s none) t
+      (mark_here now_closed s.conn now_closed s refl refl none) sent marks)
+    where
+      stands : StandsFor new.framer (open_of records s.conn ++ s.bytes)
+      stands = subst (StandsFor new.framer) (sym (ap (λ (l : List ℕ). open_of records s.conn ++ l) none ∙ append-nil (open_of records s.conn)))
+          (subst (λ (f : _). StandsFor f (open_of records s.conn)) (sym framer) h.framer)
 
 -- a close record
-pub line_closed : (records : List Record) (conn : ℕ) (old new : Line) → LineHolds records conn old → StandsFor new.framer [] → new.sent ≡ old.sent → (t : Session) → new.sessions.items ≡ old.sessions.items ++ t ∷ [] → t.first ≡ length old.sent.items → t.marks.items ≡ []
+abbrev with_close : List Record → ℕ → List Record
+with_close records conn = records ++ Kinds.Close conn ∷ []
+
+pub line_closed : (records : List Record) (conn : ℕ) (old new : Line) → LineHolds records conn old → StandsFor new.framer [] → BeginsNext old.sessions.items new.sessions.items
     → LineHolds (records ++ Kinds.Close conn ∷ []) conn new
-line_closed records conn old new h framer sent t sessions first marks = record {
-  count = let one = closed_one in let count = h.count in let long = ap (λ (l : List Session). length l) sessions ∙ length-append old.sessions.items (t ∷ []) in omega (arith, one, count, long);
+line_closed records conn old new h framer begun = record {
+  count =
+      let count = h.count in
+      let long = ap (λ (l : List Session). length l) begun.appended ∙ length-append old.sessions.items (begun.session ∷ []) in
+      omega (arith, closed_one, count, long);
   framer = subst (StandsFor new.framer) (sym open_none) framer;
-  sent = counts_same (commands_count conn) (λ rs x. commands_rise rs conn x) records (Kinds.Close conn) new.sent.items (commands_stay records conn (Kinds.Close conn) tt) (subst (λ (v : _). AreRises (λ m. commands_count conn (take m records)) (length records) v.items) (sym sent) h.sent);
-  sessions = λ session u there. each session u (ap (λ (l : List Session). slice_get l session) (sym sessions) ∙ there);
+  sessions = each_begun (with_close records conn) conn old.sessions.items new.sessions.items begun
+      (λ session s is. session_same records (Kinds.Close conn) conn session s (h.sessions session s is)
+      (bytes_close (closes conn records) conn session conn) (mark_close (closes conn records) conn session conn))
+      (ap (λ (n : ℕ). stream conn n (with_close records conn)) size ∙ none_at) (ap (marks_in (with_close records conn) conn) size ∙ unmarked);
 }
   where
-    closed_one : closes conn (records ++ Kinds.Close conn ∷ []) ≡ closes conn records + 1
+    closed_one : closes conn (with_close records conn) ≡ closes conn records + 1
     closed_one =
         let more = closes_more conn records (Kinds.Close conn) in
         let one : closes conn (Kinds.Close conn ∷ []) ≡ 1 = ap (λ (b : Bool). if b then closes conn [] + 1 else closes conn []) (is_same conn conn refl) in
         omega (arith, more, one)
 
-    streams_are : streams_in (records ++ Kinds.Close conn ∷ []) conn ≡ streams_in records conn ++ [] ∷ []
-    streams_are = streams_more records (Kinds.Close conn) conn ∙ ap (λ (b : Bool). if b then streams_in records conn ++ [] ∷ [] else streams_in records conn) (is_same conn conn refl)
+    size : length old.sessions.items ≡ closes conn records + 1
+    size = h.count
 
-    open_none : open_of (records ++ Kinds.Close conn ∷ []) conn ≡ []
-    open_none =
-        let size = length-streams_in records conn in
-        stream_is (records ++ Kinds.Close conn ∷ []) conn (closes conn (records ++ Kinds.Close conn ∷ [])) ∙ (λ i. get_or (streams_are i) (closed_one i) [])
-        ∙ get_or_at (streams_in records conn) [] [] [] (closes conn records + 1) size
+    none_at : stream conn (closes conn records + 1) (with_close records conn) ≡ []
+    none_at = stream_same records (Kinds.Close conn) conn (closes conn records + 1) (bytes_close (closes conn records) conn (closes conn records + 1) conn)
+        ∙ stream_past records 0 conn (closes conn records + 1) (omega arith)
 
-    last_first : t.first ≡ commands_before (closes conn records + 1) (streams_in (records ++ Kinds.Close conn ∷ []) conn)
-    last_first =
-        let size = length-streams_in records conn in
-        let all = h.sent.size in
-        let whole = ap (commands_count conn) (take_all (length records) records (omega arith)) in
-        first ∙ all ∙ whole ∙ sym (ap (commands_before (closes conn records + 1)) streams_are
-        ∙ ap (λ (l : List (List ℕ)). length (commands_over l)) (take-append-le (closes conn records + 1) (streams_in records conn) ([] ∷ []) (omega (arith, size)) ∙ take_all (closes conn records + 1) (streams_in records conn) (omega (arith, size))))
+    open_none : open_of (with_close records conn) conn ≡ []
+    open_none = ap (λ (n : ℕ). stream conn n (with_close records conn)) closed_one ∙ none_at
 
-    each : (session : ℕ) (u : Session) → slice_get (old.sessions.items ++ t ∷ []) session ≡ Some u → SessionHolds (records ++ Kinds.Close conn ∷ []) conn session u
-    each session u there = dite (dec_lt session (length old.sessions.items))
-        (λ low.
-        let count = h.count in
-        session_same records (Kinds.Close conn) conn session u (omega (arith, low, count)) (h.sessions session u (sym (get_append old.sessions.items (t ∷ []) session low) ∙ there)) (mark_close (closes conn records) conn session conn))
-        (λ high.
-        let count = h.count in
-        let below = slice_get_within (old.sessions.items ++ t ∷ []) session u there in
-        let long = length-append old.sessions.items (t ∷ []) in
-        let at : session ≡ length old.sessions.items + 0 = omega (arith, below, long, high) in
-        let last : session ≡ closes conn records + 1 = omega (arith, below, long, high, count) in
-        let both : Some t ≡ Some u = sym (get_behind old.sessions.items (t ∷ []) 0) ∙ ap (slice_get (old.sessions.items ++ t ∷ [])) (sym at) ∙ there in
-        let here : t ≡ u = cc in
-        let none : marks_in (records ++ Kinds.Close conn ∷ []) conn session ≡ 0 =
-        let more = marks_more records (Kinds.Close conn) conn session in
-        let own = mark_close (closes conn records) conn session conn in
-        let past = marks_past records 0 conn session (omega (arith, last)) in
-        omega (arith, more, own, past) in
-        record {
-          first = ap (λ (x : Session). x.first) (sym here) ∙ last_first ∙ ap (λ (n : ℕ). commands_before n (streams_in (records ++ Kinds.Close conn ∷ []) conn)) (sym last);
-          marks = subst (AreRises (λ m. marks_in (take m (records ++ Kinds.Close conn ∷ [])) conn session) (length (records ++ Kinds.Close conn ∷ []))) (sym (ap (λ (x : Session). x.marks.items) (sym here) ∙ marks))
-              (counts_never (marks_count conn session) (records ++ Kinds.Close conn ∷ []) (ap (marks_count conn session) (take_all (length (records ++ Kinds.Close conn ∷ [])) (records ++ Kinds.Close conn ∷ []) (omega arith)) ∙ none));
-        })
-
--- each command of the connection was sent
-pub sent_long : (records : List Record) (conn : ℕ) (line : Line) → LineHolds records conn line → length line.sent.items ≡ commands_count conn records
-sent_long records conn line h = h.sent.size ∙ ap (commands_count conn) (take_all (length records) records (omega arith))
-
--- behind the last session all commands of the connection were sent
-pub all_first : (records : List Record) (conn : ℕ) (line : Line) → LineHolds records conn line → (session : ℕ) → closes conn records + 1 ≤ session → length line.sent.items ≡ commands_before session (streams_in records conn)
-all_first records conn line h session past =
-    let size = length-streams_in records conn in
-    h.sent.size ∙ ap (commands_count conn) (take_all (length records) records (omega arith))
-    ∙ sym (ap (λ (l : List (List ℕ)). length (commands_over l)) (take_all session (streams_in records conn) (omega (arith, size, past))))
+    unmarked : marks_in (with_close records conn) conn (closes conn records + 1) ≡ 0
+    unmarked =
+        let more = marks_more records (Kinds.Close conn) conn (closes conn records + 1) in
+        let own = mark_close (closes conn records) conn (closes conn records + 1) conn in
+        let past = marks_past records 0 conn (closes conn records + 1) (omega arith) in
+        omega (arith, more, own, past)
 
 -- ---- all connections
 

@@ -5,19 +5,24 @@ use Rattle.std.specs.Prelude.{◌≡◌, ◌↔◌, ℕ, zero, suc, ◌+◌, ◌
 use Rattle.std.specs.List.{slice_get}
 use Rattle.mc_calls.specs.declared.entry.Entry.{Entry}
 use Rattle.zy_run.specs.Commands.{commands_in}
-use Rattle.zy_times.specs.Times.{Recording, IsSent, IsEnded, FitAt, MarksFit, trues}
+use Rattle.zy_times.specs.Recording.{Recording, Numbered, numbered_of, IsSent, IsEnded, FitAt, MarksFit}
+use Rattle.zy_times.specs.Times.{trues}
 use Rattle.zy_times.specs.declared.timing.Timing.{Timing}
 use Rattle.zy_times.specs.declared.timing.Timing.TheVariants.{InTime, EarlyEnd, OutOfTime}
 
 -- ---- entries
 
+-- the session and number of an entry's command
+abbrev pub numbered_entry : Recording → Entry → Numbered
+numbered_entry r e = numbered_of r e.tag.conn e.tag.index
+
 -- the command of an entry is sent at a moment
 abbrev pub IsEntrySent : Recording → Entry → ℕ → Type 0
-IsEntrySent r e moment = IsSent r e.tag.conn e.tag.index moment
+IsEntrySent r e moment = IsSent r e.tag.conn (numbered_entry r e) moment
 
 -- the command of an entry is ended at a moment
 abbrev pub IsEntryEnded : Recording → Entry → ℕ → Type 0
-IsEntryEnded r e moment = IsEnded r e.tag.conn e.tag.index moment
+IsEntryEnded r e moment = IsEnded r e.tag.conn (numbered_entry r e) moment
 
 -- the command of each entry is one of its connection's
 abbrev pub AreOfCommands : Recording → Type 0
@@ -84,7 +89,7 @@ commands_of_all r count = total_below (λ conn. length (commands_in r.records co
 pub record AreEndedFlags (r : Recording) (conn : ℕ) (flags : List Bool) : Type 0 where
   pub size : length flags ≡ length (commands_in r.records conn)
   pub each : (index : ℕ) (flag : Bool) → slice_get flags index ≡ Some flag
-      → (flag ≡ true ↔ IsEnded r conn index (length r.records))
+      → (flag ≡ true ↔ IsEnded r conn (numbered_of r conn index) (length r.records))
 
 -- some mark ends this number of commands of the first `count` connections
 pub record EndedOfAll (r : Recording) (count number : ℕ) : Type 0 where

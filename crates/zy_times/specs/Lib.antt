@@ -1,8 +1,9 @@
 pub mod First
 pub mod Times
+pub mod Sessions
+pub mod Recording
 pub mod InTime
 pub mod Line
 pub mod Fitting
-pub mod Ending
+pub mod Spans
 pub mod Recorded
-pub mod Sessions

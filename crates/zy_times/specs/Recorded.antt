@@ -2,31 +2,32 @@
 use Rattle.std.specs.Prelude.{◌≡◌, ℕ, ◌<◌, ◌≤◌, Bool, List, length, Option, None, Some}
 use Rattle.std.specs.List.{slice_get}
 use Rattle.mc_calls.specs.declared.entry.Entry.{Entry}
+use Rattle.mc_calls.specs.Order.{of_connection}
+use Rattle.zy_run.specs.Commands.{commands_in}
+use Rattle.zy_check.specs.Answered.{answered_by}
 use Rattle.zy_times.specs.declared.late.Late.{Late}
-use Rattle.zy_times.specs.declared.spans.Spans.{Spans}
 use Rattle.zy_times.specs.declared.times.Times.{Times}
 use Rattle.zy_times.specs.declared.timing.Timing.{Timing}
 use Rattle.zy_times.specs.declared.timing.Timing.TheVariants.{InTime}
-use Rattle.zy_times.specs.Times.{Recording, answered_in}
+use Rattle.zy_times.specs.Recording.{Recording}
 use Rattle.zy_times.specs.InTime.{IsEntrySent, IsEntryEnded, AreOfCommands, AreLate, commands_of_all, EndedOfAll}
 use Rattle.zy_times.specs.Line.{TimesHold}
-use Rattle.zy_times.specs.Ending.{AreEnds}
+use Rattle.zy_times.specs.Times.{marks_in}
+
+-- which of a connection's commands are answered, of all its sessions
+abbrev pub flags_in : Recording → ℕ → List Bool
+flags_in r conn = answered_by (commands_in r.records conn) (of_connection conn r.entries)
 
 -- these are the times of a recording's records, and this is which of its commands are answered
 pub record IsKept (r : Recording) (count : ℕ) (times : Times) (answered : List (List Bool)) : Type 0 where
   pub times_hold : TimesHold times count r.records
   pub size : length answered ≡ count
-  pub flags : (conn : ℕ) (fs : List Bool) → slice_get answered conn ≡ Some fs → fs ≡ answered_in r conn
+  pub flags : (conn : ℕ) (fs : List Bool) → slice_get answered conn ≡ Some fs → fs ≡ flags_in r conn
 
 -- each entry is of one of the commands of `count` connections
 pub record IsOfRun (r : Recording) (count : ℕ) : Type 0 where
   pub connections : (p : ℕ) (e : Entry) → slice_get r.entries p ≡ Some e → e.tag.conn < count
   pub commands : AreOfCommands r
-
--- the same, and these are the times of the records
-pub record HasLines (r : Recording) (count : ℕ) (times : Times) : Type 0 where
-  pub times_hold : TimesHold times count r.records
-  pub of_run : IsOfRun r count
 
 -- the recording, its times, its answered commands and its entries belong together
 pub record IsRecorded (r : Recording) (count : ℕ) (times : Times) (answered : List (List Bool)) (entries : List Entry)
@@ -35,10 +36,9 @@ pub record IsRecorded (r : Recording) (count : ℕ) (times : Times) (answered : 
   pub of_run : IsOfRun r count
   pub entries_are : r.entries ≡ entries
 
--- for each command of `count` connections, the first moment at which it had ended, if it ever had
-pub record AreSpans (r : Recording) (count : ℕ) (spans : Spans) : Type 0 where
-  pub size : length spans.ends.items ≡ count
-  pub each : (conn : ℕ) (ends : _) → slice_get spans.ends.items conn ≡ Some ends → AreEnds r conn ends.items
+-- no mark is of another connection than the first `count`
+abbrev pub OthersHaveNoMarks : Recording → ℕ → Type 0
+OthersHaveNoMarks r count = (conn session : ℕ) → count ≤ conn → marks_in r.records conn session ≡ 0
 
 -- the numbers of commands, and of those that some mark ends
 abbrev pub HasNumbers : Recording → ℕ → Timing → Type 0

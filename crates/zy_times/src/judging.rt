@@ -1,11 +1,12 @@
 //! Checking whether a journal fits the times of a recording.
-ghost use Rattle.std.specs.Prelude.{◌≡◌, ◌<◌, ℕ, length, IfOk};
-ghost use Rattle.zy_times.specs.Times.{Recording};
+ghost use Rattle.std.specs.Prelude.{◌≡◌, ℕ, IfOk};
+ghost use Rattle.zy_times.specs.Recording.{Recording};
 ghost use Rattle.zy_times.specs.InTime.{HasTiming};
-ghost use Rattle.zy_times.specs.Recorded.{IsRecorded};
+ghost use Rattle.zy_times.specs.Recorded.{IsRecorded, IsOfRun, OthersHaveNoMarks};
+ghost use Rattle.zy_times.specs.Spans.{AreSpans};
 
 use crate::late::{Late, first_late, first_unsent};
-use crate::spans::{find_spans, first_unfit_of_all};
+use crate::spans::{Spans, find_spans};
 use crate::times::Times;
 use crate::timing::Timing;
 use std::alloc::Global;
@@ -24,18 +25,28 @@ pub fn judge(
     ensures timing { IfOk result (λ timing. (r : Recording) (count : ℕ)
         → IsRecorded r count times.now answered.now journal.now.entries → HasTiming r count timing) }
 {
-    if let Some(moment) = first_unfit_of_all(times, answered) {
+    let spans = find_spans(alloc, times, answered)?;
+    let timing = timing_by(&spans, journal);
+    drop(spans);
+    timing
+}
+
+// Checks the same, by when the commands were sent and had ended.
+fn timing_by(spans: &Spans, journal: &Journal) -> Result<Timing, NoMemory>
+    requires holds { (r : Recording) × (count : ℕ) × IsOfRun r count × (r.entries ≡ journal.now.entries)
+        × AreSpans r count spans.now }
+    ensures timing { IfOk result (λ timing. (r : Recording) (count : ℕ) → IsOfRun r count
+        → r.entries ≡ journal.now.entries → AreSpans r count spans.now → OthersHaveNoMarks r count
+        → HasTiming r count timing) }
+{
+    if let Some(moment) = spans.unfit {
         return Ok(Timing::EarlyEnd {
             record: (moment - 1) as u64,
         });
     }
-    let spans = find_spans(alloc, times, answered)?;
-    let late = first_late(times, &spans, journal);
-    let numbers = spans.numbers(times);
-    drop(spans);
-    if let Some(Late { entry, moment }) = late? {
-        let after = first_unsent(times, journal, moment)?;
+    if let Some(Late { entry, moment }) = first_late(spans, journal)? {
+        let after = first_unsent(spans, journal, moment)?;
         return Ok(Timing::OutOfTime { entry, after });
     }
-    numbers
+    spans.numbers()
 }

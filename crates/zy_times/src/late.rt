@@ -1,13 +1,13 @@
 //! Entries whose commands had ended before that of an earlier entry was sent.
-ghost use Rattle.std.specs.Prelude.{◌≡◌, ◌↔◌, ◌<◌, ◌≤◌, max, ℕ, None, Some, IfOk};
+ghost use Rattle.std.specs.Prelude.{◌≡◌, ◌<◌, ◌≤◌, max, ℕ, None, Some, IfOk};
 ghost use Rattle.std.specs.List.{slice_get};
-ghost use Rattle.zy_times.specs.Times.{Recording};
-ghost use Rattle.zy_times.specs.Ending.{IsEndedFrom};
-ghost use Rattle.zy_times.specs.InTime.{IsEntrySent};
-ghost use Rattle.zy_times.specs.Recorded.{IsOfRun, HasLines, AreSpans, FoundLate, IsFirstUnsent};
+ghost use Rattle.zy_times.specs.Recording.{Recording};
+ghost use Rattle.zy_times.specs.InTime.{numbered_entry};
+ghost use Rattle.zy_times.specs.Spans.{AreSpans, SpanHolds};
+ghost use Rattle.zy_times.specs.Recorded.{IsOfRun, FoundLate, IsFirstUnsent};
 
+use crate::span::Span;
 use crate::spans::Spans;
-use crate::times::Times;
 use mc_calls::Entry;
 use zy_base::NoMemory;
 use zy_journal::Journal;
@@ -21,14 +21,10 @@ pub(crate) struct Late {
 
 // Returns the first entry whose command had ended before the command of an earlier entry was sent,
 // if there is one.
-pub(crate) fn first_late(
-    times: &Times,
-    spans: &Spans,
-    journal: &Journal,
-) -> Result<Option<Late>, NoMemory>
-    requires holds { (r : Recording) × (count : ℕ) × HasLines r count times.now × (r.entries ≡ journal.now.entries)
+pub(crate) fn first_late(spans: &Spans, journal: &Journal) -> Result<Option<Late>, NoMemory>
+    requires holds { (r : Recording) × (count : ℕ) × IsOfRun r count × (r.entries ≡ journal.now.entries)
         × AreSpans r count spans.now }
-    ensures found { IfOk result (λ found. (r : Recording) (count : ℕ) → HasLines r count times.now
+    ensures found { IfOk result (λ found. (r : Recording) (count : ℕ) → IsOfRun r count
         → r.entries ≡ journal.now.entries → AreSpans r count spans.now → FoundLate r found) }
 {
     let mut latest = 0u32;
@@ -37,24 +33,25 @@ pub(crate) fn first_late(
         let Some(entry) = entries.next() else {
             return Ok(None);
         };
-        let end = end_of(spans, entry);
-        if let Some(moment) = end_before(end, latest) {
+        let span = span_of(spans, entry);
+        if let Some(moment) = end_before(span.end, latest) {
             return Ok(Some(Late { entry: at, moment }));
         }
-        latest = later_of(latest, sent_of(times, entry));
+        latest = later_of(latest, span.sent);
     }
     // There are more entries than 64 bits count.
     Err(NoMemory)
 }
 
-// Returns the first moment at which the command of an entry had ended, if it ever had.
-fn end_of(spans: &Spans, entry: &Entry) -> Option<u32>
+// Returns the span of an entry's command.
+fn span_of(spans: &Spans, entry: &Entry) -> Span
     requires holds { (r : Recording) × (count : ℕ) × (p : ℕ) × IsOfRun r count × AreSpans r count spans.now
         × (slice_get r.entries p ≡ Some entry.now) }
-    ensures ends { (r : Recording) (count p : ℕ) → IsOfRun r count → AreSpans r count spans.now
-        → slice_get r.entries p ≡ Some entry.now → IsEndedFrom r entry.now.tag.conn entry.now.tag.index result }
+    ensures span { (r : Recording) (count p : ℕ) → IsOfRun r count → AreSpans r count spans.now
+        → slice_get r.entries p ≡ Some entry.now
+        → SpanHolds r entry.now.tag.conn (numbered_entry r entry.now) result }
 {
-    spans.ends[entry.tag.conn as usize][entry.tag.index as usize]
+    spans.lines[entry.tag.conn as usize][entry.tag.index as usize]
 }
 
 // Returns the end, if it is before a moment.
@@ -75,29 +72,19 @@ fn later_of(one: u32, other: u32) -> u32
     if one < other { other } else { one }
 }
 
-// Returns the moment with which the command of an entry was sent.
-fn sent_of(times: &Times, entry: &Entry) -> u32
-    requires holds { (r : Recording) × (count : ℕ) × (p : ℕ) × HasLines r count times.now
-        × (slice_get r.entries p ≡ Some entry.now) }
-    ensures from { (r : Recording) (count p : ℕ) → HasLines r count times.now
-        → slice_get r.entries p ≡ Some entry.now
-        → (moment : ℕ) → (IsEntrySent r entry.now moment ↔ (result ≤ moment)) }
-{
-    times.lines[entry.tag.conn as usize].sent[entry.tag.index as usize]
-}
-
 // Returns the first entry whose command was not sent at a moment.
-pub(crate) fn first_unsent(times: &Times, journal: &Journal, moment: u32) -> Result<u64, NoMemory>
-    requires holds { (r : Recording) × (count : ℕ) × HasLines r count times.now × (r.entries ≡ journal.now.entries) }
-    ensures found { IfOk result (λ found. (r : Recording) (count : ℕ) → HasLines r count times.now
-        → r.entries ≡ journal.now.entries → IsFirstUnsent r moment found) }
+pub(crate) fn first_unsent(spans: &Spans, journal: &Journal, moment: u32) -> Result<u64, NoMemory>
+    requires holds { (r : Recording) × (count : ℕ) × IsOfRun r count × (r.entries ≡ journal.now.entries)
+        × AreSpans r count spans.now }
+    ensures found { IfOk result (λ found. (r : Recording) (count : ℕ) → IsOfRun r count
+        → r.entries ≡ journal.now.entries → AreSpans r count spans.now → IsFirstUnsent r moment found) }
 {
     let mut entries = journal.entries();
     for at in 0..u64::MAX {
         let Some(entry) = entries.next() else {
             return Err(NoMemory);
         };
-        if moment < sent_of(times, entry) {
+        if moment < span_of(spans, entry).sent {
             return Ok(at);
         }
     }

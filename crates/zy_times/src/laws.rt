@@ -2,7 +2,7 @@
 ghost use Rattle.std.specs.Prelude.{◌≡◌, ◌↔◌, ◌<◌, ℕ, Some};
 ghost use Rattle.std.specs.List.{slice_get};
 ghost use Rattle.mc_calls.specs.declared.entry.Entry.{Entry};
-ghost use Rattle.zy_times.specs.Times.{Recording, MarksFit};
+ghost use Rattle.zy_times.specs.Recording.{Recording, MarksFit};
 ghost use Rattle.zy_times.specs.InTime.{IsInTime, NoneIsLate, AreOfCommands, IsEntrySent, IsEntryEnded, IsLateAfter};
 
 /// If the marks fit, a journal of the capture's commands is in time if and only if no entry comes

@@ -1,10 +1,8 @@
 //! The times of one connection.
-ghost use Rattle.std.specs.Prelude.{◌≡◌, ◌≢◌, ◌+◌, ◌<◌, ℕ, List, [], ◌∷◌, ◌++◌, length, OnOk, IfOk};
+ghost use Rattle.std.specs.Prelude.{◌≡◌, ◌≢◌, ◌+◌, ℕ, List, [], ◌∷◌, ◌++◌, length, OnOk, IfOk};
 ghost use Rattle.zy_capture.specs.declared.record.Record.{Record};
 ghost use Rattle.zy_capture.specs.declared.record.Record.TheVariants as Kinds;
-ghost use Rattle.zy_run.specs.Commands.{streams_in};
-ghost use Rattle.zy_run.specs.Output.{commands_before};
-ghost use Rattle.zy_times.specs.Line.{LineHolds};
+ghost use Rattle.zy_times.specs.Line.{LineHolds, BeginsNext};
 
 use crate::moments::push_many;
 use crate::session::Session;
@@ -14,11 +12,10 @@ use zy_base::NoMemory;
 use zy_capture::Segment;
 use zy_frame::{Framer, Frames};
 
-/// What came on a connection so far: the moments at which its commands were sent, and its sessions.
+/// What came on a connection so far: its sessions, the last of which goes on.
 #[derive(Drop)]
 pub struct Line {
     framer: Framer,
-    pub(crate) sent: Vec<u32>,
     pub(crate) sessions: Vec<Session>,
 }
 
@@ -28,13 +25,9 @@ impl Line {
         ensures none { IfOk result (λ line. (conn : ℕ) → LineHolds [] conn line) }
     {
         let mut sessions = Vec::new(alloc);
-        sessions.push(Session {
-            first: 0,
-            marks: Vec::new(alloc),
-        })?;
+        begin_session(alloc, &mut sessions)?;
         Ok(Line {
             framer: Framer::new(alloc),
-            sent: Vec::new(alloc),
             sessions,
         })
     }
@@ -64,12 +57,15 @@ impl Line {
             → moment ≡ length records + 1
             → LineHolds (records ++ Kinds.Segment segment.now ∷ []) segment.now.conn self.new) }
     {
+        let Some(last) = self.sessions.len().checked_sub(1) else {
+            return Err(NoMemory);
+        };
         let mut frames = Frames::new(alloc);
         let fed = self.framer.feed(&segment.bytes, &mut frames);
         let number = frames.len();
         drop(frames);
         fed?;
-        push_many(&mut self.sent, moment, number)?;
+        push_many(&mut self.sessions[last].sent, moment, number)?;
         Ok(())
     }
 
@@ -87,30 +83,24 @@ impl Line {
         Ok(())
     }
 
-    // Returns the end of a session's commands.
-    pub(crate) fn end_of(&self, session: usize) -> usize
-        requires within { session < length self.now.sessions.items }
-        ensures value { (records : List Record) (conn : ℕ) → LineHolds records conn self.now
-            → result ≡ commands_before (session + 1) (streams_in records conn) }
-    {
-        if session + 1 < self.sessions.len() {
-            self.sessions[session + 1].first
-        } else {
-            self.sent.len()
-        }
-    }
-
-    // Takes the close record of this connection, which had come at this moment.
-    pub(crate) fn close(&mut self, alloc: Global, conn: u32, moment: u32) -> Result<(), NoMemory>
+    // Takes the close record of this connection.
+    pub(crate) fn close(&mut self, alloc: Global, conn: u32) -> Result<(), NoMemory>
         ensures kept { OnOk result ((records : List Record) → LineHolds records conn self.old
-            → moment ≡ length records + 1
             → LineHolds (records ++ Kinds.Close conn ∷ []) conn self.new) }
     {
-        self.sessions.push(Session {
-            first: self.sent.len(),
-            marks: Vec::new(alloc),
-        })?;
+        begin_session(alloc, &mut self.sessions)?;
         drop(mem::replace(&mut self.framer, Framer::new(alloc)));
         Ok(())
     }
+}
+
+// Begins the next session.
+fn begin_session(alloc: Global, sessions: &mut Vec<Session>) -> Result<(), NoMemory>
+    ensures more { OnOk result (BeginsNext sessions.old.items sessions.new.items) }
+{
+    sessions.push(Session {
+        sent: Vec::new(alloc),
+        marks: Vec::new(alloc),
+    })?;
+    Ok(())
 }

@@ -1,8 +1,8 @@
 //! A session of a connection.
 
-/// The index of a session's first command, and the moments at which its marks had come.
+/// The moments at which a session's commands were sent, and those at which its marks had come.
 #[derive(Drop)]
 pub(crate) struct Session {
-    pub(crate) first: usize,
+    pub(crate) sent: Vec<u32>,
     pub(crate) marks: Vec<u32>,
 }

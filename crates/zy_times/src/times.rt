@@ -70,7 +70,7 @@ impl Times {
         ensures kept { OnOk result ((count : ℕ) (records : List Record) → TimesHold self.old count records
             → TimesHold self.new count (records ++ Kinds.Close conn ∷ [])) }
     {
-        self.lines[conn as usize].close(self.alloc, conn, moment)?;
+        self.lines[conn as usize].close(self.alloc, conn)?;
         self.moment = moment;
         Ok(())
     }

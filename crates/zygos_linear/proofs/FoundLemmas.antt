@@ -9,7 +9,7 @@ use Rattle.zy_check.specs.Checked.{IsCheckedAs}
 use Rattle.zy_times.specs.declared.times.Times.{Times}
 use Rattle.zy_times.specs.declared.timing.Timing.{Timing}
 use Rattle.zy_times.specs.declared.timing.Timing.TheVariants.{InTime, EarlyEnd, OutOfTime}
-use Rattle.zy_times.specs.Times.{Recording}
+use Rattle.zy_times.specs.Recording.{Recording}
 use Rattle.zy_times.specs.InTime.{HasTiming}
 use Rattle.zy_times.specs.Recorded.{IsRecorded}
 use Rattle.zy_times.proofs.CheckedLemmas.{recorded_as_checked}

@@ -2,7 +2,7 @@
 use Rattle.std.specs.Prelude.{◌≡◌, ◌⊎◌, ℕ, List, Option, None, Some, Result, Ok, Err, IsSomeAnd}
 use Rattle.zy_check.specs.Given.{Given}
 use Rattle.zy_read.specs.Seen.{Seen, WasWritten, TakesPart, OfGiven}
-use Rattle.zy_times.specs.Times.{Recording}
+use Rattle.zy_times.specs.Recording.{Recording}
 use Rattle.zy_shell.specs.declared.failure.Failure.{Failure}
 use Rattle.zy_shell.specs.declared.failure.Failure.TheVariants.{OutOfMemory}
 use Rattle.zy_shell.specs.Asked.{Asked}

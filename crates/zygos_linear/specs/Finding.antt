@@ -9,7 +9,7 @@ use Rattle.zy_check.specs.declared.verdict.Verdict.TheVariants.{Yes, No}
 use Rattle.zy_check.specs.Given.{Given, all_given}
 use Rattle.zy_check.specs.Cause.{HasVerdict}
 use Rattle.zy_times.specs.declared.timing.Timing.TheVariants.{InTime, EarlyEnd, OutOfTime}
-use Rattle.zy_times.specs.Times.{Recording, MarksFit}
+use Rattle.zy_times.specs.Recording.{Recording, MarksFit}
 use Rattle.zy_times.specs.InTime.{IsInTime, IsEarlyEnd, IsOutOfTime, commands_of_all, EndedOfAll}
 use Rattle.zygos_linear.specs.declared.finding.Finding.{Finding}
 use Rattle.zygos_linear.specs.declared.finding.Finding.TheVariants.{NoRun, Run}

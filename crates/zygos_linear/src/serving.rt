@@ -5,7 +5,7 @@ ghost use Rattle.zy_command_line.specs.Request.{shards_asked};
 ghost use Rattle.zy_check.specs.declared.verdict.Verdict.TheVariants.{Yes, No};
 ghost use Rattle.zy_check.specs.Cause.{HasVerdict};
 ghost use Rattle.zy_read.specs.Seen.{side, both_sides, NoneRose, OfGiven, OfTold, WasWritten};
-ghost use Rattle.zy_times.specs.Times.{MarksFit};
+ghost use Rattle.zy_times.specs.Recording.{MarksFit};
 ghost use Rattle.zy_times.specs.InTime.{IsEarlyEnd, IsOutOfTime};
 ghost use Rattle.zy_times.specs.declared.timing.Timing.TheVariants.{InTime, EarlyEnd, OutOfTime};
 ghost use Rattle.zy_shell.specs.declared.failure.Failure.TheVariants.{Usage, Refused, ReadFault, WriteFault};

@@ -1,8 +1,13 @@
-use Rattle.std.proofs.Common.{◌≡◌, ℕ}
-use Rattle.zy_times.specs.Times.{Recording, answered_in}
-use Rattle.zy_times.specs.Line.{LineHolds}
-use Rattle.zy_times.specs.Fitting.{FoundUnfitBelow}
+use Rattle.std.proofs.Common.{◌≡◌, ◌≤◌, ℕ, List, take}
+use Rattle.zy_capture.specs.declared.record.Record.{Record}
+use Rattle.zy_times.specs.Times.{trues}
+use Rattle.zy_times.specs.Line.{SessionHolds}
+use Rattle.zy_times.specs.Fitting.{AreGood}
 use Rattle.zy_times.proofs.fitting.first_unfit.Given as goal
 
-abbrev pub invariant-loop-session : goal.invariant-loop-session
-invariant-loop-session l = (r : Recording) (conn : ℕ) → LineHolds r.records conn l.line → l.answered ≡ answered_in r conn → FoundUnfitBelow r conn l.session l.found
+abbrev pub invariant-loop-index : goal.invariant-loop-index
+invariant-loop-index l = record {
+  count : l.ended ≡ trues (take l.index l.answered);
+  few : l.ended ≤ l.index;
+  good : (records : List Record) (conn number : ℕ) → SessionHolds records conn number l.session → AreGood records conn number l.session.marks.items l.answered l.ended;
+}

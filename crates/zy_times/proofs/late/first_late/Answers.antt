@@ -20,15 +20,10 @@ returns-in_default c = record {
       λ p q order late. before.none p q order (let low = slice_get_within r.entries q late.e late.is_last in omega (arith, low, all, end)) late;
 }
 
-pub end_of-end-requires : goal.end_of-end-requires
-end_of-end-requires c =
+pub span_of-span-requires : goal.span_of-span-requires
+span_of-span-requires c =
     let h = c.requires.holds in
-    record { holds = (h.0, h.1, c.loop-at.at, h.2.of_run, h.4, entry_there h.0 c.args.journal.now.entries c.loop-at.at c.in-Some.entry.now c.next.new.self h.3 (sym c.loop-at.invariant.left ∙ c.in-Some.ensures.some)) }
-
-pub sent_of-requires : goal.sent_of-requires
-sent_of-requires c =
-    let h = c.requires.holds in
-    record { holds = (h.0, h.1, c.loop-at.at, h.2, entry_there h.0 c.args.journal.now.entries c.loop-at.at c.in-Some.entry.now c.next.new.self h.3 (sym c.loop-at.invariant.left ∙ c.in-Some.ensures.some)) }
+    record { holds = (h.0, h.1, c.loop-at.at, h.2, h.4, entry_there h.0 c.args.journal.now.entries c.loop-at.at c.in-Some.entry.now c.next.new.self h.3 (sym c.loop-at.invariant.left ∙ c.in-Some.ensures.some)) }
 
 pub returns-in-Some-end_before : goal.returns-in-Some-end_before
 returns-in-Some-end_before c = record {
@@ -37,7 +32,7 @@ returns-in-Some-end_before c = record {
       let e = c.in-Some.entry.now in
       let here : slice_get r.entries at ≡ Some e = entry_there r c.args.journal.now.entries at e c.next.new.self is (sym c.loop-at.invariant.left ∙ c.in-Some.ensures.some) in
       let some = c.end_before.ensures.some c.in-Some-end_before.moment c.in-Some-end_before.is in
-      late_here r at c.loop-at.latest e c.end_of-end.result here (c.end_of-end.ensures.ends r count at h.of_run spans here) (c.loop-at.invariant.before r count h is spans) c.in-Some-end_before.moment some.0 some.1;
+      late_here r at c.loop-at.latest e c.span_of-span.result.end here (c.span_of-span.ensures.span r count at h spans here).ended (c.loop-at.invariant.before r count h is spans) c.in-Some-end_before.moment some.0 some.1;
 }
 
 pub loop-at-preserved : goal.loop-at-preserved
@@ -50,5 +45,5 @@ loop-at-preserved c =
       before = λ r count h is spans.
           let here : slice_get r.entries at ≡ Some e = ap (λ (es : List Entry). slice_get es at) is ∙ first.0 in
           subst (CameBefore r (at + 1)) (sym c.later_of-latest.ensures.value)
-          (before_more r at c.loop-at.latest e c.end_of-end.result here (c.end_of-end.ensures.ends r count at h.of_run spans here) (c.loop-at.invariant.before r count h is spans) c.sent_of.result (c.sent_of.ensures.from r count at h here) (c.end_before.ensures.none c.in_default-end_before.is));
+          (before_more r at c.loop-at.latest e c.span_of-span.result.end here (c.span_of-span.ensures.span r count at h spans here).ended (c.loop-at.invariant.before r count h is spans) c.span_of-span.result.sent (c.span_of-span.ensures.span r count at h spans here).sent (c.end_before.ensures.none c.in_default-end_before.is));
     }

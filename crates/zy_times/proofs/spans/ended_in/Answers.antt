@@ -1,6 +1,6 @@
-use Rattle.std.proofs.Common.{None, sym, ◌∙◌, ap, arith}
-use Rattle.std.specs.Prelude.{is_some}
-use Rattle.std.proofs.lemmas.Option.{slice_get-get_or}
+use Rattle.std.proofs.Common.{refl, sym, ◌∙◌, ap, arith}
+use Rattle.std.proofs.lemmas.Option.{slice_get_read}
+use Rattle.zy_times.specs.Spans.{has_end}
 use Rattle.zy_times.specs.Times.{number_if}
 use Rattle.zy_times.proofs.TrueLemmas.{trues_of-more}
 use Rattle.zy_times.proofs.spans.ended_in.Goals as goal
@@ -11,7 +11,7 @@ loop-at-preserved c =
     let inv = c.loop-at.invariant in
     let value = inv.value in
     let few = inv.few in
-    let more = trues_of-more is_some c.args.ends.now c.loop-at.at _ (slice_get-get_or c.args.ends.now c.loop-at.at None c.loop-at-test.true) in
+    let more = trues_of-more has_end c.args.spans.now.items c.loop-at.at c.index.result.now (slice_get_read c.args.spans.now.items _ c.loop-at.at c.index.result.now refl (omega (arith, c.loop-at-test.true, c.len-at-end.ensures)) c.index.ensures) in
     elim c.if-is_some.branch [
       | then-is_some w ↦ (
           let now = w.ended-is in

@@ -11,7 +11,8 @@ returns c = record {
       let last = c.in-Some.ensures in
       let long = c.len.ensures in
       let next : c.in-Some.last + 1 ≡ length old.sessions.items = omega (arith, last, long, count) in
-      line_marked records c.args.segment.now old _ h c.index_mut.result.now c.requires.none refl refl c.in-Some.last next (record { first = c.index_mut.result.now.first; marks = c.push.new.self })
-      (slice_get_read old.sessions.items _ c.in-Some.last c.index_mut.result.now refl (omega (arith, next)) c.index_mut.ensures.value) refl refl
-      (c.in_ok-push.ensures.items ∙ ap (λ (m : ℕ). c.index_mut.result.now.marks.items ++ m ∷ []) now);
+      let t = c.index_mut.result.now in
+      line_marked records c.args.segment.now old _ h c.in-Some.last t (record { sent = t.sent; marks = c.push.new.self }) c.requires.none next
+      (slice_get_read old.sessions.items _ c.in-Some.last t refl (omega (arith, next)) c.index_mut.ensures.value) refl refl refl
+      (c.in_ok-push.ensures.items ∙ ap (λ (m : ℕ). t.marks.items ++ m ∷ []) now);
 }
