@@ -1,4 +1,3 @@
-pub mod StreamLemmas
 pub mod KeyLemmas
 pub mod NoteLemmas
 pub mod MomentLemmas

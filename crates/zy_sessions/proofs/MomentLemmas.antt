@@ -7,27 +7,10 @@ use Rattle.mc_parse.specs.declared.command.Command.{Command}
 use Rattle.zy_capture.specs.declared.record.Record.{Record}
 use Rattle.zy_times.specs.First.{AreRises, Grows}
 use Rattle.zy_times.specs.Sessions.{sent_in, marks_at, IsSentIn}
-use Rattle.zy_times.proofs.CountLemmas.{count_grows, count_stays}
 use Rattle.zy_times.proofs.FirstLemmas.{above_from, at_first}
-use Rattle.zy_times.proofs.RecordLemmas.{marks_rise}
+use Rattle.zy_times.proofs.SessionLemmas.{count_of, sent_grows, sent_stays, marks_grow, marks_stay}
 use Rattle.zy_sessions.specs.declared.session.Session.{Session}
 use Rattle.zy_sessions.specs.Sessions.{SessionHolds}
-use Rattle.zy_sessions.proofs.NoteLemmas.{count_of, marks_count, count_rises}
-
--- ---- moments
-
-module _ (records : List Record) (conn session : ℕ) where
-  pub sent_grows : Grows (sent_in records conn session)
-  sent_grows = count_grows (count_of conn session) (count_rises conn session) records
-
-  pub sent_stays : (moment : ℕ) → length records ≤ moment → sent_in records conn session moment ≡ sent_in records conn session (length records)
-  sent_stays = count_stays (count_of conn session) (count_rises conn session) records
-
-  pub marks_grow : Grows (marks_at records conn session)
-  marks_grow = count_grows (marks_count conn session) (λ rs x. marks_rise rs x conn session) records
-
-  pub marks_stay : (moment : ℕ) → length records ≤ moment → marks_at records conn session moment ≡ marks_at records conn session (length records)
-  marks_stay = count_stays (marks_count conn session) (λ rs x. marks_rise rs x conn session) records
 
 -- the moments at which a count rose never fall
 never_fall : (count : ℕ → ℕ) (last : ℕ) (moments : List ℕ) → Grows count → ((moment : ℕ) → last ≤ moment → count moment ≡ count last) → AreRises count last moments

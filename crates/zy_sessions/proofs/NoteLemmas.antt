@@ -22,7 +22,7 @@ use Rattle.zy_frame.specs.Frame.{command_of}
 use Rattle.zy_frame.specs.Cut.{commands_of, frames_of}
 use Rattle.zy_frame.specs.Feed.{Appends}
 use Rattle.zy_frame.specs.Progress.{Progress, StandsFor}
-use Rattle.zy_frame.proofs.CutLaws.{commands_first, frames_of_nil}
+use Rattle.zy_frame.proofs.CutLaws.{frames_of_nil}
 use Rattle.zy_input.specs.Parts.{conn_of}
 use Rattle.zy_check.proofs.ListLemmas.{get_append, get_behind}
 use Rattle.zy_times.specs.First.{AreRises}
@@ -30,6 +30,8 @@ use Rattle.zy_times.specs.Sessions.{commands_of_session}
 use Rattle.zy_times.specs.Times.{marks_in}
 use Rattle.zy_times.proofs.CountLemmas.{counts_more, counts_same, counts_never}
 use Rattle.zy_times.proofs.RecordLemmas.{closes_more, IsOfOther, is_same, closes_other, mark_of, marks_more, marks_rise, mark_other, mark_close, mark_else, mark_bytes, mark_here, marks_past}
+use Rattle.zy_times.proofs.SessionLemmas.{count_of, marks_count, count_rises, no_commands}
+use Rattle.zy_times.proofs.StreamLemmas.{bytes_of, stream_more, stream_same, bytes_other, bytes_close, bytes_else, bytes_none, bytes_here, stream_past}
 use Rattle.zy_verdict.specs.Losses.{key_with_exptime}
 use Rattle.zy_sessions.specs.declared.line.Line.{Line}
 use Rattle.zy_sessions.specs.declared.session.Session.{Session}
@@ -37,27 +39,6 @@ use Rattle.zy_sessions.specs.declared.sessions.Sessions.{Sessions}
 use Rattle.zy_sessions.specs.Sessions.{SessionHolds, LineHolds, LastingHolds, SessionsHold}
 use Rattle.zy_sessions.specs.Noting.{Has, AppendsEmpty, AddsKey, AddsKeys}
 use Rattle.zy_sessions.proofs.KeyLemmas.{keys_more, lasting_same, lasting_more}
-use Rattle.zy_sessions.proofs.StreamLemmas.{bytes_of, stream_more, stream_same, bytes_other, bytes_close, bytes_else, bytes_none, bytes_here, stream_past}
-
--- ---- counts
-
--- the number of commands of a session
-abbrev pub count_of : ℕ → ℕ → List Record → ℕ
-count_of conn session records = length (commands_of_session records conn session)
-
--- the number of its marks
-abbrev pub marks_count : ℕ → ℕ → List Record → ℕ
-marks_count conn session records = marks_in records conn session
-
-pub count_rises : (conn session : ℕ) (records : List Record) (r : Record) → count_of conn session records ≤ count_of conn session (records ++ r ∷ [])
-count_rises conn session records r =
-    let first = commands_first (stream conn session records) (bytes_of (closes conn records) conn session r) in
-    let whole = ap (λ (s : List ℕ). length (commands_of s)) (stream_more records r conn session) ∙ ap (λ (l : List Command). length l) first.1
-    ∙ length-append (commands_of (stream conn session records)) first.0 in
-    omega (arith, whole)
-
-no_commands : commands_of [] ≡ []
-no_commands = ap (map command_of) frames_of_nil
 
 -- ---- a session
 

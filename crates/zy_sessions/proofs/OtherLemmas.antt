@@ -18,14 +18,12 @@ use Rattle.zy_times.specs.Sessions.{sent_in, marks_at, commands_of_session}
 use Rattle.zy_times.specs.Times.{counted_mark, marks_in, marks_after}
 use Rattle.zy_times.proofs.FirstLemmas.{later}
 use Rattle.zy_times.proofs.RecordLemmas.{not_same, marks_past}
-use Rattle.zy_times.proofs.SessionLemmas.{none_past}
+use Rattle.zy_times.proofs.SessionLemmas.{none_past, count_of, marks_count, sent_grows, sent_stays, marks_grow, marks_stay}
+use Rattle.zy_times.proofs.StreamLemmas.{stream_past}
 use Rattle.zy_sessions.specs.declared.line.Line.{Line}
 use Rattle.zy_sessions.specs.declared.session.Session.{Session}
 use Rattle.zy_sessions.specs.declared.sessions.Sessions.{Sessions}
 use Rattle.zy_sessions.specs.Sessions.{SessionHolds, SessionsHold, HasNothing, session_in, session_at}
-use Rattle.zy_sessions.proofs.MomentLemmas.{sent_grows, sent_stays, marks_grow, marks_stay}
-use Rattle.zy_sessions.proofs.NoteLemmas.{count_of, marks_count}
-use Rattle.zy_sessions.proofs.StreamLemmas.{stream_past}
 
 -- ---- by the records
 
