@@ -159,3 +159,25 @@ fn rest_need(
         None => Ok(None),
     }
 }
+
+/// Checks whether a call that makes the value of a fact joins its piece to a rest.
+pub(crate) fn is_join(call: &Observed, fact: &Fact) -> bool {
+    match value_of(fact) {
+        Some(value) => rest_of(&call.call, value).is_some(),
+        None => false,
+    }
+}
+
+/// Returns the need of the rest to which the call at a place joins its piece, if it makes the value of
+/// a fact by that.
+pub(crate) fn rest_of_join(
+    alloc: Global,
+    calls: &[Observed],
+    fact: &Fact,
+    at: usize,
+) -> Result<Option<Need>, NoMemory> {
+    match (value_of(fact), calls.get(at)) {
+        (Some(value), Some(call)) => rest_need(alloc, call, fact, value, at),
+        _ => Ok(None),
+    }
+}

@@ -3,13 +3,17 @@ ghost use Rattle.std.specs.Prelude.{◌<◌, length, IfOk, IsTrue};
 ghost use Rattle.zy_refute.specs.Courses.{HaveNoOrder};
 ghost use Rattle.zy_refute.specs.Unmet.{IsRefutation};
 
-use crate::candidates::may_be_unmet;
+use crate::candidates::{Chance, may_be_unmet};
 use crate::meeting::is_never_met;
 use crate::observed::Observed;
 use crate::store::Store;
 use mc_allows::need_of;
 use std::alloc::Global;
 use zy_base::NoMemory;
+
+// Calls whose need was joined to a rest without a source are checked until so many calls were gone
+// through.
+const WORK_LIMIT: usize = 4_194_304;
 
 /// Finds a sure call whose need no call can have made, so that the calls have no order. Of several
 /// it is the one that ended first. The calls are to be in the order in which they were sent;
@@ -22,8 +26,9 @@ pub fn find_unmet(
     ensures none { IfOk result (λ found. IsRefutation store calls.now found) }
 {
     let mut found = None;
+    let mut left = WORK_LIMIT;
     for at in 0..calls.len() {
-        found = with_call(alloc, store, calls, found, at)?;
+        found = with_call(alloc, store, calls, &mut left, found, at)?;
     }
     Ok(found)
 }
@@ -34,6 +39,7 @@ fn with_call(
     alloc: Global,
     store: Store,
     calls: &[Observed],
+    left: &mut usize,
     found: Option<usize>,
     at: usize,
 ) -> Result<Option<usize>, NoMemory>
@@ -44,13 +50,27 @@ fn with_call(
     if !is_first(calls, found, &calls[at]) {
         return Ok(found);
     }
-    if !may_be_unmet(calls, at)? {
+    let chance = may_be_unmet(alloc, calls, at)?;
+    if !is_worth(chance, calls.len(), left) {
         return Ok(found);
     }
     if !is_unmet(alloc, store, calls, at)? {
         return Ok(found);
     }
     Ok(Some(at))
+}
+
+// Checks whether a call may be unmet, and is worth going through this number of calls.
+fn is_worth(chance: Chance, calls: usize, left: &mut usize) -> bool {
+    match chance {
+        Chance::Not => false,
+        Chance::Bare => true,
+        Chance::Joined => {
+            let enough = *left > 0;
+            *left = left.saturating_sub(calls);
+            enough
+        }
+    }
 }
 
 /// Checks whether a call ended before the one that was found, if there is one.
