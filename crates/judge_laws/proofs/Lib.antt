@@ -1,0 +1,14 @@
+pub mod ProfileLemmas
+pub mod SaidLemmas
+pub mod KeyedLemmas
+pub mod DueLemmas
+pub mod PlaceLemmas
+pub mod MadeLemmas
+pub mod RepliesLemmas
+pub mod ChainLemmas
+pub mod ExplainLemmas
+pub mod BridgeLemmas
+pub mod BoundsLemmas
+pub mod EndedLemmas
+pub mod TimingLemmas
+pub mod LegalLemmas
