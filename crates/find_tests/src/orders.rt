@@ -55,6 +55,37 @@ fn a_search_goes_back_if_a_later_answer_does_not_fit(rt: HostRuntime) {
 }
 
 #[test]
+fn a_late_reader_comes_before_the_next_change(rt: HostRuntime) {
+    let calls = [
+        recorded(0, Did::Set(b'a'), 1, 3),
+        recorded(1, Did::Set(b'b'), 4, 6),
+        recorded(2, Did::Got(b'a'), 2, 9),
+    ];
+    assert!(rt; is_found(rt.alloc(), &calls, &[0, 2, 1]));
+}
+
+#[test]
+fn a_change_that_nobody_saw_is_hidden_behind_an_earlier_one(rt: HostRuntime) {
+    let calls = [
+        recorded(0, Did::Set(b'a'), 1, 20),
+        recorded(0, Did::Got(b'b'), 15, 21),
+        recorded(1, Did::Set(b'b'), 2, 4),
+    ];
+    assert!(rt; is_found(rt.alloc(), &calls, &[0, 1, 0]));
+}
+
+#[test]
+fn an_add_that_was_refused_comes_where_there_is_an_item(rt: HostRuntime) {
+    let calls = [
+        recorded(0, Did::Set(b'a'), 1, 3),
+        recorded(1, Did::Deleted, 4, 6),
+        recorded(2, Did::NotAdded(b'b'), 2, 9),
+        recorded(3, Did::Missed, 10, 12),
+    ];
+    assert!(rt; is_found(rt.alloc(), &calls, &[0, 2, 1, 3]));
+}
+
+#[test]
 fn a_stale_read_has_no_order(rt: HostRuntime) {
     let calls = [
         recorded(0, Did::Set(b'a'), 1, 3),

@@ -17,6 +17,8 @@ pub(crate) enum Did {
     Missed,
     /// A set of this value.
     Set(u8),
+    /// An add of this value that was refused.
+    NotAdded(u8),
     /// A deletion of an item.
     Deleted,
 }
@@ -50,6 +52,17 @@ fn call_of(alloc: Global, did: Did) -> Result<Call, NoMemory> {
                 Err(refused)
             }
         },
+        Did::NotAdded(value) => match byte(alloc, value) {
+            Ok(value) => Ok(Call::Add {
+                key,
+                flags: 0,
+                value,
+            }),
+            Err(refused) => {
+                drop(key);
+                Err(refused)
+            }
+        },
     }
 }
 
@@ -62,6 +75,7 @@ fn shown_of(alloc: Global, did: Did) -> Result<Shown, NoMemory> {
         },
         Did::Missed => CallReply::Miss,
         Did::Set(_) => CallReply::Stored,
+        Did::NotAdded(_) => CallReply::NotStored,
         Did::Deleted => CallReply::Deleted,
     };
     Ok(Shown::Reply { reply })

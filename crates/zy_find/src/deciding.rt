@@ -2,7 +2,7 @@
 
 use crate::held::{AT_FIRST, Held, Known};
 use crate::order::Rules;
-use mc_allows::{Shown, padded_number};
+use mc_allows::{Shown, may_read, padded_number};
 use mc_calls::{Call, CallReply};
 use std::alloc::Global;
 use zy_base::{Blob, NoMemory, VALUE_LIMIT, number_text};
@@ -33,6 +33,13 @@ pub(crate) struct First {
 }
 
 impl Decided {
+    // Returns what the key has.
+    pub(crate) fn into_held(self) -> Held {
+        let Decided { held, began, .. } = self;
+        drop(began);
+        held
+    }
+
     // Nothing was chosen.
     fn plain(held: Held) -> Decided {
         Decided {
@@ -60,12 +67,16 @@ impl Decided {
 pub(crate) fn decide(
     alloc: Global,
     rules: Rules,
+    may_lose: bool,
     held: &Held,
     one: &Observed,
     place: usize,
 ) -> Result<Option<Decided>, NoMemory> {
     if let Some(decided) = decide_unlost(alloc, held, one, place)? {
         return Ok(Some(decided));
+    }
+    if !may_lose {
+        return Ok(None);
     }
     let doubt = match held {
         Held::Item(known) => known.doubt,
@@ -92,6 +103,22 @@ pub(crate) fn decide(
         }
         None => Ok(None),
     }
+}
+
+/// Checks whether the answer of a call can be so at a key that has this, if nothing is lost.
+pub(crate) fn fits_after(
+    alloc: Global,
+    held: &Held,
+    one: &Observed,
+    place: usize,
+) -> Result<bool, NoMemory> {
+    Ok(match decide_unlost(alloc, held, one, place)? {
+        Some(decided) => {
+            drop(decided);
+            true
+        }
+        None => false,
+    })
 }
 
 // The same, if nothing is lost before the call.
@@ -341,9 +368,15 @@ fn joined(
     }
     let large = SURE_LENGTH < value.bytes().len();
     drop(value);
-    let may = large
-        && (fits(&one.shown, CallReply::NotStored) || fits(&one.shown, CallReply::TooLarge));
-    kept_if(may, held)
+    if large && fits(&one.shown, CallReply::NotStored) {
+        chosen(held, Choice::Refused)
+    } else if large
+        && (fits(&one.shown, CallReply::TooLarge) || matches!(one.shown, Shown::Failure))
+    {
+        chosen(held, Choice::TooLarge)
+    } else {
+        Ok(None)
+    }
 }
 
 fn exchanged(
@@ -449,7 +482,7 @@ fn counted(
         return kept_if(fits(&one.shown, CallReply::NotFound), &Held::Nothing);
     };
     let Some(number) = padded_number(known.value.bytes()) else {
-        return kept_if(fits(&one.shown, CallReply::NotNumber), held);
+        return counted_otherwise(alloc, held, known, one, count, place);
     };
     let number = count.of(number);
     let may = match &one.shown {
@@ -464,6 +497,36 @@ fn counted(
     } else {
         Ok(None)
     }
+}
+
+// The value is no number by itself: the server found none in it, or read one.
+fn counted_otherwise(
+    alloc: Global,
+    held: &Held,
+    known: &Known,
+    one: &Observed,
+    count: Count,
+    place: usize,
+) -> Result<Option<Decided>, NoMemory> {
+    if fits(&one.shown, CallReply::NotNumber) {
+        return chosen(held, Choice::NoNumber);
+    }
+    let Shown::Reply {
+        reply: CallReply::Number { number },
+    } = &one.shown
+    else {
+        return Ok(None);
+    };
+    let read = count.before(*number);
+    if count.of(read) != *number || !may_read(known.value.bytes(), read) {
+        return Ok(None);
+    }
+    let mut value = Blob::new(alloc);
+    number_text(&mut value, *number)?;
+    Ok(Some(Decided {
+        choice: Choice::Read(read),
+        ..Decided::plain(Held::stored(known.flags, value, place)?)
+    }))
 }
 
 // A number was counted at a key of which nothing is known: its flags are not known then.

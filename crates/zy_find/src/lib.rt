@@ -2,16 +2,29 @@
 //! promised of the order: who uses it checks it.
 #![tactic(auto)]
 
-mod by_key;
+mod at_key;
+mod before;
 mod deciding;
+mod effects;
+mod finding;
+mod floors;
+mod hashing;
 mod held;
-mod merging;
-mod numbering;
+mod keys;
+mod links;
+mod making;
+mod needs;
 mod order;
-mod ordering;
-mod quick;
+mod overs;
+mod pass;
+mod passing;
+mod reach;
 mod searching;
 mod sessions;
+mod settling;
+mod small;
+mod sources;
+mod table;
 
+pub use finding::find;
 pub use order::{Began, Found, Rules};
-pub use ordering::find;

@@ -2,7 +2,7 @@
 
 use mc_calls::Item;
 use zy_base::Blob;
-use zy_verdict::{Choice, Order};
+use zy_verdict::Order;
 
 /// What may happen at a key besides the calls.
 #[derive(Clone, Copy)]
@@ -11,19 +11,6 @@ pub struct Rules {
     pub warm: bool,
     /// Items may be lost.
     pub forget: bool,
-}
-
-/// A call in an order.
-#[derive(Clone, Copy)]
-pub(crate) struct Placed {
-    /// The offset of the call in the list of calls.
-    pub(crate) call: usize,
-    /// The unique of the item that the call stores, if it stores one.
-    pub(crate) unique: u64,
-    /// What the server chose.
-    pub(crate) choice: Choice,
-    /// The item of its key was lost just before it.
-    pub(crate) lost: bool,
 }
 
 /// An item that the store begins with.

@@ -1,38 +1,57 @@
 //! A search for an order of the calls at a key, with going back (Wing and Gong, "Testing and
 //! verifying concurrent objects", 1993).
 
-use crate::deciding::Decided;
+use crate::deciding::{Decided, decide};
+use crate::effects::changes;
+use crate::held::Held;
+use crate::needs::Needs;
 use crate::order::Rules;
-use crate::quick::Run;
+use crate::pass::Given;
 use crate::sessions::{are_of_one_session, end_of};
+use crate::small::{NONE, at, small, time_at};
 use std::alloc::Global;
 use zy_base::NoMemory;
-use zy_refute::Observed;
 
-// Where the search may go back to: how many calls were made, and where the next choice begins.
+// Where the search may go back to: how many calls were made, and the rank at which the next choice
+// begins.
 #[derive(Clone, Copy)]
 struct Branch {
     made: usize,
-    next: usize,
+    from: u32,
 }
 
 // What is chosen: the offset in the list, and whether there is no other choice worth trying.
 #[derive(Drop)]
 struct Chosen {
-    at: usize,
+    offset: u32,
     only: bool,
+    rank: u32,
     decided: Decided,
+}
+
+/// The calls at a key, by their sendings, and for each call of the recording its rank: of two that can be
+/// next, the one with the lower rank is tried first.
+#[derive(Clone, Copy)]
+pub(crate) struct Listed<'a> {
+    pub(crate) list: &'a [u32],
+    pub(crate) ranks: &'a [u32],
+    pub(crate) rules: Rules,
 }
 
 /// A search through the calls at a key.
 #[derive(Drop)]
 pub(crate) struct Search {
-    run: Run,
+    alloc: Global,
+    held: Held,
+    /// What the key had before each of the made ones.
+    before: Vec<Held>,
     /// Which calls of the list are made.
     made: Vec<bool>,
     /// The offsets of the made ones, in their order.
-    order: Vec<usize>,
+    order: Vec<u32>,
     branches: Vec<Branch>,
+    needs: Needs,
+    kept: bool,
     /// All calls before this offset are made.
     low: usize,
     /// How many sure calls are left.
@@ -42,63 +61,85 @@ pub(crate) struct Search {
 // How many calls that are not made are looked at for the next one.
 const WINDOW: usize = 256;
 
-/// Looks for an order of the calls of a list, which are sorted by the times at which they were sent, in
-/// at most this number of steps. All sure calls are in the run that is returned; none is if there is no
-/// such order, or it was not found.
+/// Looks for an order of the calls of a list, in at most this number of steps. All sure calls are in the
+/// order that is returned; none is if there is no such order, or it was not found. If the sources are
+/// `kept`, no item goes before those are made that only it can have been shown to.
 pub(crate) fn look_for(
     alloc: Global,
-    rules: Rules,
-    observed: &[Observed],
-    list: &[usize],
+    given: Given<'_>,
+    listed: Listed<'_>,
+    kept: bool,
     most: usize,
-) -> Result<Option<Run>, NoMemory> {
-    let mut made = Vec::new(alloc);
-    let mut left: usize = 0;
-    for call in list {
-        made.push(false)?;
-        if is_sure(observed, *call) {
-            left = left.saturating_add(1);
-        }
-    }
-    let mut search = Search {
-        run: Run::new(alloc, rules),
-        made,
-        order: Vec::new(alloc),
-        branches: Vec::new(alloc),
-        low: 0,
-        left,
-    };
+) -> Result<Option<Vec<u32>>, NoMemory> {
+    let mut search = begin(alloc, given, listed, kept)?;
     let mut from = 0;
     for _ in 0..most {
-        if search.is_done(list.len()) {
-            return Ok(Some(search.into_run()));
+        if search.order.len() == listed.list.len() {
+            break;
         }
-        match search.step(alloc, observed, list, from)? {
+        match search.step(given, listed, from)? {
             Some(next) => from = next,
             None => break,
         }
     }
-    let done = search.left == 0;
-    let run = search.into_run();
-    if done {
-        Ok(Some(run))
+    if search.left == 0 {
+        let mut calls = Vec::with_capacity(alloc, search.order.len())?;
+        for offset in &search.order {
+            calls.push(at(listed.list, *offset))?;
+        }
+        drop(search);
+        Ok(Some(calls))
     } else {
-        drop(run);
+        drop(search);
         Ok(None)
     }
 }
 
-fn is_sure(observed: &[Observed], call: usize) -> bool {
-    match observed.get(call) {
+// Begins before any call.
+fn begin(
+    alloc: Global,
+    given: Given<'_>,
+    listed: Listed<'_>,
+    kept: bool,
+) -> Result<Search, NoMemory> {
+    let mut left: usize = 0;
+    for call in listed.list {
+        if is_sure(given, *call) {
+            left = left.saturating_add(1);
+        }
+    }
+    Ok(Search {
+        alloc,
+        held: if listed.rules.warm {
+            Held::Any
+        } else {
+            Held::Nothing
+        },
+        before: Vec::new(alloc),
+        made: Vec::from_elem(alloc, false, listed.list.len())?,
+        order: Vec::new(alloc),
+        branches: Vec::new(alloc),
+        needs: Needs::of(alloc, given, listed.list, kept)?,
+        kept,
+        low: 0,
+        left,
+    })
+}
+
+fn is_sure(given: Given<'_>, call: u32) -> bool {
+    match given.observed.get(call as usize) {
         Some(one) => one.sure,
         None => false,
     }
 }
 
 // Whether an earlier call of the same session waits.
-fn is_blocked(observed: &[Observed], waiting: &[usize], one: &Observed) -> bool {
-    for call in waiting {
-        if let Some(other) = observed.get(*call)
+fn is_blocked(given: Given<'_>, waiting: &[u32], call: u32) -> bool {
+    let Some(one) = given.observed.get(call as usize) else {
+        return true;
+    };
+    for before in waiting {
+        if let Some(other) = given.observed.get(*before as usize)
             && are_of_one_session(other, one)
         {
             return true;
@@ -108,116 +149,161 @@ fn is_blocked(observed: &[Observed], waiting: &[usize], one: &Observed) -> bool 
 }
 
 impl Search {
-    fn is_done(&self, length: usize) -> bool {
-        self.order.len() == length
-    }
-
-    fn into_run(self) -> Run {
-        let Search {
-            run,
-            made,
-            order,
-            branches,
-            low: _,
-            left: _,
-        } = self;
-        drop(made);
-        drop(order);
-        drop(branches);
-        run
-    }
-
-    // Makes the next call, or goes back. Returns where the next choice begins; none if there is none, or
-    // only calls that need not occur are left.
+    // Makes the next call, or goes back. Returns the rank at which the next choice begins; none if there
+    // is none, or only calls that need not occur are left.
     fn step(
         &mut self,
-        alloc: Global,
-        observed: &[Observed],
-        list: &[usize],
-        from: usize,
-    ) -> Result<Option<usize>, NoMemory> {
-        match self.choice(alloc, observed, list, from)? {
-            Some(Chosen { at, only, decided }) => {
+        given: Given<'_>,
+        listed: Listed<'_>,
+        from: u32,
+    ) -> Result<Option<u32>, NoMemory> {
+        match self.choice(given, listed, from)? {
+            Some(
+                Chosen {
+                    offset,
+                    only,
+                    rank,
+                    decided,
+                },
+            ) => {
                 if !only {
                     self.branches.push(Branch {
                         made: self.order.len(),
-                        next: at.saturating_add(1),
+                        from: rank.saturating_add(1),
                     })?;
                 }
-                self.make(observed, list, at, decided)?;
+                self.make(given, listed, offset, decided)?;
                 Ok(Some(0))
             }
             None if self.left == 0 => Ok(None),
             None => match self.branches.pop() {
                 Some(branch) => {
-                    self.go_back(observed, list, branch.made);
-                    Ok(Some(branch.next))
+                    self.go_back(given, listed, branch.made);
+                    Ok(Some(branch.from))
                 }
                 None => Ok(None),
             },
         }
     }
 
-    // The first call that can be next: one that changes nothing if there is one, else the first from an
-    // offset on.
+    // The call that is next: one that changes nothing if there is one, else the first by rank.
     fn choice(
         &self,
-        alloc: Global,
-        observed: &[Observed],
-        list: &[usize],
-        from: usize,
+        given: Given<'_>,
+        listed: Listed<'_>,
+        from: u32,
     ) -> Result<Option<Chosen>, NoMemory> {
         let mut until = u64::MAX;
-        let mut waiting = Vec::new(alloc);
-        let mut first: Option<Chosen> = None;
-        for at in self.low..list.len() {
-            let Some(one) = observed.get(list[at]) else {
+        let mut waiting = Vec::new(self.alloc);
+        let mut best: Option<Chosen> = None;
+        for at_list in self.low..listed.list.len() {
+            let offset = small(at_list);
+            let call = at(listed.list, offset);
+            let Some(one) = given.observed.get(call as usize) else {
                 break;
             };
             if until <= one.sent || WINDOW < waiting.len() {
                 break;
             }
-            if self.is_made(at) {
+            if self.is_made(offset) {
                 continue;
             }
-            until = until.min(end_of(one));
-            let blocked = is_blocked(observed, &waiting, one);
-            waiting.push(list[at])?;
+            until = until.min(if self.kept {
+                time_at(given.links.due.as_slice(), call)
+            } else {
+                end_of(one)
+            });
+            let blocked = is_blocked(given, &waiting, call);
+            waiting.push(call)?;
             if blocked {
                 continue;
             }
-            let reads = matches!(one.call, mc_calls::Call::Get { .. });
-            if !reads && (first.is_some() || at < from) {
-                continue;
-            }
-            let Some(decided) = self.run.decide(one)? else {
+            let found = self.chance(given, listed, offset, call, from)?;
+            let Some(chosen) = found else {
                 continue;
             };
-            let only = reads && !decided.lost;
-            if only {
-                drop(first);
-                drop(waiting);
-                return Ok(Some(Chosen { at, only, decided }));
-            }
-            if first.is_none() && from <= at {
-                drop(std::mem::replace(&mut first, Some(Chosen { at, only, decided })));
+            let better = match &best {
+                Some(other) => chosen.only || chosen.rank < other.rank,
+                None => true,
+            };
+            let only = chosen.only;
+            if better {
+                drop(std::mem::replace(&mut best, Some(chosen)));
             } else {
-                drop(decided);
+                drop(chosen);
+            }
+            if only {
+                break;
             }
         }
         drop(waiting);
-        Ok(first)
+        Ok(best)
     }
 
-    fn is_made(&self, at: usize) -> bool {
-        match self.made.get(at) {
+    // A call as the next one, if it can be.
+    fn chance(
+        &self,
+        given: Given<'_>,
+        listed: Listed<'_>,
+        offset: u32,
+        call: u32,
+        from: u32,
+    ) -> Result<Option<Chosen>, NoMemory> {
+        let Some(one) = given.observed.get(call as usize) else {
+            return Ok(None);
+        };
+        let rank = at(listed.ranks, call);
+        let changing = changes(one);
+        if changing && (rank < from || !self.needs.may_go(self.maker(), offset)) {
+            return Ok(None);
+        }
+        if self.needs.is_other(self.maker(), offset) {
+            return Ok(None);
+        }
+        let found = decide(
+            self.alloc,
+            listed.rules,
+            true,
+            &self.held,
+            one,
+            self.order.len(),
+        )?;
+        let Some(decided) = found else {
+            return Ok(None);
+        };
+        let only = !changing && !decided.lost && decided.gone.is_none();
+        if !only && rank < from {
+            drop(decided);
+            return Ok(None);
+        }
+        Ok(Some(Chosen {
+            offset,
+            only,
+            rank,
+            decided,
+        }))
+    }
+
+    // The offset of the call that made the item that the key has, or `NONE`.
+    fn maker(&self) -> u32 {
+        match &self.held {
+            Held::Item(known) => match known.origin {
+                Some(place) => at(self.order.as_slice(), small(place)),
+                None => NONE,
+            },
+            _ => NONE,
+        }
+    }
+
+    fn is_made(&self, offset: u32) -> bool {
+        match self.made.get(offset as usize) {
             Some(made) => *made,
             None => false,
         }
     }
 
-    fn set(&mut self, at: usize, value: bool) {
-        if let Some(made) = self.made.get_mut(at) {
+    fn set(&mut self, offset: u32, value: bool) {
+        if let Some(made) = self.made.get_mut(offset as usize) {
             *made = value;
         }
     }
@@ -225,23 +311,21 @@ impl Search {
     // Makes a call.
     fn make(
         &mut self,
-        observed: &[Observed],
-        list: &[usize],
-        at: usize,
+        given: Given<'_>,
+        listed: Listed<'_>,
+        offset: u32,
         decided: Decided,
     ) -> Result<(), NoMemory> {
-        let Some(call) = list.get(at) else {
-            drop(decided);
-            return Ok(());
-        };
-        self.run.make(*call, decided)?;
-        self.order.push(at)?;
-        self.set(at, true);
-        if is_sure(observed, *call) {
+        let before = std::mem::replace(&mut self.held, decided.into_held());
+        self.before.push(before)?;
+        self.order.push(offset)?;
+        self.set(offset, true);
+        self.needs.meet(offset);
+        if is_sure(given, at(listed.list, offset)) {
             self.left = self.left.saturating_sub(1);
         }
-        for _ in self.low..list.len() {
-            if !self.is_made(self.low) {
+        for _ in self.low..listed.list.len() {
+            if !self.is_made(small(self.low)) {
                 break;
             }
             self.low = self.low.saturating_add(1);
@@ -250,19 +334,18 @@ impl Search {
     }
 
     // Takes calls back, until this number is left.
-    fn go_back(&mut self, observed: &[Observed], list: &[usize], length: usize) {
+    fn go_back(&mut self, given: Given<'_>, listed: Listed<'_>, length: usize) {
         for _ in length..self.order.len() {
-            let _ = self.run.take_back();
-            let Some(at) = self.order.pop() else {
+            if let Some(before) = self.before.pop() {
+                drop(std::mem::replace(&mut self.held, before));
+            }
+            let Some(offset) = self.order.pop() else {
                 return;
             };
-            self.set(at, false);
-            if at < self.low {
-                self.low = at;
-            }
-            if let Some(call) = list.get(at)
-                && is_sure(observed, *call)
-            {
+            self.set(offset, false);
+            self.needs.miss(offset);
+            self.low = self.low.min(offset as usize);
+            if is_sure(given, at(listed.list, offset)) {
                 self.left = self.left.saturating_add(1);
             }
         }

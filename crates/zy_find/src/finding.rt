@@ -1,0 +1,146 @@
+//! Looking for an order of all calls.
+
+use crate::at_key::AtKey;
+use crate::deciding::First;
+use crate::links::links_of;
+use crate::order::{Began, Found, Rules};
+use crate::pass::{Given, Pass};
+use crate::settling::{Line, Settled, settle};
+use crate::small::NONE;
+use mc_calls::Item;
+use std::alloc::Global;
+use std::collections::BTreeSet;
+use zy_base::{Blob, NoMemory};
+use zy_refute::Observed;
+use zy_verdict::Order;
+
+// How often all calls are gone through.
+const ROUNDS: usize = 6;
+
+/// Looks for an order of the calls of a recording. The calls of each session stand together, in their
+/// order. The items of the keys in `lasting` may be lost whatever the rules say. At most `most` steps
+/// are taken at a key for each of its calls. May answer `NoMemory`.
+pub fn find(
+    alloc: Global,
+    rules: Rules,
+    lasting: &BTreeSet<Blob>,
+    observed: &[Observed],
+    most: usize,
+) -> Result<Found, NoMemory> {
+    let links = links_of(alloc, rules, observed)?;
+    let mut lines = Vec::with_capacity(alloc, links.keys.first.len())?;
+    for _ in 0..links.keys.first.len() {
+        lines.push(Vec::new(alloc))?;
+    }
+    let mut found = Found::Nothing {
+        calls: Vec::new(alloc),
+    };
+    for _ in 0..ROUNDS {
+        let given = Given {
+            observed,
+            links: &links,
+            lines: &lines,
+        };
+        let mut pass = Pass::new(alloc, rules, lasting, given)?;
+        pass.run(given)?;
+        if pass.is_right() {
+            drop(std::mem::replace(&mut found, pass.into_found(given)?));
+            break;
+        }
+        let settled = settle(alloc, given, &pass, most)?;
+        drop(pass);
+        let Settled {
+            lines: more,
+            amiss,
+            tried,
+        } = settled;
+        let ends = more.is_empty() || !amiss.is_empty();
+        let calls = if ends { amiss } else { tried };
+        drop(std::mem::replace(&mut found, Found::Nothing { calls }));
+        for Line { key, calls } in more {
+            if let Some(own) = lines.get_mut(key as usize) {
+                drop(std::mem::replace(own, calls));
+            } else {
+                drop(calls);
+            }
+        }
+        if ends {
+            break;
+        }
+    }
+    drop(lines);
+    drop(links);
+    Ok(found)
+}
+
+impl Pass {
+    // Checks whether all calls are made, and each answer can be so.
+    fn is_right(&self) -> bool {
+        let mut right = self.stuck == NONE;
+        for own in &self.keys {
+            right = right && own.amiss == NONE;
+        }
+        right
+    }
+
+    // Returns the order, with the items that the store begins with.
+    fn into_found(self, given: Given<'_>) -> Result<Found, NoMemory> {
+        let Pass {
+            alloc,
+            keys,
+            progress,
+            next,
+            back,
+            order,
+            made,
+            wanted,
+            now: _,
+            unique: last,
+            shown,
+            stuck: _,
+        } = self;
+        drop(progress);
+        drop(next);
+        drop(back);
+        drop(made);
+        drop(wanted);
+        drop(shown);
+        let mut unique = last;
+        let mut began = Vec::new(alloc);
+        for own in keys {
+            let AtKey {
+                held,
+                others,
+                call,
+                first,
+                unique: shown,
+                ..
+            } = own;
+            drop(held);
+            drop(others);
+            let key = given
+                .observed
+                .get(call as usize)
+                .and_then(|one| one.call.key());
+            match (first, key) {
+                (Some(First { flags, value }), Some(key)) => {
+                    unique = unique.saturating_add(1);
+                    let item = Item {
+                        flags,
+                        unique: shown.unwrap_or(unique),
+                        value,
+                    };
+                    began.push(Began {
+                        key: key.copy()?,
+                        item,
+                    })?;
+                }
+                (first, _) => drop(first),
+            }
+        }
+        Ok(Found::Ordered {
+            order: Order::from_vec(order),
+            began,
+        })
+    }
+}
