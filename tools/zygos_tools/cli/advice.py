@@ -13,7 +13,8 @@ ADVICE = (
     (r"no early-end ", "was the capture recorded with --ends, and are the replies those of the recording? docs/JUDGE.md says more"),
     (r"no out-of-time ", "the journal has an order that the recorded times rule out; tools/judge searches for one that fits"),
     (r"no (kind|surplus) ", "are the replies those of this recording? if they are, the server answered what no memcached answers"),
-    (r"no (unmet|shared) ", "no order of the calls explains this answer; tools/judge shows the other commands, and whether a right server may have given it"),
+    (r"no (unmet|shared) ", "no order of the calls explains this answer; tools/judge shows the other commands, and whether a right server may"
+     " have given it"),
     (r"unknown other ", "this command is not followed: leave it out of the recording, or use tools/judge, which says more"),
     (r"unknown search ", "neither an order nor a refuted call was found; tools/judge searches for longer"),
     (r"usage: ", "./zygos help has the commands and their options"),

@@ -153,8 +153,8 @@ def of_system(error: OSError) -> str:
 
 
 def signalled(number: int, _: object) -> NoReturn:
-    """The handler of the first ending signal. One Ctrl-C may come twice, as from `timeout`, so what comes next waits a second
-    for the tool to remove what it had begun to write."""
+    """The handler of the first ending signal. One Ctrl-C may come twice, as from `timeout`, so what comes next waits a
+    second for the tool to remove what it had begun to write."""
     last = time.monotonic() + SECONDS_OF_ENDING
 
     def end_at_once(again: int, _: object) -> None:
@@ -187,7 +187,7 @@ def handle_endings(handler: signal.Handlers | Callable[[int, object], None]) -> 
 
 
 def fork() -> int:
-    """Makes a process, which an ending signal ends at once: no signal comes before that is so. Gives its number, or 0 in it."""
+    """Makes a process, which an ending signal ends at once: none comes before that holds. Gives its number, or 0 in it."""
     before = signal.pthread_sigmask(signal.SIG_BLOCK, ENDING)
     try:
         child = os.fork()

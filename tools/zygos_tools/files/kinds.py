@@ -10,7 +10,8 @@ CHANGED = "a file whose line ends were changed"
 HEAD = 200
 KINDS = ((rb"ZYG(CAP|JRN|REP)\d\r\n", CHANGED), (rb"ZYGCAP[12]\n", CAPTURE), (rb"ZYGJRN1\n", JOURNAL), (rb"ZYGREP[12]\n", REPLIES),
          (rb"\xa1\xb2[\xc3\x3c][\xd4\x4d]|[\xd4\x4d][\xc3\x3c]\xb2\xa1|\n\r\r\n", PACKETS),
-         (rb"\x1f\x8b|\x28\xb5\x2f\xfd|BZh|\xfd7zXZ|PK\x03\x04|\x04\x22\x4d\x18", COMPRESSED), (rb"\Z", EMPTY), (rb"[\t\n\r -~\x80-\xff]+\Z", TEXT))
+         (rb"\x1f\x8b|\x28\xb5\x2f\xfd|BZh|\xfd7zXZ|PK\x03\x04|\x04\x22\x4d\x18", COMPRESSED),
+         (rb"\Z", EMPTY), (rb"[\t\n\r -~\x80-\xff]+\Z", TEXT))
 # what may be done about it
 CURES = {CHANGED: "copy it again as a binary file", PACKETS: "tools/packets makes a capture and a replies file of them",
          COMPRESSED: "decompress it first", EMPTY: "nothing was recorded into it, or the recorder was killed"}

@@ -1,5 +1,5 @@
-"""Asks the proved program `judge` about the bytes of a recording, before anything is searched: as they were recorded, and
-if it does not know some command, as they are translated.
+"""Asks the proved program `judge` about the bytes of a recording, before anything is searched: as they were recorded,
+and if it does not know some command, as they are translated.
 
 Nothing is proved or built for this. If the program is not there, is stopped or ends without a verdict, nothing is said,
 and the search goes on as if there were no such program.
@@ -55,7 +55,8 @@ class Answer(NamedTuple):
         if self.word != "no":
             return self
         if self.found["rule"]:
-            line = line.replace(f"record {self.found['record']}", f"record {translation.record(int(self.found['record']))}")
+            record = int(self.found["record"])
+            line = line.replace(f"record {record}", f"record {translation.record(record)}")
         elif self.found["of_command"]:
             where, command = int(self.found["where"]), int(self.found["command"])
             line = line.replace(f"command {command}", f"command {translation.command(where, command)}")

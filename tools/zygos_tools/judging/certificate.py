@@ -20,8 +20,8 @@ from array import array
 from collections import Counter
 from collections.abc import Iterable, Iterator
 
-from zygos_tools.files.formats import (END, JOURNAL_START, MOST_CONNECTIONS, MOST_HOLD, capture_start, hold, output_start,
-                                       pieces, replies_start, segment)
+from zygos_tools.files.formats import (END, JOURNAL_START, MOST_CONNECTIONS, MOST_HOLD, capture_start, hold,
+                                       output_start, pieces, replies_start, segment)
 from zygos_tools.judging.events import ADD, CAS, DELETE, REPLACE, SET, Unknown
 from zygos_tools.judging.keys import Keys
 from zygos_tools.judging.orders import CHANGED, WAS_LOST, Order

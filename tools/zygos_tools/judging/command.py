@@ -239,8 +239,8 @@ class Judging:
                 and not {"--keys", "--except-keys", "--out", "--order"} & set(self.given))
 
     def ask(self, recorded: list[bytes]) -> bool:
-        """Asks the proved program about the bytes of a capture and a replies file, if it may say something of them. Gives
-        whether it says something, which is no order."""
+        """Asks the proved program about the bytes of a capture and a replies file, if it may say something of them.
+        Gives whether it says something, which is no order."""
         has_marks = self.may_ask() and asking.has_marks(recorded[0])
         if not self.may_ask() or self.given.get("--times") != NONE and not has_marks:
             return False
@@ -256,8 +256,9 @@ class Judging:
             return
         self.ask_of(translation.pieces(), bool(recording.marks), translation)
 
-    def ask_of(self, pieces: Iterable[bytes], has_marks: bool, translation: Translation | None = None) -> asking.Answer | None:
-        """Asks about these bytes, and keeps a verdict, which is raised if it is an order. Gives what the program said."""
+    def ask_of(self, pieces: Iterable[bytes], has_marks: bool,
+               translation: Translation | None = None) -> asking.Answer | None:
+        """Asks about these bytes, and keeps a verdict, which is raised if it is an order. Gives the program's answer."""
         words = [word for word in ("--warm", "--may-forget") if word in self.given]
         self.screen.show("asking the proved program")
         answer = asking.ask(ZYGOS, [*words, "--shards", str(self.given.get("--shards", 16))], pieces,

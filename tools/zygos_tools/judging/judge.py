@@ -31,8 +31,8 @@ class Judge:
 
     With `is_first` the search stops at the first fault. `faults` has what is said of answers that no run gives, and of
     keys that have no order. `is_chosen` says which keys are looked at; `is_closed` is whether no command names some
-    that are and some that are not. `asks` is called with what was read, before an answer is held against its command, if
-    all sessions can be followed.
+    that are and some that are not. `asks` is called with what was read, before an answer is held against its command,
+    if all sessions can be followed.
     """
 
     def __init__(self, capture: bytes, outputs: Iterable[Output], shards: int = 16, kind: str | None = None,

@@ -51,7 +51,8 @@ BAD_META = "an ms has a flag that the profile leaves out, and its block may be d
 # how many keys are named in a line
 MOST_NAMED = 8
 # the commands of operators, which touch no item
-OPERATORS = (b"stats", b"slabs", b"lru", b"lru_crawler", b"watch", b"extstore", b"cache_memlimit", b"me", b"refresh_certs", b"shutdown")
+OPERATORS = (b"stats", b"slabs", b"lru", b"lru_crawler", b"watch", b"extstore", b"cache_memlimit", b"me",
+             b"refresh_certs", b"shutdown")
 
 
 class Odd(NamedTuple):
@@ -69,8 +70,8 @@ class Recording:
     what that is, and those of `outside` have a faulty line, each with its number. Of keys that are `unsure` nothing can
     be refused, each for its reason. `forgetting` has the commands after which the server may lose items, and `tails` the
     last commands of sessions, if they have no end and another session follows. `surplus` has the sessions whose last
-    answer is to no command. `entered` has the authentications that are left out. `early` has when the first bytes of a command came, if it came in several segments, and
-    `since` the same of each connection's command that is not whole.
+    answer is to no command. `entered` has the authentications that are left out. `early` has when the first bytes of a
+    command came, if it came in several segments, and `since` the same of each connection's command that is not whole.
     """
 
     def __init__(self, capture: bytes, shards: int = 16, look: Callable[[], None] = lambda: None):

@@ -169,8 +169,8 @@ class Reason:
         return forgotten if forgotten and self.may_be_lost(self.all) else None
 
     def may_expire(self) -> bool:
-        """Whether there may be an order where the items that were there at first have expired: at some time before the first
-        store that surely took their place was sent, or between that and this store."""
+        """Whether there may be an order where the items that were there at first have expired: at some time before the
+        first store that surely took their place was sent, or between that and this store."""
         events = list(self.all)
         for number, name in enumerate(self.names):
             own = [event for event in events if event.key == name]

@@ -15,9 +15,10 @@ READ_AS = {b"touch": "touch", b"gat": "gat", b"gats": "gat", b"bget": "gat", b"v
            b"mn": "words left out"}
 
 
-def rewritten(recording: Recording, frames: Mapping[int, bytes], answers: Mapping[int, bytes]) -> Iterator[tuple[int, bytes]]:
-    """The records of a capture in their order, each after its place. Some commands have other frames, or none, and then no
-    mark; nor has a command whose answer is to be empty. Of what is left out there is a text without bytes."""
+def rewritten(recording: Recording, frames: Mapping[int, bytes],
+              answers: Mapping[int, bytes]) -> Iterator[tuple[int, bytes]]:
+    """The records of a capture in their order, each after its place. Some commands have other frames, or none, and then
+    no mark; nor has a command whose answer is to be empty. Of what is left out there is a text without bytes."""
     part = Part("capture", recording.capture)
     writers: dict[int, Session] = {}
     sessions, of_session = Counter[int](), dict(sessions_of(recording))

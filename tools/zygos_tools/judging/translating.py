@@ -35,8 +35,8 @@ OTHERS = ("bytes of an answer that is cut off",)
 
 
 class Translation:
-    """A recording whose commands have their answers, as it is given to the program; `counts` says what is translated. With
-    `loses` all items may be lost."""
+    """A recording whose commands have their answers, as it is given to the program; `counts` says what is translated.
+    With `loses` all items may be lost."""
 
     def __init__(self, recording: Recording, loses: bool):
         self.recording, self.table = recording, recording.table
@@ -114,8 +114,8 @@ class Translation:
     # ---- the files
 
     def is_whole(self) -> bool:
-        """Whether all that was answered is that of commands: an answer that is cut off may be that of a command that is left
-        out."""
+        """Whether all that was answered is that of commands: an answer that is cut off may be that of a command that is
+        left out."""
         for session, asked in sessions_of(self.recording):
             if self.rest(session, asked) and any(self.frames.get(one) == b"" for one in asked):
                 return False
@@ -148,7 +148,7 @@ class Translation:
     # ---- what the program says
 
     def command(self, connection: int, number: int) -> int:
-        """The number of a recorded command, by that of the one that the program read; that one itself if there is none."""
+        """The number of a recorded command, by that of the one that the program read; that itself if there is none."""
         asked = self.recording.of_connection[connection]
         kept = [at for at, one in enumerate(asked) if self.frames.get(one) != b""]
         return kept[number] if number < len(kept) else number

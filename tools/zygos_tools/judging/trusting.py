@@ -1,7 +1,7 @@
 """When a `no` of the proved program is passed over, as a right server may have given these answers.
 
-The program takes each command to have come to a memcached that executed it or refused it by its answer, once the command
-was whole. A proxy, a connection that was not served, or a line that the server reads otherwise breaks that. The search
+The program takes each command to have come to a memcached that executed it or refused it by its answer, once the
+command was whole. A proxy, a connection that was not served, or a line that the server reads otherwise breaks that. The search
 then says what it finds, and its `no` is not proved.
 """
 from __future__ import annotations
@@ -32,8 +32,8 @@ def is_doubtful(recording: Recording, answer: Answer, loses: bool) -> bool:
 
 
 def doubtful_keys(recording: Recording) -> set[bytes]:
-    """The keys of commands that may have been authentications, that a proxy may have passed on although it said that they
-    failed, and that a memcached began to execute before they were whole."""
+    """The keys of commands that may have been authentications, that a proxy may have passed on although it said that
+    they failed, and that a memcached began to execute before they were whole."""
     table = recording.table
     found = {*recording.entered, *(one for one in firsts_of(recording) if is_entering(recording, one))}
     for one, state in enumerate(table.state):

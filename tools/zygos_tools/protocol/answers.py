@@ -85,7 +85,8 @@ def is_whole(answer: bytes) -> bool:
         return size is not None and answer[:at].endswith(b"\n") and len(answer) == at + size + 2
     if answer.startswith(LISTS):
         last = answer.rfind(b"\n", 0, -1) + 1
-        return LAST_STAT.fullmatch(answer, last) is not None or answer.endswith((b"\nEND\r\n", b"\nEN\r\n")) or b"ERROR" in answer.rpartition(b"\n")[0].rpartition(b"\n")[2]
+        has_end = answer.endswith((b"\nEND\r\n", b"\nEN\r\n")) or LAST_STAT.fullmatch(answer, last) is not None
+        return has_end or b"ERROR" in answer.rpartition(b"\n")[0].rpartition(b"\n")[2]
     return answer.endswith(b"\n")
 
 
