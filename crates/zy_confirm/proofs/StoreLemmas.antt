@@ -1,6 +1,7 @@
 -- A store of which one shard has changed.
+use Rattle.std.specs.Prelude.{⊤}
 use Rattle.std.specs.List.{slice_get, slice_set}
-use Rattle.std.proofs.Common.{◌≡◌, ℕ, zero, suc, ◌<◌, Bool, true, false, cond, not, List, [], ◌∷◌, length, Option, None, Some, ⊎_elim, refl, sym, ap, ◌∙◌, arith}
+use Rattle.std.proofs.Common.{◌≡◌, ℕ, zero, suc, ◌+◌, ◌*◌, ◌%◌, ◌^◌, ◌<◌, Bool, true, false, cond, not, List, [], ◌∷◌, length, Option, None, Some, Result, Ok, Err, OnOk, ⊎_elim, refl, sym, ap, ◌∙◌, arith}
 use Rattle.std.proofs.lemmas.List.{length-set}
 use Rattle.std.proofs.lemmas.Bool.{cases_eq}
 use Rattle.std.specs.Ordering.{nat_cmp}
@@ -8,12 +9,13 @@ use Rattle.std.specs.Cmp.{eq_by_cmp_equiv}
 use Rattle.std.specs.Cmp.Lexicographic.{slice_cmp, nat_list_cmp_total}
 use Rattle.std.specs.BTreeMap.{BTreeMap, is_at, get, Updates}
 use Rattle.std.specs.BTreeSet.{contains}
+use Rattle.zy_base.specs.declared.outside.NoMemory.{NoMemory}
 use Rattle.mc_allows.specs.Steps.{is_same}
 use Rattle.mc_calls.specs.declared.item.Item.{Item}
-use Rattle.mc_calls.specs.Key.{shard_of}
+use Rattle.mc_calls.specs.Key.{hash_of, shard_of}
 use Rattle.zy_confirm.specs.declared.store.Store.{Store}
 use Rattle.zy_confirm.specs.declared.outcome.After.TheVariants.{Put, Gone}
-use Rattle.zy_confirm.specs.Store.{item_on_shard, store_shards, held_at, ChangesAt, LosesItem}
+use Rattle.zy_confirm.specs.Store.{item_on_shard, store_shards, held_at, losses_in, losses_at, mark_of, is_used, ChangesAt, NotesLoss, LosesItem}
 
 pub set_same : {A : Type 0} (xs : List A) (i : ℕ) (y : A) → i < length xs → slice_get (slice_set xs i y) i ≡ Some y
 set_same [] i y within = absurd (omega arith)
@@ -77,31 +79,68 @@ is_not : (b : Bool) → true ≡ not b → b ≡ false
 is_not true is = cc
 is_not false is = refl
 
+-- a mark depends on the losses of its key
+mark_same : (old new : Store) (key : List ℕ) (unique : ℕ) → losses_at new key ≡ losses_at old key → mark_of new key unique ≡ mark_of old key unique
+mark_same old new key unique same = ap (λ (losses : ℕ). (unique + (hash_of key + losses) * 4294967296 % 2 ^ 64) % 2 ^ 64) same
+
+losses_same : (old new : Store) → new.losses ≡ old.losses → (key : List ℕ) → losses_at new key ≡ losses_at old key
+losses_same old new is key = ap (λ (m : BTreeMap (List ℕ) ℕ). losses_in (get (slice_cmp nat_cmp) m key)) is
+
+used_same : (old new : Store) (key : List ℕ) → losses_at new key ≡ losses_at old key → new.used ≡ old.used → (unique : ℕ) → is_used old key unique ≡ true → is_used new key unique ≡ true
+used_same old new key same used unique known =
+    ap (λ u. contains nat_cmp u (mark_of new key unique)) used ∙ ap (contains nat_cmp old.used) (mark_same old new key unique same) ∙ known
+
 module _ (old new : Store) (key : List ℕ) (s : ℕ) (items items' : BTreeMap (List ℕ) Item) (within : s < store_shards old) (own : s ≡ shard_of key (store_shards old))
     (was : slice_get old.shards.items s ≡ Some items) (is : new.shards.items ≡ slice_set old.shards.items s items') where
-  pub put_changes : (item : Item) → Updates (slice_cmp nat_cmp) items items' key (Some item) → true ≡ not (contains nat_cmp old.used item.unique)
-      → ((one : ℕ) → contains nat_cmp new.used one ≡ cond (is_at (nat_cmp item.unique) one) true (contains nat_cmp old.used one)) → contains nat_cmp new.used item.unique ≡ true
+  pub put_changes : (item : Item) → Updates (slice_cmp nat_cmp) items items' key (Some item) → new.losses ≡ old.losses → (mark : ℕ) → mark ≡ mark_of old key item.unique
+      → true ≡ not (contains nat_cmp old.used mark)
+      → ((one : ℕ) → contains nat_cmp new.used one ≡ cond (is_at (nat_cmp mark) one) true (contains nat_cmp old.used one)) → contains nat_cmp new.used mark ≡ true
       → ChangesAt old new key item.unique (Put item.flags item.value)
-  put_changes item updates fresh used given = record {
+  put_changes item updates losses mark mark_is fresh used given = record {
     shards = same_count old new s items items' within was is;
     here = held_here old new s items items' within was is key (sym own) ∙ updates.1;
     others = λ other differ. held_else old new s items items' within was is key (Some item) updates.0 other differ;
-    used = λ any one known. used one ∙ kept_true (is_at (nat_cmp item.unique) one) (contains nat_cmp old.used one) known;
-    fresh = (is_not (contains nat_cmp old.used item.unique) fresh, given);
+    used = λ any one known.
+        ap (contains nat_cmp new.used) (mark_same old new any one (losses_same old new losses any))
+        ∙ used (mark_of old any one) ∙ kept_true (is_at (nat_cmp mark) (mark_of old any one)) (contains nat_cmp old.used (mark_of old any one)) known;
+    fresh = (
+      ap (contains nat_cmp old.used) (sym mark_is) ∙ is_not (contains nat_cmp old.used mark) fresh,
+      ap (contains nat_cmp new.used) (mark_same old new key item.unique (losses_same old new losses key) ∙ sym mark_is) ∙ given,
+    );
   }
 
-  pub gone_changes : Updates (slice_cmp nat_cmp) items items' key None → new.used ≡ old.used → ChangesAt old new key 0 Gone
-  gone_changes updates used = record {
+  pub gone_changes : Updates (slice_cmp nat_cmp) items items' key None → new.used ≡ old.used → new.losses ≡ old.losses → ChangesAt old new key 0 Gone
+  gone_changes updates used losses = record {
     shards = same_count old new s items items' within was is;
     here = held_here old new s items items' within was is key (sym own) ∙ updates.1;
     others = λ other differ. held_else old new s items items' within was is key None updates.0 other differ;
-    used = λ any one known. ap (λ u. contains nat_cmp u one) used ∙ known;
+    used = λ any one known. used_same old new any (losses_same old new losses any) used one known;
     fresh = tt;
   }
 
--- a removal is a loss
-pub gone_loses : (old new : Store) (key : List ℕ) → ChangesAt old new key 0 Gone → LosesItem old new key
-gone_loses old new key changes = record { shards = changes.shards; here = changes.here; others = changes.others; used = λ other differ. changes.used other }
+-- ---- losses
+
+-- another key has the losses that it had
+pub others_lose : (old new : BTreeMap (List ℕ) ℕ) (key : List ℕ) (losses : ℕ) → Updates (slice_cmp nat_cmp) old new key (Some losses) → (other : List ℕ) → is_same other key ≡ false
+    → losses_in (get (slice_cmp nat_cmp) new other) ≡ losses_in (get (slice_cmp nat_cmp) old other)
+others_lose old new key losses updates other differ = ap losses_in (updates.2 other ((eq_by_cmp_equiv nat_list_cmp_total).symm key other ∙ differ))
+
+-- a removal that is noted is a loss
+gone_loses : (old middle new : Store) (key : List ℕ) → ChangesAt old middle key 0 Gone → NotesLoss middle new key → LosesItem old new key
+gone_loses old middle new key changes notes =
+    let count : store_shards new ≡ store_shards middle = ap (λ (l : List (BTreeMap (List ℕ) Item)). length l) notes.shards in
+    let held : (own : List ℕ) → held_at new own ≡ held_at middle own = λ own.
+    ap (λ (l : List (BTreeMap (List ℕ) Item)). item_on_shard (slice_get l (shard_of own (length l))) own) notes.shards in
+    record {
+      shards = count ∙ changes.shards;
+      here = held key ∙ changes.here;
+      others = λ other differ. held other ∙ changes.others other differ;
+      used = λ other differ unique known. used_same middle new other (notes.others other differ) notes.used unique (changes.used other unique known);
+    }
+
+pub loses_by : (old middle new : Store) (key : List ℕ) → ChangesAt old middle key 0 Gone → (r : Result ⊤ NoMemory) → OnOk r (NotesLoss middle new key) → OnOk r (LosesItem old new key)
+loses_by old middle new key changes (Ok done) notes = gone_loses old middle new key changes notes
+loses_by old middle new key changes (Err refused) notes = tt
 
 -- ---- no items
 

@@ -1,5 +1,6 @@
 -- The items of a server at a point of an order. No public clause cites this module.
-use Rattle.std.specs.Prelude.{◌≡◌, ℕ, ◌<◌, Bool, true, false, List, [], ◌∷◌, length, Option, None, Some}
+use Rattle.std.specs.Prelude.{◌≡◌, ℕ, ◌+◌, ◌*◌, ◌%◌, ◌^◌, ◌<◌, Bool, true, false, List, [], ◌∷◌, length}
+use Rattle.std.specs.Prelude.{Option, None, Some}
 use Rattle.std.specs.List.{slice_get}
 use Rattle.std.specs.Ordering.{nat_cmp}
 use Rattle.std.specs.Cmp.Lexicographic.{slice_cmp}
@@ -10,7 +11,7 @@ use Rattle.mc_allows.specs.Allows.{Allows}
 use Rattle.mc_allows.specs.Steps.{KeyStep, made, lost, is_same, AreAllowed, item_after}
 use Rattle.mc_allows.specs.Steps.{unique_stored, uniques_with, first_uniques, HaveNewUniques}
 use Rattle.mc_calls.specs.declared.item.Item.{Item}
-use Rattle.mc_calls.specs.Key.{shard_of}
+use Rattle.mc_calls.specs.Key.{hash_of, shard_of}
 use Rattle.mc_parse.specs.declared.shard_call.ShardCall.{ShardCall}
 use Rattle.zy_verdict.specs.Entries.{MadeCall, is_at_key, placed_at, AreStepsOf}
 use Rattle.zy_confirm.specs.declared.outcome.After.{After}
@@ -32,9 +33,22 @@ store_shards store = length store.shards.items
 abbrev pub held_at : Store → List ℕ → Option Item
 held_at store key = item_on_shard (slice_get store.shards.items (shard_of key (store_shards store))) key
 
--- the unique was given to an item of a key since the last loss of one, or to another item
+-- a number of losses, which is none for a key without one
+abbrev pub losses_in : Option ℕ → ℕ
+losses_in None = 0
+losses_in (Some losses) = losses
+
+-- how many losses a key had
+abbrev pub losses_at : Store → List ℕ → ℕ
+losses_at store key = losses_in (get (slice_cmp nat_cmp) store.losses key)
+
+-- the mark of a key's unique since the key's last loss
+abbrev pub mark_of : Store → List ℕ → ℕ → ℕ
+mark_of store key unique = (unique + (hash_of key + losses_at store key) * 4294967296 % 2 ^ 64) % 2 ^ 64
+
+-- the unique was given to an item of a key since the last loss of one, or has the mark of another one that was given
 abbrev pub is_used : Store → List ℕ → ℕ → Bool
-is_used store key unique = contains nat_cmp store.used unique
+is_used store key unique = contains nat_cmp store.used (mark_of store key unique)
 
 -- each of these uniques was given to an item of a key
 abbrev pub AreUsed : Store → List ℕ → List ℕ → Type 0
@@ -82,6 +96,12 @@ pub record LosesItem (before after : Store) (key : List ℕ) : Type 0 where
   pub others : (other : List ℕ) → is_same other key ≡ false → held_at after other ≡ held_at before other
   pub used : (other : List ℕ) → is_same other key ≡ false → (unique : ℕ) → is_used before other unique ≡ true
       → is_used after other unique ≡ true
+
+-- a loss at a key was noted
+pub record NotesLoss (before after : Store) (key : List ℕ) : Type 0 where
+  pub shards : after.shards.items ≡ before.shards.items
+  pub used : after.used ≡ before.used
+  pub others : (other : List ℕ) → is_same other key ≡ false → losses_at after other ≡ losses_at before other
 
 -- the items of one shard were removed
 pub record Clears (before after : Store) (shard : ℕ) : Type 0 where

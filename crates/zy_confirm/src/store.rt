@@ -1,21 +1,26 @@
 //! The items of a server at a point of an order.
 ghost use Rattle.std.specs.Prelude.{◌≡◌, ◌<◌, None, true, option_copied, IfOk, OnOk};
 ghost use Rattle.mc_calls.specs.Key.{shard_of};
-ghost use Rattle.zy_confirm.specs.Store.{store_shards, held_at, ChangesAt, LosesItem, Clears, HoldsNothing};
+ghost use Rattle.zy_confirm.specs.Store.{store_shards, held_at, losses_at, mark_of, NotesLoss};
+ghost use Rattle.zy_confirm.specs.Store.{ChangesAt, LosesItem, Clears, HoldsNothing};
 
 use crate::outcome::After;
-use mc_calls::Item;
+use mc_calls::{Item, hash_of};
 use std::alloc::Global;
 use std::collections::{BTreeMap, BTreeSet};
 use std::mem;
 use zy_base::{Blob, NoMemory};
 
-/// The items of each shard, and the uniques that were given.
+/// The items of each shard, and the uniques that were given at each key since its last loss.
 #[derive(Drop)]
 pub struct Store {
     alloc: Global,
     shards: Vec<BTreeMap<Blob, Item>>,
+    /// A mark for each unique that was given. Two keys may have the same mark for different uniques;
+    /// then both count as given.
     used: BTreeSet<u64>,
+    /// How many losses the keys had that had some.
+    losses: BTreeMap<Blob, u32>,
 }
 
 impl Store {
@@ -33,6 +38,7 @@ impl Store {
             alloc,
             shards: made,
             used: BTreeSet::new(alloc),
+            losses: BTreeMap::new(alloc),
         })
     }
 
@@ -84,7 +90,8 @@ impl Store {
         ensures changed { IfOk result (λ new. new ≡ true
             → ChangesAt self.old self.new key.now item.unique (After.Put item.flags item.value)) }
     {
-        match self.used.insert(item.unique) {
+        let mark = self.mark_of(key, item.unique);
+        match self.used.insert(mark) {
             Ok(true) => {}
             Ok(false) => {
                 drop(item);
@@ -123,13 +130,47 @@ impl Store {
         drop(self.shards[shard as usize].remove(key));
     }
 
-    /// Loses the item of a key, which is on this shard.
-    pub fn lose(&mut self, shard: u32, key: &Blob)
+    /// Loses the item of a key, which is on this shard. Its uniques may be given again.
+    pub fn lose(&mut self, shard: u32, key: &Blob) -> Result<(), NoMemory>
         requires within { shard < store_shards self.old }
         requires own { shard ≡ shard_of key.now (store_shards self.old) }
-        ensures lost { LosesItem self.old self.new key.now }
+        ensures lost { OnOk result (LosesItem self.old self.new key.now) }
     {
         self.remove(shard, key);
+        self.note_loss(key)
+    }
+
+    // Notes a loss of a key's item.
+    fn note_loss(&mut self, key: &Blob) -> Result<(), NoMemory>
+        ensures noted { OnOk result (NotesLoss self.old self.new key.now) }
+    {
+        let losses = self.losses_at(key).wrapping_add(1);
+        let key = key.copy()?;
+        match self.losses.insert(key, losses) {
+            Ok(_) => Ok(()),
+            Err(refused) => {
+                drop(refused);
+                Err(NoMemory)
+            }
+        }
+    }
+
+    // Returns how many losses a key had.
+    fn losses_at(&self, key: &Blob) -> u32
+        ensures value { result ≡ losses_at self.now key.now }
+    {
+        match self.losses.get(key) {
+            Some(losses) => *losses,
+            None => 0,
+        }
+    }
+
+    // Returns the mark of a key's unique since the key's last loss.
+    fn mark_of(&self, key: &Blob, unique: u64) -> u64
+        ensures value { result ≡ mark_of self.now key.now unique }
+    {
+        let round = hash_of(key.bytes()) as u64 + self.losses_at(key) as u64;
+        unique.wrapping_add(round.wrapping_mul(4_294_967_296))
     }
 
     // Removes all items of a shard.

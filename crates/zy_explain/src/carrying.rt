@@ -1,5 +1,5 @@
 //! Making a call as an order says.
-ghost use Rattle.std.specs.Prelude.{◌≡◌, true, IfOk, IfSome};
+ghost use Rattle.std.specs.Prelude.{◌≡◌, true, IfOk, IfSome, OnOk};
 ghost use Rattle.zy_confirm.specs.Store.{store_shards};
 ghost use Rattle.zy_explain.specs.Making.{IsOnShards, MayHaveLost, CarriesOut, FailsLawfully, may_lose_in};
 
@@ -25,35 +25,37 @@ pub(crate) fn carry_out(
     ensures carried { IfOk result (λ found. IfSome found
         (CarriesOut (may_lose_in forget lasting.now) store.old store.new call.now)) }
 {
-    if !lose(forget, lasting, store, call, placement.lost) {
+    let done = lose(forget, lasting, store, call, placement.lost)?;
+    if !done {
         return Ok(None);
     }
     make(alloc, store, call, placement.choice, placement.unique)
 }
 
-// Loses the item of a call's key, if it is lost and may be.
+// Loses the item of a call's key, if it is lost and may be. Returns whether it may be, if it is.
 fn lose(
     forget: bool,
     lasting: &BTreeSet<Blob>,
     store: &mut Store,
     call: &ShardCall,
     is_lost: bool,
-) -> bool
+) -> Result<bool, NoMemory>
     requires shard { IsOnShards (store_shards store.old) call.now }
-    ensures lost { result ≡ true → MayHaveLost (may_lose_in forget lasting.now) store.old store.new }
-    ensures kept { store_shards store.new ≡ store_shards store.old }
+    ensures lost { IfOk result
+        (λ done. done ≡ true → MayHaveLost (may_lose_in forget lasting.now) store.old store.new) }
+    ensures kept { OnOk result (store_shards store.new ≡ store_shards store.old) }
 {
     if !is_lost {
-        return true;
+        return Ok(true);
     }
     let Some(key) = call.call.key() else {
-        return false;
+        return Ok(false);
     };
     if !forget && !lasting.contains(key) {
-        return false;
+        return Ok(false);
     }
-    store.lose(call.shard, key);
-    true
+    store.lose(call.shard, key)?;
+    Ok(true)
 }
 
 /// Checks whether a call may have failed, if it did.

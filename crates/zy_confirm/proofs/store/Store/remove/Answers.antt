@@ -9,5 +9,5 @@ returns c = record {
       let old = c.args.self.now in
       gone_changes old _ c.args.key.now c.args.shard c.index_mut.result.now c.remove.new.self c.requires.within c.requires.own
       (slice_get_read old.shards.items _ c.args.shard c.index_mut.result.now refl c.requires.within c.index_mut.ensures.value) refl
-      c.remove.ensures.updates refl;
+      c.remove.ensures.updates refl refl;
 }
