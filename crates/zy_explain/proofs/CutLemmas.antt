@@ -2,17 +2,21 @@
 use Rattle.std.specs.List.{slice_get, concat}
 use mathlib.Core.Logic.{dite}
 use native.Mathlib.Decide.{dec_lt}
-use Rattle.std.proofs.Common.{◌≡◌, ◌⊎◌, inl, inr, ⊎_elim, ℕ, zero, suc, ◌+◌, ◌-◌, ◌<◌, ◌≤◌, Bool, false, List, [], ◌∷◌, ◌++◌, length, take, drop, map, nat_lt, replicate, get_or, Some, take-add, take-append-drop, length-take-le, lt-ltb, refl, sym, ap, ◌∙◌, append-nil, subst, arith}
+use Rattle.std.proofs.Common.{◌≡◌, ◌⊎◌, inl, inr, ⊎_elim, ℕ, zero, suc, ◌+◌, ◌-◌, ◌<◌, ◌≤◌, Bool, true, false, List, [], ◌∷◌, ◌++◌, length, take, drop, map, nat_lt, replicate, get_or, option_map, Some, take-add, take-append-drop, length-take-le, lt-ltb, refl, sym, ap, ◌∙◌, append-nil, subst, arith}
 use Rattle.std.proofs.lemmas.List.{map-append, length-append, length-drop, length-map, length-replicate, take_all, take-append-le, nil_from_length}
 use Rattle.std.proofs.lemmas.List.Folds.{concat-append}
-use Rattle.std.proofs.lemmas.Option.{slice_get_within, get_or_from_slice_get}
+use Rattle.std.proofs.lemmas.Option.{slice_get-map, slice_get_within, get_or_from_slice_get}
 use Rattle.mc_allows.specs.declared.said.Said.{Said}
-use Rattle.mc_answers.specs.Answer.{IsAnswer}
-use Rattle.mc_answers.specs.Output.{Cut, IsCut, FitsText, BeginsAnswer, text_at}
+use Rattle.mc_answers.specs.Answer.{IsTextOf, IsAnswer, IsSomeAnswer}
+use Rattle.mc_answers.specs.Kinds.{IsErrorLine}
+use Rattle.mc_answers.specs.Output.{Cut, IsCut, FitsText, BeginsAnswer, IsOverLine, text_at}
 use Rattle.mc_parse.specs.declared.command.Command.{Command}
+use Rattle.mc_parse.specs.Deed.{says_of, is_unsaid}
+use Rattle.mc_parse.specs.Saying.{Saying, says_reply, says_items, says_counts, says_line, says_marks}
 use Rattle.zy_check.specs.Answered.{has_bytes}
 use Rattle.zy_check.proofs.ListLemmas.{there, get_append, take_one}
 use Rattle.zy_confirm.specs.NextText.{IsNextText}
+use Rattle.zy_explain.specs.Over.{AsksForNone, IsWholeAt}
 use Rattle.zy_explain.specs.Following.{IsTextOrNone, IsCutShort, IsCutTo}
 
 -- ---- lists
@@ -163,15 +167,45 @@ no_flags : (n : ℕ) → map has_bytes (replicate n []) ≡ replicate n false
 no_flags zero = refl
 no_flags (suc n) = ap (λ (l : List Bool). false ∷ l) (no_flags n)
 
--- a text behind which nothing is left is the last
-last_text : (texts : List (List ℕ)) (output : List ℕ) (i : ℕ) (text : List ℕ) → concat texts ≡ output → slice_get texts i ≡ Some text → length output ≤ length (concat (take i texts)) + length text → concat (drop (i + 1) texts) ≡ []
-last_text texts output i text whole is long =
+-- a text behind which nothing is left is the last, and the texts reach to the end of the output
+last_text : (texts : List (List ℕ)) (output : List ℕ) (i : ℕ) (text : List ℕ) (at : ℕ) → concat texts ≡ take at output → at ≤ length output → slice_get texts i ≡ Some text
+    → length output ≤ length (concat (take i texts)) + length text → (concat (drop (i + 1) texts) ≡ []) × (length output ≤ at)
+last_text texts output i text at whole within is long =
     let parts = sym (ap concat (take-append-drop (i + 1) texts)) ∙ concat-append (take (i + 1) texts) (drop (i + 1) texts) in
     let all = ap (λ (l : List ℕ). length l) (sym whole ∙ parts) ∙ length-append (concat (take (i + 1) texts)) (concat (drop (i + 1) texts)) in
+    let some = length-take-le at output within in
     let front = ap (λ (l : List (List ℕ)). length (concat l)) (take_one texts i text is) ∙ ap (λ (l : List ℕ). length l) (joined_push (take i texts) text) ∙ length-append (concat (take i texts)) text in
-    nil_from_length (concat (drop (i + 1) texts)) (omega (arith, all, front, long))
+    (nil_from_length (concat (drop (i + 1) texts)) (omega (arith, all, some, front, long, within)), omega (arith, all, some, front, long))
 
-module _ (commands : List Command) (saids : ℕ → List Said) (output : List ℕ) (answered : List Bool) (at : ℕ) (c : IsCutTo commands saids output answered at) (end : length output ≤ at) where
+-- nothing is left of an output that is cut to its end
+nothing_left : (at : ℕ) (output : List ℕ) → length output ≤ at → drop at output ≡ []
+nothing_left at output end = nil_from_length (drop at output) (let left = length-drop at output in omega (arith, left, end))
+
+-- ---- an error line that is left
+
+some_bytes : (text : List ℕ) → IsErrorLine text → text ≡ [] → ⊥
+some_bytes text (inl error) none = let is = sym none ∙ error.is in cc
+some_bytes text (inr (inl error)) none = let is = sym none ∙ error.is in cc
+some_bytes text (inr (inr error)) none = let is = sym none ∙ error.is in cc
+
+unsaid_empty : (says : Saying) (saids : List Said) (bytes : List ℕ) → is_unsaid says ≡ true → IsTextOf says saids bytes → bytes ≡ []
+unsaid_empty (says_reply true) saids bytes unsaid text = text
+unsaid_empty (says_reply false) saids bytes unsaid text = absurd (cc)
+unsaid_empty (says_line fixed true) saids bytes unsaid text = text
+unsaid_empty (says_line fixed false) saids bytes unsaid text = absurd (cc)
+unsaid_empty (says_items keys asked) saids bytes unsaid text = absurd (cc)
+unsaid_empty says_counts saids bytes unsaid text = absurd (cc)
+unsaid_empty (says_marks about key letters) saids bytes unsaid text = absurd (cc)
+
+-- a command that asks for no answer is not answered by an error line
+not_answered : (command : Command) (bytes : List ℕ) → AsksForNone command → IsErrorLine bytes → IsSomeAnswer command bytes → ⊥
+not_answered command bytes quiet error some = some_bytes bytes error (unsaid_empty (says_of command) some.saids bytes quiet some.answer.text)
+
+no_bytes : (text : List ℕ) → text ≡ [] → has_bytes text ≡ false
+no_bytes [] is = refl
+no_bytes (byte ∷ bytes) is = absurd (cc)
+
+module _ (commands : List Command) (saids : ℕ → List Said) (output : List ℕ) (answered : List Bool) (at : ℕ) (c : IsCutTo commands saids output answered at) (end : IsWholeAt commands output answered at) where
   -- how many commands have no text
   abbrev pub missing : ℕ
   missing = length commands - length c.texts
@@ -180,10 +214,10 @@ module _ (commands : List Command) (saids : ℕ → List Said) (output : List �
   all_texts = c.texts ++ replicate missing []
 
   abbrev pub the_cut : Cut
-  the_cut = record { texts = all_texts; left = [] }
+  the_cut = record { texts = all_texts; left = drop at output }
 
-  whole : concat all_texts ≡ output
-  whole = concat-append c.texts (replicate missing []) ∙ ap (λ (l : List ℕ). concat c.texts ++ l) (no_texts missing) ∙ append-nil (concat c.texts) ∙ c.whole ∙ take_all at output end
+  whole : concat all_texts ≡ take at output
+  whole = concat-append c.texts (replicate missing []) ∙ ap (λ (l : List ℕ). concat c.texts ++ l) (no_texts missing) ∙ append-nil (concat c.texts) ∙ c.whole
 
   inside : (i : ℕ) (command : Command) (text : List ℕ) → slice_get commands i ≡ Some command → slice_get c.texts i ≡ Some text → FitsText the_cut i command (saids i)
   inside i command text is own =
@@ -192,10 +226,12 @@ module _ (commands : List Command) (saids : ℕ → List Said) (output : List �
       let same : text ≡ text_at the_cut i = sym (get_or_from_slice_get all_texts i text [] there_too) in
       ⊎_elim
       (λ answer. inl (subst (IsAnswer command (saids i)) same answer))
-      (λ short. inr (
-        last_text all_texts output i text whole there_too
-            (subst (λ (l : List (List ℕ)). length output ≤ length (concat l) + length text) (sym (take-append-le i c.texts (replicate missing []) (omega (arith, below)))) short.0),
-        ⊎_elim (λ none. inl (sym same ∙ none)) (λ begins. inr (refl, subst (BeginsAnswer command (saids i)) same begins)) short.1,
+      (λ short.
+      let last = last_text all_texts output i text at whole c.within there_too
+      (subst (λ (l : List (List ℕ)). length output ≤ length (concat l) + length text) (sym (take-append-le i c.texts (replicate missing []) (omega (arith, below)))) short.0) in
+      inr (
+        last.0,
+        ⊎_elim (λ none. inl (sym same ∙ none)) (λ begins. inr (nothing_left at output last.1, subst (BeginsAnswer command (saids i)) same begins)) short.1,
       ))
       (c.each i command text is own)
 
@@ -207,18 +243,39 @@ module _ (commands : List Command) (saids : ℕ → List Said) (output : List �
       (λ below. let own = there c.texts i below in inside i command own.0 is own.1)
       (λ past. outside i command (omega (arith, past)))
 
+  texts_size : length c.texts ≡ length answered
+  texts_size = sym (ap (λ (l : List Bool). length l) c.flags ∙ length-map c.texts has_bytes)
+
+  -- a command without a byte is not answered
+  unanswered : (i : ℕ) → i < length answered → text_at the_cut i ≡ [] → slice_get answered i ≡ Some false
+  unanswered i below none =
+      let own = there c.texts i (let same = texts_size in omega (arith, below, same)) in
+      let there_too : slice_get all_texts i ≡ Some own.0 = get_append c.texts (replicate missing []) i (let same = texts_size in omega (arith, below, same)) ∙ own.1 in
+      let empty : own.0 ≡ [] = sym (get_or_from_slice_get all_texts i own.0 [] there_too) ∙ none in
+      ap (λ (l : List Bool). slice_get l i) c.flags ∙ slice_get-map has_bytes c.texts i ∙ ap (option_map has_bytes) own.1 ∙ ap (λ (b : Bool). Some b) (no_bytes own.0 empty)
+
+  over : (drop at output ≡ []) ⊎ IsOverLine commands the_cut
+  over = ⊎_elim
+      (λ ends. inl (nothing_left at output ends))
+      (λ left. inr (record {
+        line = left.line;
+        nobody = λ i command is last none some.
+            let below = slice_get_within commands i command is in
+            let all = left.all in
+            not_answered command (drop at output) (left.quiet i command is (unanswered i (omega (arith, below, all)) none)) left.line some;
+      }))
+      end
+
   pub done_is : IsCut commands output the_cut
   done_is = record {
     size = let few = c.few in let all = length-append c.texts (replicate missing []) in let rest = length-replicate missing empty_text in omega (arith, few, all, rest);
-    whole = sym (append-nil (concat all_texts) ∙ whole);
+    whole = sym (ap (λ (l : List ℕ). l ++ drop at output) whole ∙ take-append-drop at output);
     each = λ i command is. record { saids = saids i; text = done_fits i command is };
-    over = inl refl;
+    over = over;
   }
 
   pub done_reaches : (index : ℕ) → length answered ≤ index → text_at the_cut index ≡ []
-  done_reaches index past =
-      let size = ap (λ (l : List Bool). length l) c.flags ∙ length-map c.texts has_bytes in
-      none_past_texts c.texts missing index (omega (arith, past, size))
+  done_reaches index past = none_past_texts c.texts missing index (let same = texts_size in omega (arith, past, same))
 
   pub done_flags : map has_bytes the_cut.texts ≡ answered ++ replicate missing false
   done_flags = map-append has_bytes c.texts (replicate missing []) ∙ ap (λ (l : List Bool). l ++ map has_bytes (replicate missing [])) (sym c.flags) ∙ ap (λ (l : List Bool). answered ++ l) (no_flags missing)

@@ -1,6 +1,7 @@
 pub mod ShardLemmas
 pub mod SaidLemmas
 pub mod CallLemmas
+pub mod OverLemmas
 pub mod CutLemmas
 pub mod TrackLemmas
 pub mod StateLemmas

@@ -12,14 +12,16 @@ use Rattle.zy_sessions.specs.Sessions.{session_at}
 use Rattle.zy_explain.specs.declared.track.Track.{Track}
 use Rattle.zy_explain.specs.declared.row.Row.{Row}
 use Rattle.zy_explain.specs.declared.numbers.Numbers.{Numbers}
+use Rattle.zy_explain.specs.Over.{IsWholeAt}
 use Rattle.zy_explain.specs.Following.{output_in, track_at, sessions_on}
 
 -- ---- one session
 
--- no call of the next command was made, the output is cut to its end, and the marks fit
+-- no call of the next command was made, the output is cut to its end or goes on with what answers no command, and the
+-- marks fit
 pub record EndsRight (s : Session) (output : List ℕ) (t : Track) : Type 0 where
   pub none : t.saids.items ≡ []
-  pub whole : length output ≤ t.at
+  pub whole : IsWholeAt s.commands.items output t.answered.items t.at
   pub few : length t.answered.items ≤ length s.sent.items
   pub fit : (records : List Record) (conn session : ℕ)
       → AreRises (sent_in records conn session) (length records) s.sent.items

@@ -1,4 +1,5 @@
 pub mod Judged
 pub mod Making
+pub mod Over
 pub mod Following
 pub mod Ending

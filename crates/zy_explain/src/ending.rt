@@ -5,6 +5,7 @@ ghost use Rattle.zy_explain.specs.Ending.{EndsRight, AddsSession, AreLineNumbers
 ghost use Rattle.zy_explain.specs.Following.{sessions_on, track_at};
 
 use crate::numbers::Numbers;
+use crate::over::is_whole;
 use crate::state::{State, output_of};
 use crate::track::Track;
 use zy_capture::Outputs;
@@ -37,13 +38,13 @@ pub(crate) fn sessions_on(sessions: &Sessions, conn: usize) -> usize
 }
 
 impl Track {
-    // Checks whether no call of the next command was made, the output is cut to its end, and the marks
-    // of the session fit.
+    // Checks whether no call of the next command was made, the output is cut to its end or goes on with
+    // what answers no command, and the marks of the session fit.
     fn is_at_end(&self, session: &Session, output: &[u8]) -> bool
         ensures end { result ≡ true → EndsRight session.now output.now self.now }
     {
         self.saids.is_empty()
-            && output.len() <= self.at
+            && is_whole(&session.commands, output, &self.answered, self.at)
             && self.answered.len() <= session.sent.len()
             && marks_fit(&session.sent, &session.marks, &self.answered)
     }

@@ -7,6 +7,7 @@ mod confirming;
 mod ending;
 mod first;
 mod numbers;
+mod over;
 mod row;
 mod rules;
 mod settling;
