@@ -4,6 +4,7 @@
 mod adding;
 mod finding;
 mod observing;
+mod others;
 mod rules;
 mod seen;
 mod session;

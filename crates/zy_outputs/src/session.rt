@@ -5,12 +5,13 @@ ghost use Rattle.zy_outputs.specs.Sessions.{SessionAdds, SessionIsDone, IsEarlyA
 
 use crate::adding::add_calls;
 use crate::finding::Finding;
+use crate::others::cut_followed;
 use crate::rules::Rules;
 use crate::seen::Seen;
 use crate::texts::{known_bytes, may_be_answered, sure_below};
 use crate::timing::{is_early, moment_at, number_if};
 use mc_allows::CallName;
-use mc_kind::{Cutting, Text, cut_session};
+use mc_kind::{Cutting, Text};
 use std::alloc::Global;
 use zy_base::{Items, NoMemory};
 use zy_refute::Observed;
@@ -30,7 +31,7 @@ pub(crate) fn observe_session(
     requires limit { rules.shards ≤ 256 }
     ensures done { IfOk result (SessionIsDone rules name session.now output.now calls.old calls.new) }
 {
-    match cut_session(alloc, session.commands.as_slice(), output)? {
+    match cut_followed(alloc, session.commands.as_slice(), output)? {
         Cutting::Kind { index } => Ok(Some(Finding::Kind {
             conn: name.conn,
             session: name.session,
