@@ -1,5 +1,5 @@
 -- A proper beginning of an answer.
-use Rattle.std.proofs.Common.{◌≡◌, ℕ, ◌<◌, Bool, true, false, not, List, [], ◌++◌, length, drop, Result, Ok, Err, IfOk, refl, ap, subst, arith}
+use Rattle.std.proofs.Common.{◌≡◌, ℕ, ◌<◌, Bool, true, List, ◌++◌, length, drop, Result, Ok, Err, IfOk, ap, subst, arith}
 use Rattle.std.proofs.lemmas.List.{length-drop}
 use Rattle.zy_base.specs.declared.outside.NoMemory.{NoMemory}
 use Rattle.mc_allows.specs.declared.said.Said.{Said}
