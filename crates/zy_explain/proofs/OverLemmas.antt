@@ -2,13 +2,13 @@
 use Rattle.std.specs.List.{slice_get}
 use mathlib.Core.Logic.{dite}
 use native.Mathlib.Decide.{dec_lt}
-use Rattle.std.proofs.Common.{◌≡◌, ℕ, ◌+◌, ◌<◌, ◌≤◌, Bool, List, length, sym, ap, ◌∙◌, subst, arith}
+use Rattle.std.proofs.Common.{◌≡◌, ℕ, ◌+◌, ◌<◌, ◌≤◌, Bool, List, length, subst, arith}
 use Rattle.std.proofs.lemmas.Option.{slice_get_within}
 use Rattle.mc_parse.specs.declared.command.Command.{Command}
 use Rattle.zy_explain.specs.Over.{IsDoneAt, AreAnsweredOrQuiet}
 
 module _ (commands : List Command) (answered : List Bool) where
-  -- the first commands are
+  -- the first commands are answered, or ask for no answer
   abbrev pub AreDoneTo : ℕ → Type 0
   AreDoneTo index = (i : ℕ) → i < index → IsDoneAt commands answered i
 
