@@ -2,15 +2,16 @@
 use Rattle.std.proofs.Common.{◌≡◌, ◌⊎◌, inl, inr, ⊎_elim, ℕ, zero, suc, add-one, ◌+◌, ◌-◌, ◌<◌, ◌≤◌, List, [], ◌∷◌, ◌++◌, length, take, drop, get_or, slice_get, Some, refl, ap, sym, ◌∙◌, subst, append_assoc, arith}
 use Rattle.std.specs.List.{concat, slice_index_or}
 use Rattle.std.proofs.Math.Seq.{take-append_seam}
-use Rattle.std.proofs.lemmas.List.{append-nil, drop_more, drop_all, drop-drop, length-append, length-drop}
+use Rattle.std.proofs.lemmas.List.{append-nil, drop_more, drop_all, drop-drop, drop-append-le, take_more, length-append, length-drop}
+use Rattle.std.proofs.lemmas.List.Folds.{concat-append}
 use Rattle.std.proofs.lemmas.Option.{slice_get_read}
 use Rattle.mc_parse.specs.declared.command.Command.{Command}
 use Rattle.mc_allows.specs.declared.said.Said.{Said}
-use Rattle.mc_answers.specs.Answer.{IsAnswer, IsSomeAnswer}
+use Rattle.mc_answers.specs.Answer.{IsAnswer, IsSomeAnswer, AreSomeAnswers}
 use Rattle.mc_answers.specs.Kinds.{IsErrorLine}
 use Rattle.mc_answers.specs.Output.{Cut, FitsText, IsOverLine, IsCut, text_at}
 use Rattle.mc_kind.specs.First.{IsWhole, IsRefused}
-use Rattle.mc_kind.specs.Cutting.{text_in, StandsIn, AreTexts, HasNoCut, HasText, HasTexts, HasNoMore, AreFirstTexts, AreAllTexts}
+use Rattle.mc_kind.specs.Cutting.{text_in, StandsIn, AreTexts, BeginOutput, IsRefutedAt, HasNoCut, HasText, HasTexts, HasNoMore, AreFirstTexts, AreAllTexts}
 use Rattle.mc_kind.specs.declared.text.Text.{Text}
 
 -- ---- a cut by its parts
@@ -169,6 +170,10 @@ pub record IsCutTo (commands : List Command) (output : List ℕ) (index at : ℕ
 abbrev pub AreCutTo : List Command → List ℕ → ℕ → ℕ → List Text → Type 0
 AreCutTo commands output index at texts = (cut : Cut) → IsCut commands output cut → IsCutTo commands output index at texts cut
 
+-- all answers of the first commands with which the output may begin end at an offset
+abbrev pub AllEndAt : List Command → List ℕ → ℕ → ℕ → Type 0
+AllEndAt commands output index at = (texts : List (List ℕ)) → BeginOutput (take index commands) output texts → length (concat texts) ≡ at
+
 -- what is known before the command with this index
 pub record KnowsTo (commands : List Command) (output : List ℕ) (index at : ℕ) (texts : List Text) : Type 0 where
   pub low : at ≤ length output
@@ -176,6 +181,12 @@ pub record KnowsTo (commands : List Command) (output : List ℕ) (index at : ℕ
   pub few : index ≤ length commands
   pub each : (i : ℕ) (text : Text) → slice_get texts i ≡ Some text → StandsIn output text
   pub cuts : AreCutTo commands output index at texts
+  pub ends : AllEndAt commands output index at
+
+-- nothing answers no command
+no_answers : (texts : List (List ℕ)) → AreSomeAnswers [] texts → length (concat texts) ≡ 0
+no_answers [] are = refl
+no_answers (text ∷ texts) are = absurd are
 
 pub knows_nothing : (commands : List Command) (output : List ℕ) (texts : List Text) → texts ≡ [] → KnowsTo commands output 0 0 texts
 knows_nothing commands output texts none = record {
@@ -187,7 +198,25 @@ knows_nothing commands output texts none = record {
     rest = c;
     texts_are = λ i text is. absurd (let e : slice_get {X = Text} [] i ≡ Some text = subst (λ (l : List Text). slice_get l i ≡ Some text) none is in cc);
   };
+  ends = λ own begin. no_answers own begin.answers;
 }
+
+-- answers of commands and one more
+record OneMore (commands : List Command) (command : Command) (texts : List (List ℕ)) : Type 0 where
+  front : List (List ℕ)
+  text : List ℕ
+  is : texts ≡ front ++ text ∷ []
+  answers : AreSomeAnswers commands front
+  answer : IsSomeAnswer command text
+
+one_more : (commands : List Command) (command : Command) (texts : List (List ℕ)) → AreSomeAnswers (commands ++ command ∷ []) texts → OneMore commands command texts
+one_more [] command [] are = absurd are
+one_more [] command (text ∷ []) are = record { front = []; text = text; is = refl; answers = tt; answer = are.0 }
+one_more [] command (text ∷ other ∷ texts) are = absurd are.1
+one_more (first ∷ commands) command [] are = absurd are
+one_more (first ∷ commands) command (text ∷ texts) are =
+    let rest = one_more commands command texts are.1 in
+    record { front = text ∷ rest.front; text = rest.text; is = ap (λ (l : List (List ℕ)). text ∷ l) rest.is; answers = (are.0, rest.answers); answer = rest.answer }
 
 -- an element of a list with one more
 push_get : {A : Type 0} (xs : List A) (x y : A) (i : ℕ) → slice_get (xs ++ x ∷ []) i ≡ Some y → (slice_get xs i ≡ Some y) ⊎ ((i ≡ length xs) × (x ≡ y))
@@ -203,6 +232,9 @@ module _ (commands : List Command) (output : List ℕ) (index at : ℕ) (texts :
 
   split : drop index commands ≡ command ∷ drop (index + 1) commands
   split = drop_more commands index command below ∙ ap (λ (c : Command). c ∷ drop (index + 1) commands) (sym read)
+
+  front_is : take (index + 1) commands ≡ take index commands ++ command ∷ []
+  front_is = take_more commands index command below ∙ ap (λ (c : Command). take index commands ++ c ∷ []) (sym read)
 
   -- the next command of a cut
   next_cut : (cut : Cut) → IsCut commands output cut → IsCut (command ∷ drop (index + 1) commands) (drop at output) (parted (drop index cut.texts) cut.left)
@@ -258,6 +290,17 @@ module _ (commands : List Command) (output : List ℕ) (index at : ℕ) (texts :
           (λ last. subst (StandsIn output) last.1 (record { rises = omega arith; within = high }))
           (push_get texts next_text text i there);
       cuts = next_to;
+      ends = λ own begin.
+          let one = one_more (take index commands) command own (subst (λ (cs : List Command). AreSomeAnswers cs own) front_is begin.answers) in
+          let joined : concat own ≡ concat one.front ++ one.text = ap (λ (l : List (List ℕ)). concat l) one.is ∙ concat-append one.front (one.text ∷ []) ∙ ap (λ (l : List ℕ). concat one.front ++ l) (append-nil one.text) in
+          let parts : concat one.front ++ (one.text ++ begin.rest) ≡ output ++ begin.more =
+          sym (append_assoc (concat one.front) one.text begin.rest) ∙ ap (λ (l : List ℕ). l ++ begin.rest) (sym joined) ∙ begin.is in
+          let before : length (concat one.front) ≡ at = k.ends one.front (record { answers = one.answers; rest = one.text ++ begin.rest; more = begin.more; is = parts }) in
+          let here : one.text ++ begin.rest ≡ drop at output ++ begin.more =
+          sym (drop_seam (concat one.front) (one.text ++ begin.rest)) ∙ ap (λ (m : ℕ). drop m (concat one.front ++ (one.text ++ begin.rest))) before
+          ∙ ap (drop at) parts ∙ drop-append-le at output begin.more k.low in
+          let long : length one.text ≡ n = w.long one.text begin.rest begin.more one.answer here in
+          ap (λ (l : List ℕ). length l) joined ∙ length-append (concat one.front) one.text ∙ (omega (arith, before, long));
     })
 
   some_bytes : (at ≡ length output → ⊥) → drop at output ≡ [] → ⊥
@@ -269,6 +312,16 @@ module _ (commands : List Command) (output : List ℕ) (index at : ℕ) (texts :
 
   pub refused_no_cut : (at ≡ length output → ⊥) → IsRefused command (drop at output) → HasNoCut commands output
   refused_no_cut more w cut c = step_refused command (drop (index + 1) commands) (drop at output) (drop index cut.texts) cut.left (some_bytes more) w (next_cut cut c)
+
+  pub refused_here : (at ≡ length output → ⊥) → IsRefused command (drop at output) → IsRefutedAt commands output index
+  refused_here more w = record {
+    command = command;
+    is = here;
+    at = at;
+    some = let low = k.low in grind (arith, low, more);
+    before = k.ends;
+    none = w.none;
+  }
 
 -- ---- what is known at the end
 

@@ -1,12 +1,14 @@
 -- How the output of a session is cut into the answers of its commands.
-use Rattle.std.specs.Prelude.{◌≡◌, ◌⊎◌, ℕ, ◌-◌, ◌≤◌, List, [], length, take, drop, slice_get, Some}
+use Rattle.std.specs.Prelude.{◌≡◌, ◌⊎◌, ℕ, ◌-◌, ◌<◌, ◌≤◌, List, [], ◌++◌, length, take, drop, slice_get, Some}
+use Rattle.std.specs.List.{concat}
 use Rattle.mc_parse.specs.declared.command.Command.{Command}
 use Rattle.mc_allows.specs.declared.said.Said.{Said}
-use Rattle.mc_answers.specs.Answer.{IsAnswer}
+use Rattle.mc_answers.specs.Answer.{IsAnswer, IsSomeAnswer, AreSomeAnswers}
 use Rattle.mc_answers.specs.Output.{Cut, IsCut, FitsText, text_at}
 use Rattle.mc_kind.specs.declared.cutting.Cutting.{Cutting}
 use Rattle.mc_kind.specs.declared.cutting.Cutting.TheVariants.{Kind, Surplus, Other, All, Front}
 use Rattle.mc_kind.specs.declared.text.Text.{Text}
+use Rattle.mc_kind.specs.First.{NoneFits}
 
 -- ---- texts
 
@@ -29,6 +31,24 @@ pub record AreTexts (commands : List Command) (output : List ℕ) (texts : List 
 -- the output of a session with these commands is cut in no way
 abbrev pub HasNoCut : List Command → List ℕ → Type 0
 HasNoCut commands output = (cut : Cut) → IsCut commands output cut → ⊥
+
+-- answers of these commands, whatever the replies: the output begins with them, or they begin with the output
+pub record BeginOutput (commands : List Command) (output : List ℕ) (texts : List (List ℕ)) : Type 0 where
+  pub answers : AreSomeAnswers commands texts
+  pub rest : List ℕ
+  pub more : List ℕ
+  pub is : concat texts ++ rest ≡ output ++ more
+
+-- an output refutes the command with this index: all answers of the commands before it with which the output may begin
+-- end at one offset, and what is left there neither begins with an answer of the command, whatever the replies, nor is
+-- the beginning of one
+pub record IsRefutedAt (commands : List Command) (output : List ℕ) (index : ℕ) : Type 0 where
+  pub command : Command
+  pub is : slice_get commands index ≡ Some command
+  pub at : ℕ
+  pub some : at < length output
+  pub before : (texts : List (List ℕ)) → BeginOutput (take index commands) output texts → length (concat texts) ≡ at
+  pub none : NoneFits (IsSomeAnswer command) (drop at output)
 
 -- a cut has these bytes for the command with this index; if they are some, they are its answer
 pub record HasText (commands : List Command) (cut : Cut) (i : ℕ) (bytes : List ℕ) : Type 0 where
@@ -53,9 +73,9 @@ AreFirstTexts commands output texts = (cut : Cut) → IsCut commands output cut 
 abbrev pub AreAllTexts : List Command → List ℕ → List Text → Type 0
 AreAllTexts commands output texts = (cut : Cut) → IsCut commands output cut → HasNoMore (length texts) cut
 
--- a refuted output has no cut, and each cut has the texts that are found
+-- a refuted output has no cut, and is refuted at the command that is named; each cut has the texts that are found
 abbrev pub IsCutting : List Command → List ℕ → Cutting → Type 0
-IsCutting commands output (Kind index) = HasNoCut commands output
+IsCutting commands output (Kind index) = HasNoCut commands output × IsRefutedAt commands output index
 IsCutting commands output Surplus = HasNoCut commands output
 IsCutting commands output (Other index) = Unit {0}
 IsCutting commands output (All texts) =

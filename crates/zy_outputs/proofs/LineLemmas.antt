@@ -2,7 +2,7 @@
 use Rattle.std.proofs.Common.{◌≡◌, ◌⊎◌, inl, inr, ℕ, add-one, ◌+◌, ◌<◌, ◌≤◌, Bool, List, [], ◌++◌, length, Option, None, Some, refl, sym, ap, ◌∙◌, subst, append-nil, arith}
 use Rattle.std.specs.List.{slice_get, slice_index_or}
 use Rattle.mc_allows.specs.declared.call_name.CallName.{CallName}
-use Rattle.mc_kind.specs.Cutting.{HasNoCut}
+use Rattle.mc_kind.specs.Cutting.{HasNoCut, IsRefutedAt}
 use Rattle.mc_parse.specs.declared.command.Command.{Command}
 use Rattle.zy_capture.specs.declared.record.Record.{Record}
 use Rattle.zy_capture.specs.Outputs.{AllOutputs}
@@ -23,7 +23,7 @@ use Rattle.zy_outputs.specs.declared.observing.Observing.{Observing}
 use Rattle.zy_outputs.specs.declared.observing.Observing.TheVariants as Observings
 use Rattle.zy_outputs.specs.declared.rules.Rules.{Rules}
 use Rattle.zy_outputs.specs.Adding.{Obeys, AddsShown}
-use Rattle.zy_outputs.specs.Observing.{recorded_of, IsObserving, IsFoundBy}
+use Rattle.zy_outputs.specs.Observing.{recorded_of, IsRefutedByOutput, IsObserving, IsFoundBy}
 use Rattle.zy_outputs.specs.Telling.{IsTold}
 use Rattle.zy_outputs.specs.Sessions.{IsRefuting, IsDone, IsOther, IsFirstOf, HasSurplus, HasOutputs, session_calls, line_calls, all_calls, SessionIsDone, LineIsDone, LinesAreDone}
 use Rattle.zy_outputs.proofs.AddingLemmas.{adds_none, adds_on}
@@ -66,8 +66,12 @@ module _ (r : Recorded) where
 
 module _ (rules : Rules) (name : CallName) (s : Session) (output : List ℕ) (old new : List Observed) where
   -- a session whose output has no cut
-  pub kind_done : (index : ℕ) → HasNoCut s.commands.items output → SessionIsDone rules name s output old new (Some (Kind name.conn name.session index))
-  kind_done index none r obeys is = uncut_refutes r name.conn name.session s output is.holds is.output_is none
+  pub kind_done : (index : ℕ) → HasNoCut s.commands.items output × IsRefutedAt s.commands.items output index → SessionIsDone rules name s output old new (Some (Kind name.conn name.session index))
+  kind_done index cut r obeys is = (
+    uncut_refutes r name.conn name.session s output is.holds is.output_is cut.0,
+    subst (λ (cs : List Command). IsRefutedAt cs (output_of r name.conn name.session) index) is.holds.commands
+        (subst (λ (own : List ℕ). IsRefutedAt s.commands.items own index) is.output_is cut.1),
+  )
 
   pub surplus_output_done : HasNoCut s.commands.items output → SessionIsDone rules name s output old new (Some (Surplus name.conn name.session))
   surplus_output_done none r obeys is = uncut_refutes r name.conn name.session s output is.holds is.output_is none
@@ -140,7 +144,11 @@ module _ (rules : Rules) (lines : List Line) (outputs : AllOutputs) (old now : L
 
 -- what is found of one output is found of all
 pub found_by : (r : Recorded) (finding : Finding) (observing : Observing) → IsFoundBy finding observing → IsRefuting r finding → IsObserving r observing
-found_by r (Kind conn session index) (Observings.Kind own_conn own_session own_index) is refutes = refutes
+found_by r (Kind conn session index) (Observings.Kind own_conn own_session own_index) is refutes = (
+  refutes.0,
+  subst (λ (own : ℕ). IsRefutedByOutput r own own_session own_index) (sym is.0)
+      (subst (λ (own : ℕ). IsRefutedByOutput r conn own own_index) (sym is.1) (subst (λ (own : ℕ). IsRefutedByOutput r conn session own) (sym is.2) refutes.1)),
+)
 found_by r (Kind conn session index) (Observings.Surplus own_conn own_session) is refutes = absurd is
 found_by r (Kind conn session index) (Observings.EarlyEnd moment) is refutes = absurd is
 found_by r (Kind conn session index) (Observings.Other own_conn own_session own_index) is refutes = tt

@@ -1,8 +1,9 @@
 -- What is found of the outputs of a recording.
-use Rattle.std.specs.Prelude.{ℕ, Bool, List}
+use Rattle.std.specs.Prelude.{◌≡◌, ℕ, Bool, List}
+use Rattle.mc_kind.specs.Cutting.{IsRefutedAt}
 use Rattle.zy_capture.specs.declared.record.Record.{Record}
 use Rattle.zy_capture.specs.Outputs.{AllOutputs}
-use Rattle.zy_verdict.specs.Recorded.{Recorded}
+use Rattle.zy_verdict.specs.Recorded.{Recorded, session_commands, output_of}
 use Rattle.zy_verdict.specs.Explained.{IsExplained}
 use Rattle.zy_observed.specs.Shown.{AreShown}
 use Rattle.zy_outputs.specs.declared.finding.Finding.{Finding}
@@ -22,9 +23,14 @@ recorded_of count records outputs shards warm forget =
       forget = forget;
     }
 
+-- the output of a session refutes the command with this index: no answers of the commands before it, whatever the
+-- replies, are followed by an answer of the command or by the beginning of one
+abbrev pub IsRefutedByOutput : Recorded → ℕ → ℕ → ℕ → Type 0
+IsRefutedByOutput r conn session index = IsRefutedAt (session_commands r conn session) (output_of r conn session) index
+
 -- a recording with a refuted output is not explained; otherwise these are its calls, with what it shows of them
 abbrev pub IsObserving : Recorded → Observing → Type 0
-IsObserving r (Kind conn session index) = IsExplained r → ⊥
+IsObserving r (Kind conn session index) = (IsExplained r → ⊥) × IsRefutedByOutput r conn session index
 IsObserving r (Surplus conn session) = IsExplained r → ⊥
 IsObserving r (EarlyEnd moment) = IsExplained r → ⊥
 IsObserving r (Other conn session index) = Unit {0}
@@ -32,7 +38,8 @@ IsObserving r (Calls calls) = AreShown r calls.items
 
 -- a finding of one session, as what is found of all outputs
 abbrev pub IsFoundBy : Finding → Observing → Type 0
-IsFoundBy (Findings.Kind conn session index) (Kind own_conn own_session own_index) = Unit {0}
+IsFoundBy (Findings.Kind conn session index) (Kind own_conn own_session own_index) =
+    (own_conn ≡ conn) × (own_session ≡ session) × (own_index ≡ index)
 IsFoundBy (Findings.Surplus conn session) (Surplus own_conn own_session) = Unit {0}
 IsFoundBy (Findings.EarlyEnd moment) (EarlyEnd own) = Unit {0}
 IsFoundBy (Findings.Other conn session index) (Other own_conn own_session own_index) = Unit {0}

@@ -15,16 +15,18 @@ use Rattle.zy_verdict.specs.Recorded.{Recorded, session_commands, output_of}
 use Rattle.zy_verdict.specs.Entries.{NamedCall, named_from}
 use Rattle.zy_verdict.specs.Explained.{IsExplained}
 use Rattle.zy_outputs.specs.declared.finding.Finding.{Finding}
-use Rattle.zy_outputs.specs.declared.finding.Finding.TheVariants.{Surplus, EarlyEnd, Other}
+use Rattle.zy_outputs.specs.declared.finding.Finding.TheVariants.{Kind, Surplus, EarlyEnd, Other}
 use Rattle.zy_outputs.specs.declared.rules.Rules.{Rules}
 use Rattle.zy_outputs.specs.declared.seen.Seen.{Seen}
 use Rattle.zy_outputs.specs.Adding.{Obeys, AddsShown}
+use Rattle.zy_outputs.specs.Observing.{IsRefutedByOutput}
 
 -- ---- findings
 
 -- a recording with a refuted output is not explained
 abbrev pub IsRefuting : Recorded → Finding → Type 0
 IsRefuting r (Other conn session index) = Unit {0}
+IsRefuting r (Kind conn session index) = (IsExplained r → ⊥) × IsRefutedByOutput r conn session index
 IsRefuting r finding = IsExplained r → ⊥
 
 -- something is found, or these calls are added to a list

@@ -6,6 +6,7 @@ use Rattle.zy_capture.specs.Outputs.{AllOutputs, AreOutputs}
 use Rattle.zy_explain.specs.declared.rules.Rules.{Rules}
 use Rattle.zy_explain.specs.Judged.{judged}
 use Rattle.zy_input.specs.Recording.{IsMadeOfRecording}
+use Rattle.zy_outputs.specs.Observing.{IsRefutedByOutput}
 use Rattle.zy_times.specs.InTime.{total_below}
 use Rattle.zy_verdict.specs.Recorded.{Recorded, session_commands}
 use Rattle.zy_verdict.specs.Entries.{NamedCall, is_at_key}
@@ -15,7 +16,7 @@ use Rattle.zy_verdict.specs.Numbers.{IsExplainedWith}
 use Rattle.zygos_judge.specs.declared.finding.Finding.{Finding}
 use Rattle.zygos_judge.specs.declared.finding.Finding.TheVariants.{Explained, Refuted, Unknown}
 use Rattle.zygos_judge.specs.declared.finding.Reason.{Reason}
-use Rattle.zygos_judge.specs.declared.finding.Reason.TheVariants.{Unmet, Shared}
+use Rattle.zygos_judge.specs.declared.finding.Reason.TheVariants.{Kind, Unmet, Shared}
 
 -- ---- what is judged
 
@@ -56,10 +57,21 @@ pub record IsWithoutCourse (r : Recorded) (conn command part : ℕ) : Type 0 whe
   pub part_is : name.part ≡ part
   pub call : IsRefutedCall r name
 
+-- ---- commands
+
+-- the output of its session refutes the command with this number of a connection: no answers of the commands before it,
+-- whatever the replies, are followed by an answer of the command or by the beginning of one
+pub record IsRefutedCommand (r : Recorded) (conn command : ℕ) : Type 0 where
+  pub session : ℕ
+  pub index : ℕ
+  pub command_is : commands_before r conn session + index ≡ command
+  pub refuted : IsRefutedByOutput r conn session index
+
 -- ---- findings
 
 -- what each reason says besides
 abbrev pub HasReason : Recorded → Reason → Type 0
+HasReason r (Kind conn command) = IsRefutedCommand r conn command
 HasReason r (Unmet conn command part) = IsWithoutCourse r conn command part
 HasReason r (Shared conn command part) = IsWithoutCourse r conn command part
 HasReason r reason = ⊤

@@ -3,17 +3,20 @@ ghost use Rattle.std.specs.Prelude.{◌≤◌, ℕ, List, IfOk, IfSome};
 ghost use Rattle.zy_capture.specs.declared.record.Record.{Record};
 ghost use Rattle.zy_explain.specs.Judged.{judged};
 ghost use Rattle.zy_observed.specs.Shown.{AreShown};
-ghost use Rattle.zy_outputs.specs.Observing.{IsObserving};
+ghost use Rattle.zy_outputs.specs.Observing.{IsRefutedByOutput, IsObserving};
 ghost use Rattle.zy_read.specs.Seen.{side};
 ghost use Rattle.zy_sessions.specs.Sessions.{SessionsHold};
+ghost use Rattle.zy_verdict.specs.Explained.{IsExplained};
 ghost use Rattle.zy_verdict.specs.Numbers.{IsExplainedWith};
+ghost use Rattle.zy_verdict.specs.Recorded.{Recorded};
 ghost use Rattle.zygos_judge.specs.Words.{IsShardCount};
 ghost use Rattle.zygos_judge.specs.Finding.{HasFinding};
 ghost use Rattle.zygos_judge.specs.Input.{FindsIn};
 
 use crate::finding::{Finding, Open, Reason};
-use crate::naming::{command_number, first_other, name_of};
+use crate::naming::{command_number, first_other};
 use crate::refuting::refute;
+use mc_allows::CallName;
 use std::alloc::Global;
 use zy_base::{Items, NoMemory, Source};
 use zy_capture::Outputs;
@@ -85,11 +88,7 @@ fn judge_observed(
             conn,
             session,
             index,
-        } => {
-            let name = name_of(conn, session, index);
-            let command = command_number(sessions, name).unwrap_or(u64::MAX);
-            Ok(Finding::Refuted(Reason::Kind { conn, command }))
-        }
+        } => Ok(kind_found(sessions, conn, session, index)),
         Observing::Surplus { conn, session } => {
             Ok(Finding::Refuted(Reason::Surplus { conn, session }))
         }
@@ -98,6 +97,27 @@ fn judge_observed(
             record: record.saturating_sub(1),
         })),
         Observing::Other { conn, .. } => Ok(Finding::Unknown(Open::Other { conn, command: 0 })),
+    }
+}
+
+// Says that the output of its session refutes a command.
+fn kind_found(sessions: &Sessions, conn: u32, session: u64, index: u64) -> Finding
+    ensures found { (count : ℕ) (r : Recorded) → SessionsHold sessions.now count r.records
+        → (IsExplained r → Prim.⊥) × IsRefutedByOutput r conn session index
+        → HasFinding r result }
+{
+    let name = CallName {
+        index,
+        session,
+        conn,
+        part: 0,
+    };
+    match command_number(sessions, name) {
+        Some(command) => Finding::Refuted(Reason::Kind { conn, command }),
+        None => Finding::Unknown(Open::Search {
+            conn,
+            command: u64::MAX,
+        }),
     }
 }
 

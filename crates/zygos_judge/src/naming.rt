@@ -40,8 +40,8 @@ fn length_of(sessions: &Sessions, conn: u32, session: u64) -> Option<u64>
     }
 }
 
-/// Returns the name of the first call of a command.
-pub(crate) fn name_of(conn: u32, session: u64, index: u64) -> CallName {
+// Returns the name of the first call of a command.
+fn name_of(conn: u32, session: u64, index: u64) -> CallName {
     CallName {
         index,
         session,

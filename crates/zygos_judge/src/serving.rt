@@ -10,10 +10,10 @@ ghost use Rattle.zy_shell.specs.Said.{Said};
 ghost use Rattle.zy_verdict.specs.Explained.{IsExplained};
 ghost use Rattle.zy_verdict.specs.Numbers.{IsExplainedWith};
 ghost use Rattle.zygos_judge.specs.declared.finding.Finding.TheVariants.{Explained, Refuted, Unknown};
-ghost use Rattle.zygos_judge.specs.declared.finding.Reason.TheVariants.{Unmet, Shared};
+ghost use Rattle.zygos_judge.specs.declared.finding.Reason.TheVariants.{Kind, Unmet, Shared};
 ghost use Rattle.zygos_judge.specs.Words.{rules_asked};
 ghost use Rattle.zygos_judge.specs.Ends.{recording_with, Finds, JudgesAs, JudgesPart, IsJudgedOr};
-ghost use Rattle.zygos_judge.specs.Finding.{IsWithoutCourse};
+ghost use Rattle.zygos_judge.specs.Finding.{IsRefutedCommand, IsWithoutCourse};
 ghost use Rattle.zygos_judge.specs.Lines.{finding_line, line_for};
 
 use crate::command::carry_out;
@@ -46,6 +46,10 @@ pub fn serve_judge<S: Source, K: Sink, E: Sink>(
         → Finds (rules_asked words.now) (OfGiven (side S.rest S.faults source.old source.new))
         (λ r. IsExplained r → ⊥)
         (WasWritten (side K.holds K.faults sink.old sink.new) (finding_line (Refuted reason))) }
+    ensures kind { (conn command : ℕ) → result ≡ Ok (Refuted (Kind conn command))
+        → Finds (rules_asked words.now) (OfGiven (side S.rest S.faults source.old source.new))
+        (λ r. IsRefutedCommand r conn command)
+        (WasWritten (side K.holds K.faults sink.old sink.new) (finding_line (Refuted (Kind conn command)))) }
     ensures unmet { (conn command part : ℕ) → result ≡ Ok (Refuted (Unmet conn command part))
         → Finds (rules_asked words.now) (OfGiven (side S.rest S.faults source.old source.new))
         (λ r. IsWithoutCourse r conn command part)

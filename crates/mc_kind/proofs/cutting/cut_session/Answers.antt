@@ -3,7 +3,7 @@ use Rattle.mc_answers.specs.Kinds.{IsErrorLine}
 use Rattle.mc_kind.specs.Cutting.{AreTexts, AreFirstTexts, AreAllTexts}
 use Rattle.mc_kind.specs.declared.text.Text.{Text}
 use Rattle.mc_kind.specs.First.{IsWhole, IsRefused}
-use Rattle.mc_kind.proofs.CutLemmas.{knows_more, refused_no_cut, texts_found, front_found, all_at_end, all_of_all, surplus_no_cut}
+use Rattle.mc_kind.proofs.CutLemmas.{knows_more, refused_no_cut, refused_here, texts_found, front_found, all_at_end, all_of_all, surplus_no_cut}
 use Rattle.mc_kind.proofs.cutting.cut_session.Goals as goal
 
 pub returns-then-at-output : goal.returns-then-at-output
@@ -20,9 +20,18 @@ returns-then-at-output c =
 pub returns-in-Refused : goal.returns-in-Refused
 returns-in-Refused c =
     let near = c.loop-index-test.true in
+    let commands = c.args.commands.now in
+    let output = c.args.output.now in
+    let index = c.loop-index.index in
+    let texts = c.loop-index.texts.items in
+    let k = c.loop-index.invariant in
+    let command = c.index-commands-index.result in
+    let refused = subst (IsRefused command) c.text_from.ensures.value c.in-Refused.ensures.value in
     record {
-      value = refused_no_cut c.args.commands.now c.args.output.now c.loop-index.index c.loop-index.at c.loop-index.texts.items c.loop-index.invariant c.index-commands-index.result (omega arith) c.index-commands-index.is
-          (λ same. c.if-at-output.false same) (subst (IsRefused c.index-commands-index.result) c.text_from.ensures.value c.in-Refused.ensures.value);
+      value = (
+        refused_no_cut commands output index c.loop-index.at texts k command (omega arith) c.index-commands-index.is (λ same. c.if-at-output.false same) refused,
+        refused_here commands output index c.loop-index.at texts k command (omega arith) c.index-commands-index.is (λ same. c.if-at-output.false same) refused,
+      );
     }
 
 pub returns-in-Unread : goal.returns-in-Unread

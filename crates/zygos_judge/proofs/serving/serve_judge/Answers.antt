@@ -3,9 +3,9 @@ use Rattle.zygos_judge.specs.Words.{rules_asked}
 use Rattle.zy_read.specs.Seen.{Seen, side, both_sides, WasWritten}
 use Rattle.zy_verdict.specs.Explained.{IsExplained}
 use Rattle.zygos_judge.specs.declared.finding.Finding.TheVariants.{Refuted}
-use Rattle.zygos_judge.specs.declared.finding.Reason.TheVariants.{Unmet, Shared}
+use Rattle.zygos_judge.specs.declared.finding.Reason.TheVariants.{Kind, Unmet, Shared}
 use Rattle.zygos_judge.specs.Ends.{HasCause}
-use Rattle.zygos_judge.specs.Finding.{HasFinding, IsWithoutCourse}
+use Rattle.zygos_judge.specs.Finding.{HasFinding, IsRefutedCommand, IsWithoutCourse}
 use Rattle.zygos_judge.specs.Lines.{finding_line}
 use Rattle.zygos_judge.proofs.EndLemmas.{invalid_with, unlawful_for, judged_for, refused_for, finds_so}
 use Rattle.zygos_judge.proofs.serving.serve_judge.Goals as goal
@@ -34,6 +34,11 @@ pub returns-clause-no : goal.returns-clause-no
 returns-clause-no g c = λ reason is.
     let call : Seen = both_sides (side g.S.Source.rest g.S.Source.faults c.args.source.now c.carry_out-answer.new.source) (side g.K.Sink.holds g.K.Sink.faults c.args.sink.now c.carry_out-answer.new.sink) in
     finds_so (rules_asked c.args.words.now) call.source (λ r. HasFinding r (Refuted reason)) (λ r. IsExplained r → ⊥) (WasWritten call.sink (finding_line (Refuted reason))) (λ r has. has.0) (subst (HasCause (rules_asked c.args.words.now) call) is c.carry_out-answer.ensures.ends)
+
+pub returns-clause-kind : goal.returns-clause-kind
+returns-clause-kind g c = λ conn command is.
+    let call : Seen = both_sides (side g.S.Source.rest g.S.Source.faults c.args.source.now c.carry_out-answer.new.source) (side g.K.Sink.holds g.K.Sink.faults c.args.sink.now c.carry_out-answer.new.sink) in
+    finds_so (rules_asked c.args.words.now) call.source (λ r. HasFinding r (Refuted (Kind conn command))) (λ r. IsRefutedCommand r conn command) (WasWritten call.sink (finding_line (Refuted (Kind conn command)))) (λ r has. has.1) (subst (HasCause (rules_asked c.args.words.now) call) is c.carry_out-answer.ensures.ends)
 
 pub returns-clause-unmet : goal.returns-clause-unmet
 returns-clause-unmet g c = λ conn command part is.
