@@ -12,3 +12,5 @@ pub mod BoundsLemmas
 pub mod EndedLemmas
 pub mod TimingLemmas
 pub mod LegalLemmas
+pub mod FindingLemmas
+pub mod InputLemmas

@@ -6,5 +6,5 @@ mod findings;
 mod profile;
 
 pub use explained::a_legal_run_is_explained;
-pub use findings::{a_recording_has_one_timing, each_call_lies_within_its_command};
+pub use findings::{an_input_has_one_finding, each_call_lies_within_its_command};
 pub use profile::the_profile_has_answers;
