@@ -40,9 +40,9 @@ ALONE = ["run", "--cores", "1", "--threads", "1"]
 BOTH = [*ALONE, "--out", "both"]
 # For --check, the number of commands and the bounds on the instructions of one: 3 % more than it takes.
 FEW = 20_000
-MOST = {common.GENERATED: {"run": 5_260, "both": 8_690, "check": 12_100},
-        common.CACHE: {"run": 3_330, "both": 4_260, "check": 8_020},
-        "recorded": {"linear": 10_070, "judge": 15_420}}
+MOST = {common.GENERATED: {"run": 5_260, "both": 8_400, "check": 9_830},
+        common.CACHE: {"run": 3_330, "both": 4_190, "check": 6_820},
+        "recorded": {"linear": 7_710, "judge": 15_420}}
 # The same for resident bytes: 10 % more than it takes. Of few commands they would be those of this script.
 MANY = 100_000
 MOST_BYTES = {common.GENERATED: {"run": 1_250, "check": 1_370}, common.CACHE: {"run": 610, "check": 900}}
