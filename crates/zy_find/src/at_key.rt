@@ -25,10 +25,6 @@ pub(crate) struct AtKey {
     pub(crate) shard: u32,
     /// What may happen at the key.
     pub(crate) rules: Rules,
-    /// How many calls of its line are made, if it has a line.
-    pub(crate) done: u32,
-    /// The first call that could not be made; then no answer at this key is looked at any more.
-    pub(crate) amiss: u32,
     /// The item that was there at first, if a call told, and its unique.
     pub(crate) first: Option<First>,
     pub(crate) unique: Option<u64>,
@@ -63,8 +59,6 @@ pub(crate) fn keys_at_first(
                 warm: rules.warm,
                 forget: rules.forget || lasts,
             },
-            done: 0,
-            amiss: NONE,
             first: None,
             unique: None,
         })?;

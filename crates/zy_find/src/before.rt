@@ -1,10 +1,12 @@
 //! What must be made before a call.
 
+use crate::deciding::{Decided, decide_after};
 use crate::effects::changes;
 use crate::links::{call_before, source_of};
 use crate::pass::{Given, Pass};
 use crate::sessions::are_of_one_session;
 use crate::small::{NONE, at, small, time_at};
+use mc_allows::Shown;
 use mc_calls::Call;
 use zy_base::NoMemory;
 use zy_refute::Observed;
@@ -37,30 +39,27 @@ impl Pass {
         if key == NONE {
             return self.before_keyless(given, call, one);
         }
-        if self.is_amiss(key) {
-            return Ok(Before::Nothing);
-        }
         let source = source_of(given.observed, given.links.source.as_slice(), call);
         if !self.is_made(source) {
             return Ok(self.must(given, source));
         }
-        if !changes(one) {
+        let learned = given.learned.before(call);
+        if !self.is_made(learned) {
+            return Ok(self.must(given, learned));
+        }
+        if !changes(one) || (self.is_unseen(given, call, one) && self.is_idle(given, call, one)?) {
             return Ok(Before::Nothing);
         }
         if let Some(hidden) = self.hidden(given, call) {
             return Ok(self.must(given, hidden));
         }
-        let next = self.next_in_line(given, key);
-        if next != NONE && next != call {
-            return Ok(self.must(given, next));
-        }
         if let Some(reader) = self.reader(given, key, call)? {
             return Ok(Before::Call(reader));
         }
-        if is_settled(given, key) {
+        if learned != NONE {
             return Ok(Before::Nothing);
         }
-        Ok(match self.earlier_change(given, key, call) {
+        Ok(match self.earlier_change(given, key, call)? {
             Some(change) => Before::Call(change),
             None => Before::Nothing,
         })
@@ -102,50 +101,14 @@ impl Pass {
         }
         for key in 0..self.keys.len() {
             let own = &self.keys[key];
-            if own.shard != one.shard || self.is_amiss(small(key)) {
+            if own.shard != one.shard {
                 continue;
-            }
-            if is_settled(given, small(key)) {
-                let next = self.next_in_line(given, small(key));
-                if next != call && next != NONE && self.is_in_line(given, small(key), call) {
-                    return Ok(self.must(given, next));
-                }
             }
             if let Some(reader) = self.reader(given, small(key), call)? {
                 return Ok(Before::Call(reader));
             }
         }
         Ok(Before::Nothing)
-    }
-
-    // Checks whether a call is still to come in the line of a key.
-    fn is_in_line(&self, given: Given<'_>, key: u32, call: u32) -> bool {
-        match given.lines.get(key as usize) {
-            Some(line) => {
-                let mut is_there = false;
-                for other in line {
-                    is_there = is_there || *other == call;
-                }
-                is_there
-            }
-            None => false,
-        }
-    }
-
-    // The next call in the line of a key.
-    pub(crate) fn next_in_line(&self, given: Given<'_>, key: u32) -> u32 {
-        match (given.lines.get(key as usize), self.keys.get(key as usize)) {
-            (Some(line), Some(own)) => at(line.as_slice(), own.done),
-            _ => NONE,
-        }
-    }
-
-    // Checks whether the answers at a key are not looked at any more.
-    pub(crate) fn is_amiss(&self, key: u32) -> bool {
-        match self.keys.get(key as usize) {
-            Some(own) => own.amiss != NONE,
-            None => false,
-        }
     }
 
     // A call that waits at a key and must be made before the key gets something else.
@@ -172,7 +135,8 @@ impl Pass {
                 } else {
                     self.fits(given, other)? && self.may_come(given, other)?
                 };
-                if must {
+                let may = self.is_made(given.learned.before(other));
+                if (must && may) || given.learned.comes_before(other, call) {
                     return Ok(Some(other));
                 }
             }
@@ -181,7 +145,8 @@ impl Pass {
         Ok(None)
     }
 
-    // Checks whether all calls before a call in its session are made, or change nothing and can be so now.
+    // Checks whether all calls before a call in its session are made, or can be so now and leave what their
+    // keys have.
     fn may_come(&self, given: Given<'_>, call: u32) -> Result<bool, NoMemory> {
         let mut before = call_before(given.observed, call);
         for _ in 0..MOST_BEFORE {
@@ -189,13 +154,44 @@ impl Pass {
                 return Ok(true);
             }
             match given.observed.get(before as usize) {
-                Some(one) if self.waits(before) && !changes(one) && self.fits(given, before)? => {
+                Some(one)
+                    if self.waits(before)
+                        && self.is_made(given.learned.before(before))
+                        && self.is_idle(given, before, one)? => {
                     before = call_before(given.observed, before);
                 }
                 _ => return Ok(false),
             }
         }
         Ok(false)
+    }
+
+    // Checks whether nobody is known to have found what a call without an answer made.
+    fn is_unseen(&self, given: Given<'_>, call: u32, one: &Observed) -> bool {
+        let seen = match given.links.seen.get(call as usize) {
+            Some(seen) => *seen,
+            None => true,
+        };
+        !seen && changes(one) && matches!(one.shown, Shown::Nothing | Shown::NoFailure)
+    }
+
+    // Checks whether the answer of a call can be so now, and its key keeps what it has.
+    fn is_idle(&self, given: Given<'_>, call: u32, one: &Observed) -> Result<bool, NoMemory> {
+        let key = at(given.links.keys.of.as_slice(), call);
+        match (
+            self.decide(given, call, false)?,
+            self.keys.get(key as usize),
+        ) {
+            (Some(decided), Some(own)) => {
+                let is_idle = !changes(one) || decided.keeps(&own.held);
+                drop(decided);
+                Ok(is_idle)
+            }
+            (found, _) => {
+                drop(found);
+                Ok(false)
+            }
+        }
     }
 
     // Checks whether a call that waits is none that comes after another one in its session.
@@ -228,9 +224,17 @@ impl Pass {
 
     // A change that must be made before those that need what a call makes: it must be made before the
     // last of them is sent.
-    fn earlier_change(&self, given: Given<'_>, key: u32, call: u32) -> Option<u32> {
-        let Some(own) = self.keys.get(key as usize) else {
-            return None;
+    fn earlier_change(
+        &self,
+        given: Given<'_>,
+        key: u32,
+        call: u32,
+    ) -> Result<Option<u32>, NoMemory> {
+        let (Some(own), Some(then)) = (
+            self.keys.get(key as usize),
+            self.decide(given, call, false)?,
+        ) else {
+            return Ok(None);
         };
         let span = time_at(given.links.span.as_slice(), call);
         let sources = given.links.source.as_slice();
@@ -247,21 +251,36 @@ impl Pass {
             let due = time_at(given.links.due.as_slice(), other);
             if due <= least && changes(one) && self.may_precede(given, other, call) {
                 let source = source_of(given.observed, sources, other);
-                if source == NONE || (own.maker != NONE && source == own.maker) {
+                let may = source == NONE || (own.maker != NONE && source == own.maker);
+                if may && !self.keeps_after(&then, one)? && self.fits_behind(given, other, call)? {
                     first = Some(other);
                     least = due.saturating_sub(1);
                 }
             }
             other = at(self.next.as_slice(), other);
         }
-        first
+        drop(then);
+        Ok(first)
     }
-}
 
-/// Checks whether the order of the calls at a key is settled.
-pub(crate) fn is_settled(given: Given<'_>, key: u32) -> bool {
-    match given.lines.get(key as usize) {
-        Some(line) => !line.is_empty(),
-        None => false,
+    // Checks whether the answer of a call can be so if another one is made before it now.
+    fn fits_behind(&self, given: Given<'_>, other: u32, call: u32) -> Result<bool, NoMemory> {
+        match given.observed.get(call as usize) {
+            Some(one) => self.helps(given, other, one),
+            None => Ok(false),
+        }
+    }
+
+    // Checks whether a call can come right after another one, and its key keeps what that left.
+    fn keeps_after(&self, then: &Decided, one: &Observed) -> Result<bool, NoMemory> {
+        let place = self.order.len().saturating_add(1);
+        Ok(match decide_after(self.alloc, &then.held, one, place)? {
+            Some(decided) => {
+                let keeps = decided.keeps(&then.held);
+                drop(decided);
+                keeps
+            }
+            None => false,
+        })
     }
 }

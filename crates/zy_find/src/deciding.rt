@@ -40,6 +40,16 @@ impl Decided {
         held
     }
 
+    // Checks whether a key that has this keeps it.
+    pub(crate) fn keeps(&self, held: &Held) -> bool {
+        !matches!(self.choice, Choice::Failed)
+            && match (held, &self.held) {
+                (Held::Any, Held::Any) | (Held::Nothing, Held::Nothing) => true,
+                (Held::Item(known), Held::Item(other)) => known.origin == other.origin,
+                _ => false,
+            }
+    }
+
     // Nothing was chosen.
     fn plain(held: Held) -> Decided {
         Decided {
@@ -72,7 +82,7 @@ pub(crate) fn decide(
     one: &Observed,
     place: usize,
 ) -> Result<Option<Decided>, NoMemory> {
-    if let Some(decided) = decide_unlost(alloc, held, one, place)? {
+    if let Some(decided) = decide_after(alloc, held, one, place)? {
         return Ok(Some(decided));
     }
     if !may_lose {
@@ -84,7 +94,7 @@ pub(crate) fn decide(
     };
     match doubt {
         Some(failed) => {
-            let Some(decided) = decide_unlost(alloc, &Held::Nothing, one, place)? else {
+            let Some(decided) = decide_after(alloc, &Held::Nothing, one, place)? else {
                 return Ok(None);
             };
             Ok(Some(Decided {
@@ -93,7 +103,7 @@ pub(crate) fn decide(
             }))
         }
         None if rules.forget => {
-            let Some(decided) = decide_unlost(alloc, &Held::Nothing, one, place)? else {
+            let Some(decided) = decide_after(alloc, &Held::Nothing, one, place)? else {
                 return Ok(None);
             };
             Ok(Some(Decided {
@@ -112,7 +122,7 @@ pub(crate) fn fits_after(
     one: &Observed,
     place: usize,
 ) -> Result<bool, NoMemory> {
-    Ok(match decide_unlost(alloc, held, one, place)? {
+    Ok(match decide_after(alloc, held, one, place)? {
         Some(decided) => {
             drop(decided);
             true
@@ -121,8 +131,8 @@ pub(crate) fn fits_after(
     })
 }
 
-// The same, if nothing is lost before the call.
-fn decide_unlost(
+/// What a key has after a call that stands at this place, if nothing is lost before it.
+pub(crate) fn decide_after(
     alloc: Global,
     held: &Held,
     one: &Observed,

@@ -1,8 +1,9 @@
 //! What calls change, make and need, as far as their answers show it.
 
 use crate::hashing::{absence_hash, number_hash, value_hash};
-use mc_allows::Shown;
+use mc_allows::{Shown, padded_number};
 use mc_calls::{Call, CallReply};
+use zy_base::Blob;
 use zy_refute::Observed;
 
 /// Checks whether a call may change what its key has.
@@ -124,20 +125,40 @@ pub(crate) fn needs_absence(one: &Observed) -> bool {
     }
 }
 
-/// Checks whether a call that joins or counts may have left what another one found.
-pub(crate) fn may_leave(one: &Observed, reader: &Observed) -> bool {
-    let value = match &reader.shown {
-        Shown::HitWith { value } => value.bytes(),
+/// Returns the value that a call found, if its answer shows it.
+pub(crate) fn found_by(one: &Observed) -> Option<&Blob> {
+    match &one.shown {
+        Shown::HitWith { value } => Some(value),
         Shown::Reply {
             reply: CallReply::Hit { value, .. },
-        } => value.bytes(),
-        _ => return !needs_absence(reader)
-            && !matches!(one.call, Call::Append { .. } | Call::Prepend { .. }),
-    };
+        } => Some(value),
+        _ => None,
+    }
+}
+
+/// Checks whether a call that joins or counts may have left a value.
+pub(crate) fn may_leave(one: &Observed, value: &[u8]) -> bool {
     match &one.call {
         Call::Append { value: piece, .. } => value.ends_with(piece.bytes()),
         Call::Prepend { value: piece, .. } => value.starts_with(piece.bytes()),
+        Call::Incr { .. } | Call::Decr { .. } => padded_number(value).is_some(),
         _ => true,
+    }
+}
+
+/// Checks whether a call counts.
+pub(crate) fn is_counting(one: &Observed) -> bool {
+    matches!(one.call, Call::Incr { .. } | Call::Decr { .. })
+}
+
+/// Returns what a call that joins a piece to a value must have found to leave this; none if it is no such call.
+pub(crate) fn joined_to<'a>(one: &Observed, value: &'a [u8]) -> Option<&'a [u8]> {
+    match &one.call {
+        Call::Append { value: piece, .. } => {
+            value.get(..value.len().saturating_sub(piece.bytes().len()))
+        }
+        Call::Prepend { value: piece, .. } => value.get(piece.bytes().len()..),
+        _ => None,
     }
 }
 

@@ -2,11 +2,12 @@
 
 use crate::at_key::AtKey;
 use crate::deciding::First;
+use crate::learned::Learned;
 use crate::links::links_of;
 use crate::order::{Began, Found, Rules};
 use crate::pass::{Given, Pass};
-use crate::settling::{Line, Settled, settle};
-use crate::small::NONE;
+use crate::settling::{Settled, settle};
+use crate::small::small;
 use mc_calls::Item;
 use std::alloc::Global;
 use std::collections::BTreeSet;
@@ -15,7 +16,7 @@ use zy_refute::Observed;
 use zy_verdict::Order;
 
 // How often all calls are gone through.
-const ROUNDS: usize = 6;
+const ROUNDS: usize = 12;
 
 /// Looks for an order of the calls of a recording. The calls of each session stand together, in their
 /// order. The items of the keys in `lasting` may be lost whatever the rules say. At most `most` steps
@@ -28,10 +29,7 @@ pub fn find(
     most: usize,
 ) -> Result<Found, NoMemory> {
     let links = links_of(alloc, rules, observed)?;
-    let mut lines = Vec::with_capacity(alloc, links.keys.first.len())?;
-    for _ in 0..links.keys.first.len() {
-        lines.push(Vec::new(alloc))?;
-    }
+    let mut learned = Learned::new(alloc, observed.len())?;
     let mut found = Found::Nothing {
         calls: Vec::new(alloc),
     };
@@ -39,50 +37,41 @@ pub fn find(
         let given = Given {
             observed,
             links: &links,
-            lines: &lines,
+            learned: &learned,
         };
         let mut pass = Pass::new(alloc, rules, lasting, given)?;
         pass.run(given)?;
-        if pass.is_right() {
+        if pass.failures.is_empty() {
             drop(std::mem::replace(&mut found, pass.into_found(given)?));
             break;
         }
         let settled = settle(alloc, given, &pass, most)?;
         drop(pass);
         let Settled {
-            lines: more,
+            pieces,
             amiss,
             tried,
         } = settled;
-        let ends = more.is_empty() || !amiss.is_empty();
+        for call in &tried {
+            learned.fail(small(*call));
+        }
+        for piece in &pieces {
+            learned.learn(observed, piece);
+        }
+        let ends = pieces.is_empty() || !amiss.is_empty();
+        drop(pieces);
         let calls = if ends { amiss } else { tried };
         drop(std::mem::replace(&mut found, Found::Nothing { calls }));
-        for Line { key, calls } in more {
-            if let Some(own) = lines.get_mut(key as usize) {
-                drop(std::mem::replace(own, calls));
-            } else {
-                drop(calls);
-            }
-        }
         if ends {
             break;
         }
     }
-    drop(lines);
+    drop(learned);
     drop(links);
     Ok(found)
 }
 
 impl Pass {
-    // Checks whether all calls are made, and each answer can be so.
-    fn is_right(&self) -> bool {
-        let mut right = self.stuck == NONE;
-        for own in &self.keys {
-            right = right && own.amiss == NONE;
-        }
-        right
-    }
-
     // Returns the order, with the items that the store begins with.
     fn into_found(self, given: Given<'_>) -> Result<Found, NoMemory> {
         let Pass {
@@ -97,8 +86,9 @@ impl Pass {
             now: _,
             unique: last,
             shown,
-            stuck: _,
+            failures,
         } = self;
+        drop(failures);
         drop(progress);
         drop(next);
         drop(back);

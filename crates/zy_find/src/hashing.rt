@@ -9,7 +9,8 @@ const END: usize = 48;
 
 // Adds a number to a hash.
 pub(crate) fn mixed(hash: u64, number: u64) -> u64 {
-    let more = (hash ^ number).wrapping_mul(0x9e3779b97f4a7c15);
+    let own = hash.wrapping_mul(0xff51afd7ed558ccd) ^ number;
+    let more = own.wrapping_mul(0x9e3779b97f4a7c15);
     more ^ (more >> 29)
 }
 

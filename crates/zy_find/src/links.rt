@@ -20,6 +20,8 @@ pub(crate) struct Links {
     pub(crate) keys: Keys,
     /// The call that made what a call found (`sources_of`).
     pub(crate) source: Vec<u32>,
+    /// Whether it is known that another call found what a call made.
+    pub(crate) seen: Vec<bool>,
     /// The moment before which a call must be made.
     pub(crate) due: Vec<u64>,
     /// The moment before which a call cannot be made.
@@ -61,6 +63,7 @@ pub(crate) fn links_of(
     let source = sources_of(alloc, looked)?;
     drop(floors);
     let Overs { over, more_over } = overs_of(alloc, observed, &keys.of, &source)?;
+    let seen = seen_of(alloc, observed, &source)?;
     let reached = Reached {
         observed,
         source: &source,
@@ -73,6 +76,7 @@ pub(crate) fn links_of(
     Ok(Links {
         keys,
         source,
+        seen,
         due,
         since,
         over,
@@ -82,6 +86,18 @@ pub(crate) fn links_of(
         by_sent,
         flushes,
     })
+}
+
+// For each call whether it is known that another one found what it made.
+fn seen_of(alloc: Global, observed: &[Observed], source: &[u32]) -> Result<Vec<bool>, NoMemory> {
+    let mut seen = Vec::from_elem(alloc, false, observed.len())?;
+    for call in 0..observed.len() {
+        let maker = source_of(observed, source, small(call));
+        if let Some(own) = seen.get_mut(maker as usize) {
+            *own = true;
+        }
+    }
+    Ok(seen)
 }
 
 // The flushes.

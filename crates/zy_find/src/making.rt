@@ -140,20 +140,7 @@ impl Pass {
         self.set(call, Progress::Made);
         let key = at(given.links.keys.of.as_slice(), call);
         self.unlink(key, call);
-        self.go_on(given, key, call);
         Ok(())
-    }
-
-    // Goes on in the line of a key, if the call is next there.
-    fn go_on(&mut self, given: Given<'_>, key: u32, call: u32) {
-        if let (Some(own), Some(line)) = (
-            self.keys.get_mut(key as usize),
-            given.lines.get(key as usize),
-        )
-            && at(line.as_slice(), own.done) == call
-        {
-            own.done = own.done.saturating_add(1);
-        }
     }
 
     // Makes a call that is about no key.
@@ -164,22 +151,17 @@ impl Pass {
         one: &Observed,
     ) -> Result<(), NoMemory> {
         if matches!(one.call, Call::Flush) {
-            for key in 0..self.keys.len() {
-                let mut own_key = NONE;
-                if let Some(own) = self.keys.get_mut(key)
-                    && own.shard == one.shard
-                {
+            for own in &mut self.keys {
+                if own.shard == one.shard {
                     drop(std::mem::replace(&mut own.held, Held::Nothing));
                     own.maker = NONE;
-                    own_key = small(key);
                 }
-                self.go_on(given, own_key, call);
             }
         }
         self.place(given, call, false, Choice::Plain, false)
     }
 
-    // Makes a call at a key whose answers are not looked at any more.
+    // Makes a call whatever its answer is.
     pub(crate) fn make_blindly(&mut self, given: Given<'_>, call: u32) -> Result<(), NoMemory> {
         self.place(given, call, false, Choice::Plain, false)
     }

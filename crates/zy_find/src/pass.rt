@@ -1,6 +1,7 @@
 //! One order of all calls, made call by call.
 
 use crate::at_key::{AtKey, keys_at_first};
+use crate::learned::Learned;
 use crate::links::Links;
 use crate::order::Rules;
 use crate::small::{NONE, at, put, time_at};
@@ -11,13 +12,20 @@ use zy_base::{Blob, NoMemory};
 use zy_refute::Observed;
 use zy_verdict::Placement;
 
-/// What is given: the calls, what is known of them, and for each key the order of its calls, if that is
-/// settled; else its line is empty.
+/// What is given: the calls, what is known of them, and what was learned from earlier passes.
 #[derive(Clone, Copy)]
 pub(crate) struct Given<'a> {
     pub(crate) observed: &'a [Observed],
     pub(crate) links: &'a Links,
-    pub(crate) lines: &'a [Vec<u32>],
+    pub(crate) learned: &'a Learned,
+}
+
+/// A call whose answer could not be so, and how many calls were made before it.
+#[derive(Clone, Copy)]
+pub(crate) struct Failure {
+    pub(crate) key: u32,
+    pub(crate) call: u32,
+    pub(crate) made: usize,
 }
 
 /// How far a call is.
@@ -51,8 +59,8 @@ pub(crate) struct Pass {
     pub(crate) unique: u64,
     /// The places of the items whose uniques answers showed, by these.
     pub(crate) shown: Table,
-    /// A call that could not be made in its turn within its session.
-    pub(crate) stuck: u32,
+    /// The calls whose answers could not be so, or that could not be made in their turn: the first of them.
+    pub(crate) failures: Vec<Failure>,
 }
 
 // Uniques that no answer showed are counted from here, far above those of a server.
@@ -80,7 +88,7 @@ impl Pass {
             now: 0,
             unique: FIRST_UNIQUE,
             shown: Table::new(alloc)?,
-            stuck: NONE,
+            failures: Vec::new(alloc),
         };
         for call in &given.links.by_sent {
             pass.append(given, *call);

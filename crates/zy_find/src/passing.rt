@@ -1,13 +1,17 @@
 //! Making all calls, each at the last moment or when another one needs it.
 
-use crate::before::{Before, is_settled};
+use crate::before::Before;
 use crate::effects::changes;
+use crate::held::Held;
 use crate::links::call_before;
-use crate::pass::{Given, Pass, Progress};
+use crate::pass::{Failure, Given, Pass, Progress};
 use crate::sessions::end_of;
 use crate::small::{NONE, at, time_at};
 use zy_base::NoMemory;
 use zy_refute::Observed;
+
+// How many failures of a pass are noted.
+const MOST_FAILURES: usize = 1024;
 
 impl Pass {
     // Makes all sure calls, and those that they need.
@@ -69,10 +73,6 @@ impl Pass {
                     let _ = self.wanted.pop();
                     return self.make_keyless(given, call, one);
                 }
-                if self.is_amiss(key) {
-                    let _ = self.wanted.pop();
-                    return self.make_blindly(given, call);
-                }
                 self.step_at(given, key, call)
             }
         }
@@ -94,19 +94,25 @@ impl Pass {
         self.give_up(given, call)
     }
 
-    // Gives up the key of a call, or the call's turn within its session.
+    // Notes that a call failed, and makes it as if nothing was known of its key.
     fn give_up(&mut self, given: Given<'_>, call: u32) -> Result<(), NoMemory> {
         let key = at(given.links.keys.of.as_slice(), call);
-        match self.keys.get_mut(key as usize) {
-            Some(own) if own.amiss == NONE => {
-                own.amiss = call;
-                Ok(())
-            }
-            _ => {
-                self.stuck = call;
-                let _ = self.wanted.pop();
-                self.make_blindly(given, call)
-            }
+        let _ = self.wanted.pop();
+        if self.failures.len() < MOST_FAILURES {
+            self.failures.push(Failure {
+                key,
+                call,
+                made: self.made.len(),
+            })?;
+        }
+        if let Some(own) = self.keys.get_mut(key as usize) {
+            drop(std::mem::replace(&mut own.held, Held::Any));
+            own.maker = NONE;
+            own.others.clear();
+        }
+        match self.decide(given, call, true)? {
+            Some(decided) => self.make(given, call, decided),
+            None => self.make_blindly(given, call),
         }
     }
 
@@ -118,11 +124,6 @@ impl Pass {
         let Some(wanting) = given.observed.get(call as usize) else {
             return Ok(None);
         };
-        if is_settled(given, key) {
-            let next = self.next_in_line(given, key);
-            let may = self.waits(next) && self.is_sent(given, next);
-            return Ok(if may { Some(next) } else { None });
-        }
         let mut best = None;
         let mut least = u64::MAX;
         let mut other = own.head;
@@ -151,7 +152,12 @@ impl Pass {
     }
 
     // Checks whether a change can be made now, and then the answer of a call can be so.
-    fn helps(&self, given: Given<'_>, change: u32, one: &Observed) -> Result<bool, NoMemory> {
+    pub(crate) fn helps(
+        &self,
+        given: Given<'_>,
+        change: u32,
+        one: &Observed,
+    ) -> Result<bool, NoMemory> {
         let Some(decided) = self.decide(given, change, false)? else {
             return Ok(false);
         };

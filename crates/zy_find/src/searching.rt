@@ -36,6 +36,11 @@ pub(crate) struct Listed<'a> {
     pub(crate) list: &'a [u32],
     pub(crate) ranks: &'a [u32],
     pub(crate) rules: Rules,
+    /// What the key has before them, and the call that made it, or `NONE`.
+    pub(crate) held: &'a Held,
+    pub(crate) maker: u32,
+    /// Those that ended by this moment must be made.
+    pub(crate) until: u64,
 }
 
 /// A search through the calls at a key.
@@ -43,18 +48,23 @@ pub(crate) struct Listed<'a> {
 pub(crate) struct Search {
     alloc: Global,
     held: Held,
-    /// What the key had before each of the made ones.
+    /// The offset of the call that made what the key has; the length of the list is that of an earlier call.
+    maker: u32,
+    /// What the key had before each of the made ones, and the offset of the call that made it.
     before: Vec<Held>,
+    makers: Vec<u32>,
     /// Which calls of the list are made.
     made: Vec<bool>,
     /// The offsets of the made ones, in their order.
     order: Vec<u32>,
     branches: Vec<Branch>,
+    /// The uniques that the made ones showed, and how many were made before each.
+    shown: Vec<(u64, usize)>,
     needs: Needs,
     kept: bool,
     /// All calls before this offset are made.
     low: usize,
-    /// How many sure calls are left.
+    /// How many calls are left that must be made.
     left: usize,
 }
 
@@ -74,7 +84,7 @@ pub(crate) fn look_for(
     let mut search = begin(alloc, given, listed, kept)?;
     let mut from = 0;
     for _ in 0..most {
-        if search.order.len() == listed.list.len() {
+        if search.left == 0 {
             break;
         }
         match search.step(given, listed, from)? {
@@ -104,31 +114,31 @@ fn begin(
 ) -> Result<Search, NoMemory> {
     let mut left: usize = 0;
     for call in listed.list {
-        if is_sure(given, *call) {
+        if is_wanted(given, listed, *call) {
             left = left.saturating_add(1);
         }
     }
     Ok(Search {
         alloc,
-        held: if listed.rules.warm {
-            Held::Any
-        } else {
-            Held::Nothing
-        },
+        held: listed.held.copy()?,
+        maker: small(listed.list.len()),
         before: Vec::new(alloc),
+        makers: Vec::new(alloc),
         made: Vec::from_elem(alloc, false, listed.list.len())?,
         order: Vec::new(alloc),
         branches: Vec::new(alloc),
-        needs: Needs::of(alloc, given, listed.list, kept)?,
+        shown: Vec::new(alloc),
+        needs: Needs::of(alloc, given, listed.list, listed.maker, kept)?,
         kept,
         low: 0,
         left,
     })
 }
 
-fn is_sure(given: Given<'_>, call: u32) -> bool {
+// Checks whether a call must be made.
+fn is_wanted(given: Given<'_>, listed: Listed<'_>, call: u32) -> bool {
     match given.observed.get(call as usize) {
-        Some(one) => one.sure,
+        Some(one) => one.sure && end_of(one) <= listed.until,
         None => false,
     }
 }
@@ -213,7 +223,8 @@ impl Search {
             } else {
                 end_of(one)
             });
-            let blocked = is_blocked(given, &waiting, call);
+            let late = self.kept && until <= time_at(given.links.since.as_slice(), call);
+            let blocked = late || is_blocked(given, &waiting, call);
             waiting.push(call)?;
             if blocked {
                 continue;
@@ -254,10 +265,10 @@ impl Search {
         };
         let rank = at(listed.ranks, call);
         let changing = changes(one);
-        if changing && (rank < from || !self.needs.may_go(self.maker(), offset)) {
+        if changing && rank < from {
             return Ok(None);
         }
-        if self.needs.is_other(self.maker(), offset) {
+        if self.needs.is_other(self.maker, offset) {
             return Ok(None);
         }
         let found = decide(
@@ -271,8 +282,14 @@ impl Search {
         let Some(decided) = found else {
             return Ok(None);
         };
-        let only = !changing && !decided.lost && decided.gone.is_none();
-        if !only && rank < from {
+        let only = !changing && !decided.lost && decided.gone.is_none() && decided.shown.is_none();
+        let goes = !decided.keeps(&self.held)
+            && (!self.needs.may_go(self.maker, offset) || !self.may_leave(offset));
+        let twice = match decided.shown {
+            Some((_, unique)) => self.is_shown(unique),
+            None => false,
+        };
+        if goes || twice || (!only && rank < from) {
             drop(decided);
             return Ok(None);
         }
@@ -284,15 +301,24 @@ impl Search {
         }))
     }
 
-    // The offset of the call that made the item that the key has, or `NONE`.
-    fn maker(&self) -> u32 {
+    // Checks whether the item that the key has may go, by a call: no others find its unique.
+    fn may_leave(&self, offset: u32) -> bool {
         match &self.held {
-            Held::Item(known) => match known.origin {
-                Some(place) => at(self.order.as_slice(), small(place)),
-                None => NONE,
+            Held::Item(known) => match known.unique {
+                Some(unique) => self.needs.may_leave(unique, offset),
+                None => true,
             },
-            _ => NONE,
+            _ => true,
         }
+    }
+
+    // Checks whether another item was shown to have a unique.
+    fn is_shown(&self, unique: u64) -> bool {
+        let mut is_there = false;
+        for (other, _) in &self.shown {
+            is_there = is_there || *other == unique;
+        }
+        is_there
     }
 
     fn is_made(&self, offset: u32) -> bool {
@@ -316,12 +342,19 @@ impl Search {
         offset: u32,
         decided: Decided,
     ) -> Result<(), NoMemory> {
+        self.makers.push(self.maker)?;
+        if let Some((_, unique)) = decided.shown {
+            self.shown.push((unique, self.order.len()))?;
+        }
+        if !decided.keeps(&self.held) {
+            self.maker = offset;
+        }
         let before = std::mem::replace(&mut self.held, decided.into_held());
         self.before.push(before)?;
         self.order.push(offset)?;
         self.set(offset, true);
         self.needs.meet(offset);
-        if is_sure(given, at(listed.list, offset)) {
+        if is_wanted(given, listed, at(listed.list, offset)) {
             self.left = self.left.saturating_sub(1);
         }
         for _ in self.low..listed.list.len() {
@@ -339,13 +372,21 @@ impl Search {
             if let Some(before) = self.before.pop() {
                 drop(std::mem::replace(&mut self.held, before));
             }
+            if let Some(maker) = self.makers.pop() {
+                self.maker = maker;
+            }
             let Some(offset) = self.order.pop() else {
                 return;
             };
+            if let Some((_, made)) = self.shown.last().copied()
+                && made == self.order.len()
+            {
+                let _ = self.shown.pop();
+            }
             self.set(offset, false);
             self.needs.miss(offset);
             self.low = self.low.min(offset as usize);
-            if is_sure(given, at(listed.list, offset)) {
+            if is_wanted(given, listed, at(listed.list, offset)) {
                 self.left = self.left.saturating_add(1);
             }
         }

@@ -1,9 +1,10 @@
 //! Which call made what another one found.
 
 use crate::effects::{
-    Trace, expected, found_another, left_by, may_leave, needed_by, needs_absence,
+    Trace, expected, found_another, found_by, is_counting, joined_to, left_by, may_leave,
+    needed_by, needs_absence,
 };
-use crate::hashing::{unique_hash, unknown_hash};
+use crate::hashing::{unique_hash, unknown_hash, value_hash};
 use crate::sessions::end_of;
 use crate::small::{NONE, at, put, small, time_at};
 use crate::table::Table;
@@ -35,6 +36,8 @@ struct Makers {
     last: Table,
     /// For each call the one before it that made the same.
     before: Vec<u32>,
+    /// For each call the last end of it and of those before it.
+    until: Vec<u64>,
 }
 
 /// For each call the call that made what it found, if only one can have; for one that found an item with
@@ -44,6 +47,7 @@ pub(crate) fn sources_of(alloc: Global, looked: Looked<'_>) -> Result<Vec<u32>, 
     let mut makers = Makers {
         last: Table::new(alloc)?,
         before: Vec::from_elem(alloc, NONE, count)?,
+        until: Vec::from_elem(alloc, 0u64, count)?,
     };
     let mut sources = Vec::from_elem(alloc, NONE, count)?;
     let mut uniques = Table::new(alloc)?;
@@ -66,6 +70,7 @@ pub(crate) fn sources_of(alloc: Global, looked: Looked<'_>) -> Result<Vec<u32>, 
             if let Some(unique) = one.unique {
                 uniques.put(unique_hash(at(looked.keys, *call), unique), source)?;
             }
+            makers.join_sources(looked, sources.as_mut_slice(), *call, one);
         }
     }
     drop(makers);
@@ -100,29 +105,79 @@ impl Makers {
             Trace::Unknown => unknown_hash(key),
             Trace::Nothing => return Ok(()),
         };
-        put(self.before.as_mut_slice(), call, self.last.get(hash));
+        let before = self.last.get(hash);
+        put(self.before.as_mut_slice(), call, before);
+        let mut until = end_of(one);
+        if before != NONE {
+            until = until.max(time_at(self.until.as_slice(), before));
+        }
+        if let Some(own) = self.until.get_mut(call as usize) {
+            *own = until;
+        }
         self.last.put(hash, call)
     }
 
     // The call that made what a call found, if only one can have.
     fn source(&self, looked: Looked<'_>, call: u32, one: &Observed) -> u32 {
-        let key = at(looked.keys, call);
-        let Trace::Hash(hash) = needed_by(one, key) else {
+        let Trace::Hash(hash) = needed_by(one, at(looked.keys, call)) else {
             return NONE;
         };
-        let absent = needs_absence(one);
+        let found = match found_by(one) {
+            Some(value) => Found::Value(value.bytes()),
+            None if needs_absence(one) => Found::Absence,
+            None => Found::Number,
+        };
+        self.maker_of(looked, call, one, hash, found)
+    }
+
+    // The calls that made what those found that joined pieces to the value that a call found.
+    fn join_sources(&self, looked: Looked<'_>, sources: &mut [u32], call: u32, one: &Observed) {
+        let Some(found) = found_by(one) else {
+            return;
+        };
+        let mut value = found.bytes();
+        let mut maker = at(sources, call);
+        for _ in 0..MOST {
+            let Some(other) = looked.observed.get(maker as usize) else {
+                break;
+            };
+            let Some(rest) = joined_to(other, value) else {
+                break;
+            };
+            if at(sources, maker) != NONE {
+                break;
+            }
+            let hash = value_hash(at(looked.keys, maker), rest);
+            let source = self.maker_of(looked, maker, other, hash, Found::Value(rest));
+            put(sources, maker, source);
+            maker = source;
+            value = rest;
+        }
+    }
+
+    // The call that made what a call found, if only one can have.
+    fn maker_of(
+        &self,
+        looked: Looked<'_>,
+        call: u32,
+        one: &Observed,
+        hash: u64,
+        found: Found<'_>,
+    ) -> u32 {
+        let key = at(looked.keys, call);
         let floor = time_at(looked.floors, call);
+        let absent = matches!(found, Found::Absence);
         if (absent && (looked.may_go || floor == 0)) || (looked.warm && floor == 0) {
             return NONE;
         }
-        let (known, some) = self.one_of(looked, self.last.get(hash), call, one, false);
-        let (unknown, others) = self.one_of(
-            looked,
-            self.last.get(unknown_hash(key)),
+        let reader = Reader {
             call,
-            one,
-            true,
-        );
+            floor,
+            end: end_of(one),
+        };
+        let (known, some) = self.one_of(looked, self.last.get(hash), reader, None);
+        let last = self.last.get(unknown_hash(key));
+        let (unknown, others) = self.one_of(looked, last, reader, Some(found));
         match some.saturating_add(others) {
             1 if some == 1 => known,
             1 => unknown,
@@ -135,23 +190,30 @@ impl Makers {
         &self,
         looked: Looked<'_>,
         last: u32,
-        call: u32,
-        one: &Observed,
-        checks: bool,
+        reader: Reader,
+        found: Option<Found<'_>>,
     ) -> (u32, u32) {
-        let floor = time_at(looked.floors, call);
-        let mut found = NONE;
+        let mut only = NONE;
         let mut count: u32 = 0;
         let mut maker = last;
         for turn in 0..MOST {
             let Some(other) = looked.observed.get(maker as usize) else {
                 break;
             };
+            if time_at(self.until.as_slice(), maker) <= reader.floor {
+                break;
+            }
             if turn + 1 == MOST {
                 count = 2;
             }
-            if maker != call && floor < end_of(other) && (!checks || may_leave(other, one)) {
-                found = maker;
+            let fits = match found {
+                None => true,
+                Some(Found::Value(value)) => may_leave(other, value),
+                Some(Found::Number) => is_counting(other),
+                Some(Found::Absence) => false,
+            };
+            if fits && reader.may_find(maker, other) {
+                only = maker;
                 count = count.saturating_add(1);
             }
             if 1 < count {
@@ -159,6 +221,30 @@ impl Makers {
             }
             maker = at(self.before.as_slice(), maker);
         }
-        (found, count)
+        (only, count)
+    }
+}
+
+// What a call found.
+#[derive(Clone, Copy)]
+enum Found<'a> {
+    Value(&'a [u8]),
+    // A number, which its answer tells.
+    Number,
+    Absence,
+}
+
+// A call that found something: its floor and its end.
+#[derive(Clone, Copy)]
+struct Reader {
+    call: u32,
+    floor: u64,
+    end: u64,
+}
+
+impl Reader {
+    // Checks whether it can have found what a call made.
+    fn may_find(self, maker: u32, other: &Observed) -> bool {
+        maker != self.call && self.floor < end_of(other) && other.sent < self.end
     }
 }

@@ -1,0 +1,140 @@
+//! The calls of the keys at which a pass failed.
+
+use crate::pass::{Given, Pass};
+use crate::sessions::end_of;
+use crate::small::{NONE, at, put, small};
+use mc_calls::Call;
+use std::alloc::Global;
+use zy_base::NoMemory;
+
+/// The calls of a key.
+#[derive(Drop)]
+pub(crate) struct KeyList {
+    key: u32,
+    /// All, by their sendings.
+    pub(crate) sent: Vec<u32>,
+    /// Those that were made, in their order, and for each how many of all were made before it.
+    pub(crate) made: Vec<u32>,
+    places: Vec<usize>,
+}
+
+/// The calls of some keys.
+#[derive(Drop)]
+pub(crate) struct KeyLists {
+    pub(crate) lists: Vec<KeyList>,
+    /// For each key its place among the lists, or `NONE`.
+    pub(crate) places: Vec<u32>,
+}
+
+impl KeyList {
+    // How many of its calls were made before that many of all.
+    pub(crate) fn made_before(&self, count: usize) -> usize {
+        let mut low = 0;
+        let mut high = self.places.len();
+        for _ in 0..self.places.len() {
+            if high <= low {
+                break;
+            }
+            let middle = low.saturating_add(high.saturating_sub(low) / 2);
+            match self.places.get(middle) {
+                Some(place) if *place < count => low = middle.saturating_add(1),
+                _ => high = middle,
+            }
+        }
+        low
+    }
+
+    // The moment at which a call ended, or at which so many others behind it were sent.
+    pub(crate) fn end_of(&self, given: Given<'_>, call: u32, behind: usize) -> u64 {
+        let Some(one) = given.observed.get(call as usize) else {
+            return u64::MAX;
+        };
+        let mut left = behind;
+        for other in &self.sent {
+            if let Some(later) = given.observed.get(*other as usize)
+                && end_of(one) <= later.sent
+            {
+                if left == 0 {
+                    return later.sent;
+                }
+                left = left.saturating_sub(1);
+            }
+        }
+        u64::MAX
+    }
+}
+
+/// The calls of the keys at which a pass failed.
+pub(crate) fn lists_of(alloc: Global, given: Given<'_>, pass: &Pass) -> Result<KeyLists, NoMemory> {
+    let mut lists = KeyLists {
+        lists: Vec::new(alloc),
+        places: Vec::from_elem(alloc, NONE, pass.keys.len())?,
+    };
+    for failure in &pass.failures {
+        let place = at(lists.places.as_slice(), failure.key);
+        if place == NONE && (failure.key as usize) < pass.keys.len() {
+            put(
+                lists.places.as_mut_slice(),
+                failure.key,
+                small(lists.lists.len()),
+            );
+            lists.lists.push(KeyList {
+                key: failure.key,
+                sent: Vec::new(alloc),
+                made: Vec::new(alloc),
+                places: Vec::new(alloc),
+            })?;
+        }
+    }
+    for call in &given.links.by_sent {
+        lists.add(given, pass, *call, None)?;
+    }
+    for place in 0..pass.made.len() {
+        lists.add(given, pass, pass.made[place], Some(place))?;
+    }
+    Ok(lists)
+}
+
+impl KeyLists {
+    // Adds a call to the lists that it belongs to.
+    fn add(
+        &mut self,
+        given: Given<'_>,
+        pass: &Pass,
+        call: u32,
+        made: Option<usize>,
+    ) -> Result<(), NoMemory> {
+        let key = at(given.links.keys.of.as_slice(), call);
+        if key != NONE {
+            let place = at(self.places.as_slice(), key);
+            if let Some(list) = self.lists.get_mut(place as usize) {
+                list.add(call, made)?;
+            }
+        } else if let Some(one) = given.observed.get(call as usize)
+            && matches!(one.call, Call::Flush)
+        {
+            for list in &mut self.lists {
+                if let Some(own) = pass.keys.get(list.key as usize)
+                    && own.shard == one.shard
+                {
+                    list.add(call, made)?;
+                }
+            }
+        }
+        Ok(())
+    }
+}
+
+impl KeyList {
+    // Adds a call.
+    fn add(&mut self, call: u32, made: Option<usize>) -> Result<(), NoMemory> {
+        match made {
+            Some(place) => {
+                self.made.push(call)?;
+                self.places.push(place)?;
+            }
+            None => self.sent.push(call)?,
+        }
+        Ok(())
+    }
+}
