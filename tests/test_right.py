@@ -144,7 +144,7 @@ def items_before_drawn_recordings():
             word, lines = verdict(drawn.capture(), outputs_of(drawn.replies()), is_warm=True)
             counts[word if word != "unknown" else lines[0].partition(": an item ")[2].partition(";")[0]] += 1
     same("with another answer", {"no", "order found", "of nearly 1 MiB may have been there at first, to which nothing could"
-                                 " be joined", "that was there at first may have had an exptime: --may-forget lets items go"}, set(counts))
+                                 " be joined", "that was there at first may have had an exptime: --may-forget allows losses"}, set(counts))
 
 
 # ---- meta commands that the profile leaves out
@@ -273,7 +273,7 @@ def flushes_with_a_delay():
     """A delayed `flush_all` may take items away after it."""
     steps = [(0, b"get a\r\n", b"END\r\n"), ONE, (0, b"flush_all 1\r\n", b"OK\r\n")]
     word, lines, _ = judged([*steps, GONE])
-    same("an item that it took", ("unknown", "`flush_all 1`: --may-forget lets items go"), (word, lines[0][-41:]))
+    same("an item that it took", ("unknown", "`flush_all 1`: --may-forget allows losses"), (word, lines[0][-41:]))
     same("the same with --may-forget", "order found", judged([*steps, GONE], loses=True)[0])
     same("an item that is there", "order found", judged([*steps, (0, b"get a\r\n", hit(b"a", b"1"))])[0])
     same("another value", "no", judged([*steps, (0, b"get a\r\n", hit(b"a", b"7"))])[0])
@@ -288,7 +288,7 @@ def items_from_before_that_expire():
     """An item that was there before the recording may have had an exptime."""
     there, other = (0, b"get a\r\n", hit(b"a", b"1")), (0, *stored(b"b", b"1"))
     again = (0, b"append a 0 0 1\r\n1\r\n", b"STORED\r\n")
-    said = "an item that was there at first may have had an exptime: --may-forget lets items go"
+    said = "an item that was there at first may have had an exptime: --may-forget allows losses"
     for name, steps, wanted in (
             ("it goes", [there, GONE], "unknown"), ("it goes, and is stored", [there, GONE, ONE, there], "unknown"),
             ("it is joined to, and goes", [there, again, GONE], "unknown"), ("it goes twice", [there, GONE, there], "no"),

@@ -52,7 +52,7 @@ class Doubts:
         if first is None or first[0] > last:
             return None
         line = line_of(self.table.original(first[1])).decode("latin-1")
-        return f"items may have been lost after `{line}`: --may-forget lets items go"
+        return f"items may have been lost after `{line}`: --may-forget allows losses"
 
     def loosened(self, events: Sequence[Event], loses: bool) -> tuple[list[Event], Doubt | None]:
         """These calls, as far as they are surely known, and why that is less; no reason if it is not. With `loses` the

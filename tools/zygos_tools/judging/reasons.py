@@ -162,9 +162,9 @@ class Reason:
             return ("a value may have been joined to a padded number, which memcached goes on counting, or begins"
                     " with a number")
         if not self.states.loses and any(map(has_exptime, self.all)) and self.may_be_lost(self.all):
-            return "an item may have been lost, as the key has an exptime: --may-forget lets items go"
+            return "an item may have been lost, as the key has an exptime: --may-forget allows losses"
         if self.keys.is_warm and not self.states.loses and self.may_expire():
-            return "an item that was there at first may have had an exptime: --may-forget lets items go"
+            return "an item that was there at first may have had an exptime: --may-forget allows losses"
         forgotten = doubts.forgetting(self.all) if doubts and not self.states.loses else None
         return forgotten if forgotten and self.may_be_lost(self.all) else None
 
