@@ -1,15 +1,13 @@
 //! Entries whose parts are lent.
-ghost use Rattle.std.specs.Prelude.{◌≡◌, IfOk, option_copied};
+ghost use Rattle.std.specs.Prelude.{◌≡◌, option_copied};
 ghost use Rattle.mc_calls.specs.Call.{key_of};
-ghost use Rattle.mc_history.specs.Compact.{exchange, set_of, hit_of, miss_of};
 ghost use Rattle.mc_calls.specs.Code.{call_kind, call_code, call_flags, call_number, call_value};
 ghost use Rattle.mc_calls.specs.Code.{reply_code, reply_flags, reply_number, reply_value, reply_counts};
 
-use crate::exchange::Exchange;
 use crate::stored_item::StoredItem;
 use mc_calls::{Call, CallKind, CallReply, Entry, HIT_CODE, Tag, Tallied};
 use std::marker::Model;
-use zy_base::{Blob, NoMemory};
+use zy_base::Blob;
 
 /// A call with its reply, where its parts are kept.
 #[derive(Clone, Copy)]
@@ -48,38 +46,6 @@ impl<'a> EntryRef<'a> {
             stamp: entry.stamp,
             shard: entry.shard,
             exchange: ExchangeRef::Other(&entry.call, &entry.reply),
-        }
-    }
-
-    /// Copies the entry. Takes no memory if its bytes are shared.
-    pub fn copy(&self) -> Result<Entry, NoMemory>
-        ensures value { IfOk result (λ copy. copy ≡ self.now) }
-    {
-        let tag = self.tag;
-        let shard = self.shard;
-        let stamp = self.stamp;
-        match self.copied() {
-            Ok(Exchange { call, reply }) => Ok(Entry {
-                tag,
-                shard,
-                call,
-                reply,
-                stamp,
-            }),
-            Err(refused) => Err(refused),
-        }
-    }
-
-    // Copies the call with its reply.
-    fn copied(&self) -> Result<Exchange, NoMemory>
-        ensures call { IfOk result (λ copy. copy.call ≡ self.now.call) }
-        ensures reply { IfOk result (λ copy. copy.reply ≡ self.now.reply) }
-    {
-        match self.exchange {
-            ExchangeRef::Set(stored) => copied_set(stored),
-            ExchangeRef::Hit(stored) => copied_hit(stored),
-            ExchangeRef::Miss(key) => copied_miss(key),
-            ExchangeRef::Other(call, reply) => copied_other(call, reply),
         }
     }
 
@@ -163,9 +129,9 @@ impl<'a> EntryRef<'a> {
         ensures value { result ≡ reply_code self.now.reply }
     {
         match self.exchange {
-            ExchangeRef::Set(_) => 3,
+            ExchangeRef::Set(_) => CallReply::Stored.code(),
             ExchangeRef::Hit(_) => HIT_CODE,
-            ExchangeRef::Miss(_) => 1,
+            ExchangeRef::Miss(_) => CallReply::Miss.code(),
             ExchangeRef::Other(_, reply) => reply.code(),
         }
     }
@@ -210,68 +176,6 @@ impl<'a> EntryRef<'a> {
         match self.exchange {
             ExchangeRef::Other(_, reply) => reply.counts(),
             _ => None,
-        }
-    }
-}
-
-fn copied_set(stored: &StoredItem) -> Result<Exchange, NoMemory>
-    ensures value { IfOk result (λ copy. copy ≡ set_of stored.now) }
-{
-    let key = stored.key.copy()?;
-    let flags = stored.item.flags;
-    match stored.item.value.copy() {
-        Ok(value) => Ok(Exchange {
-            call: Call::Set { key, flags, value },
-            reply: CallReply::Stored,
-        }),
-        Err(refused) => {
-            drop(key);
-            Err(refused)
-        }
-    }
-}
-
-fn copied_hit(stored: &StoredItem) -> Result<Exchange, NoMemory>
-    ensures value { IfOk result (λ copy. copy ≡ hit_of stored.now) }
-{
-    let key = stored.key.copy()?;
-    let flags = stored.item.flags;
-    let unique = stored.item.unique;
-    match stored.item.value.copy() {
-        Ok(value) => Ok(Exchange {
-            call: Call::Get { key },
-            reply: CallReply::Hit {
-                flags,
-                unique,
-                value,
-            },
-        }),
-        Err(refused) => {
-            drop(key);
-            Err(refused)
-        }
-    }
-}
-
-fn copied_miss(key: &Blob) -> Result<Exchange, NoMemory>
-    ensures value { IfOk result (λ copy. copy ≡ miss_of key.now) }
-{
-    let key = key.copy()?;
-    Ok(Exchange {
-        call: Call::Get { key },
-        reply: CallReply::Miss,
-    })
-}
-
-fn copied_other(call: &Call, reply: &CallReply) -> Result<Exchange, NoMemory>
-    ensures value { IfOk result (λ copy. copy ≡ exchange call.now reply.now) }
-{
-    let call = call.copy()?;
-    match reply.copy() {
-        Ok(reply) => Ok(Exchange { call, reply }),
-        Err(refused) => {
-            drop(call);
-            Err(refused)
         }
     }
 }

@@ -2,12 +2,15 @@
 #![tactic(auto)]
 
 mod compact_entry;
+mod comparing;
+mod copying;
 mod entry_ref;
 mod exchange;
 mod histories;
 mod history;
 mod history_walk;
 mod ledger;
+mod lent_call;
 mod stored_item;
 
 pub use entry_ref::EntryRef;
@@ -16,4 +19,5 @@ pub use histories::Histories;
 pub use history::History;
 pub use history_walk::HistoryWalk;
 pub use ledger::Ledger;
+pub use lent_call::LentCall;
 pub use stored_item::StoredItem;
