@@ -5,7 +5,7 @@ ghost use Rattle.zy_home.specs.Parts.{AreParts};
 ghost use Rattle.zy_setup.specs.Make.{AreOwns, AreMade, IsOwnOf, no_passes};
 
 use crate::own_connections::OwnConnections;
-use crate::ringing::{give_passes, ring_of};
+use crate::rings::{give_passes, ring_of};
 use mc_store::StoreTable;
 use std::alloc::Global;
 use zy_base::NoMemory;

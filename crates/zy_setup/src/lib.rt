@@ -5,7 +5,7 @@ mod connections;
 mod core_parts;
 mod making;
 mod own_connections;
-mod ringing;
+mod rings;
 mod running;
 
 pub use running::make_run;
