@@ -1,5 +1,5 @@
 -- Membership in lists of numbers.
-use Rattle.std.specs.Prelude.{◌≡◌, ℕ, List, [], ◌∷◌, Bool, false, ◌||◌, ◌==◌, cond}
+use Rattle.std.specs.Prelude.{◌≡◌, ℕ, List, [], ◌∷◌, Bool, false, ◌||◌, ◌==◌, cond, ⊤}
 
 -- the number is in the list
 abbrev pub is_in : ℕ → List ℕ → Bool
@@ -13,5 +13,5 @@ without n (x ∷ xs) = cond (n == x) (without n xs) (x ∷ without n xs)
 
 -- no number occurs twice in the list
 abbrev pub IsDistinct : List ℕ → Type 0
-IsDistinct [] = Unit {0}
+IsDistinct [] = ⊤
 IsDistinct (x ∷ xs) = (is_in x xs ≡ false) × IsDistinct xs
