@@ -1,5 +1,5 @@
 -- Two lists in order that have the same entries at each shard are one list; what a merge keeps of its histories.
-use Rattle.std.specs.Prelude.{◌==◌, filter, Option, None, Some, unwrap_or}
+use Rattle.std.specs.Prelude.{◌==◌, filter, Option, None, Some, unwrap_or, ⊤}
 use Rattle.std.proofs.Common.{◌≡◌, ℕ, ◌^◌, ◌<◌, ◌≤◌, List, [], ◌∷◌, length, Bool, true, false, cond, refl, sym, ap, ◌∙◌, subst, inl, inr, ⊎_elim, arith}
 use Rattle.std.proofs.lemmas.Option.{slice_get_past}
 use mathlib.Core.Logic.{dite}
@@ -13,12 +13,12 @@ use Rattle.mc_calls.proofs.LegalLemmas.{legal_whole}
 
 -- an entry comes before each entry of a list
 abbrev pub IsBeforeAll : Entry → List Entry → Type 0
-IsBeforeAll x [] = Unit {0}
+IsBeforeAll x [] = ⊤
 IsBeforeAll x (y ∷ ys) = IsBefore x y × IsBeforeAll x ys
 
 -- each entry comes before all that follow it
 abbrev pub IsSorted : List Entry → Type 0
-IsSorted [] = Unit {0}
+IsSorted [] = ⊤
 IsSorted (x ∷ xs) = IsBeforeAll x xs × IsSorted xs
 
 before_through : (x y z : Entry) → IsBefore x y → IsBefore y z → IsBefore x z

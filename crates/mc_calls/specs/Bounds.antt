@@ -1,5 +1,5 @@
 -- Which keys, values, calls, replies and items are within their bounds (docs/PROFILE.md).
-use Rattle.std.specs.Prelude.{ℕ, ◌^◌, ◌<◌, ◌≤◌, List, length, Option, None, Some, IfSome}
+use Rattle.std.specs.Prelude.{ℕ, ◌^◌, ◌<◌, ◌≤◌, List, length, Option, None, Some, IfSome, ⊤}
 use Rattle.std.specs.FinMap.{get}
 use Rattle.mc_calls.specs.declared.item.Item.{Item}
 use Rattle.mc_calls.specs.declared.call.Call.{Call}
@@ -24,7 +24,7 @@ IsValue value = length value ≤ value_limit
 
 -- a key and a value, if they are there, are within their bounds
 abbrev pub ArePartsWithin : Option (List ℕ) → Option (List ℕ) → Type 0
-ArePartsWithin None None = Unit {0}
+ArePartsWithin None None = ⊤
 ArePartsWithin None (Some value) = IsValue value
 ArePartsWithin (Some key) None = IsKey key
 ArePartsWithin (Some key) (Some value) = IsKey key × IsValue value
@@ -36,7 +36,7 @@ IsCall call = ArePartsWithin (key_of call) (call_value call)
 -- the value of a reply is within its bound
 abbrev pub IsReply : CallReply → Type 0
 IsReply (Hit flags unique value) = IsValue value
-IsReply reply = Unit {0}
+IsReply reply = ⊤
 
 -- the call of an entry is within its bounds, and belongs to one of `commands` commands
 abbrev pub IsCallWithin : ℕ → Entry → Type 0
@@ -73,7 +73,7 @@ pub record FitsEntry (e : Entry) : Type 0 where
 
 -- the value of an item, if one is found, is within its bound
 abbrev pub IsFound : Option Item → Type 0
-IsFound None = Unit {0}
+IsFound None = ⊤
 IsFound (Some item) = IsValue item.value
 
 -- the values of all items of a shard are within their bound
@@ -82,7 +82,7 @@ AreItems state = (key : List ℕ) → IsFound (get state.items key)
 
 -- the value that is stored is within its bound
 abbrev pub IsEffect : Effect → Type 0
-IsEffect keeps = Unit {0}
+IsEffect keeps = ⊤
 IsEffect (stores key flags value) = IsValue value
-IsEffect (removes key) = Unit {0}
-IsEffect empties = Unit {0}
+IsEffect (removes key) = ⊤
+IsEffect empties = ⊤

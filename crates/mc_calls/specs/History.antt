@@ -1,6 +1,6 @@
 -- Histories of calls, of one shard and of all: each reply is the one that a replay of the calls
 -- gives.
-use Rattle.std.specs.Prelude.{◌≡◌, ℕ, ◌<◌, ◌==◌, if◌then◌else◌, List, [], ◌∷◌, length}
+use Rattle.std.specs.Prelude.{◌≡◌, ℕ, ◌<◌, ◌==◌, if◌then◌else◌, List, [], ◌∷◌, length, ⊤}
 use Rattle.mc_calls.specs.declared.entry.Entry.{Entry}
 use Rattle.mc_calls.specs.Shard.{State, empty_state, reply_to, state_after}
 use Rattle.std.specs.List.{AllByRecursion}
@@ -12,7 +12,7 @@ use Rattle.zy_base.specs.Limits.{stamp_limit}
 
 -- each entry's reply is that to its call, on the shard as the entries before it left it
 abbrev pub IsReplay : ℕ → ℕ → State → List Entry → Type 0
-IsReplay shards number state [] = Unit {0}
+IsReplay shards number state [] = ⊤
 IsReplay shards number state (e ∷ es) =
     (e.reply ≡ reply_to state e.call) × IsReplay shards number (state_after shards number state e.call) es
 
@@ -42,7 +42,7 @@ states_after shards states e number =
 -- each entry's shard is one of `shards` shards, and its reply is the one that this shard gives
 -- after the entries before it
 abbrev pub IsLegalFrom : ℕ → (ℕ → State) → List Entry → Type 0
-IsLegalFrom shards states [] = Unit {0}
+IsLegalFrom shards states [] = ⊤
 IsLegalFrom shards states (e ∷ es) =
     (e.shard < shards) × (e.reply ≡ reply_to (states e.shard) e.call)
     × IsLegalFrom shards (states_after shards states e) es

@@ -1,5 +1,5 @@
 -- Lists of entries: those of a connection, those of a shard, and their order by stamp.
-use Rattle.std.specs.Prelude.{◌≡◌, ◌⊎◌, ℕ, ◌<◌, ◌==◌, List, [], ◌∷◌, filter, Option, None, Some, unwrap_or}
+use Rattle.std.specs.Prelude.{◌≡◌, ◌⊎◌, ℕ, ◌<◌, ◌==◌, List, [], ◌∷◌, filter, Option, None, Some, unwrap_or, ⊤}
 use Rattle.std.specs.List.{slice_get}
 use Rattle.mc_calls.specs.declared.entry.Entry.{Entry}
 
@@ -13,12 +13,12 @@ at_shard shard es = filter (λ e. e.shard == shard) es
 
 -- every entry is at this shard
 abbrev pub AreAt : ℕ → List Entry → Type 0
-AreAt shard [] = Unit {0}
+AreAt shard [] = ⊤
 AreAt shard (e ∷ es) = (e.shard ≡ shard) × AreAt shard es
 
 -- the shard of each entry is one of `shards` shards
 abbrev pub AreBelow : ℕ → List Entry → Type 0
-AreBelow shards [] = Unit {0}
+AreBelow shards [] = ⊤
 AreBelow shards (e ∷ es) = (e.shard < shards) × AreBelow shards es
 
 -- the entries of the list with this index; none if there is no such list
@@ -36,12 +36,12 @@ last_stamp before (e ∷ es) = last_stamp e.stamp es
 
 -- the stamps rise strictly, and are above the one before
 abbrev pub StampsRise : ℕ → List Entry → Type 0
-StampsRise before [] = Unit {0}
+StampsRise before [] = ⊤
 StampsRise before (e ∷ es) = (before < e.stamp) × StampsRise e.stamp es
 
 -- every stamp is below a limit
 abbrev pub AreStampsBelow : ℕ → List Entry → Type 0
-AreStampsBelow limit [] = Unit {0}
+AreStampsBelow limit [] = ⊤
 AreStampsBelow limit (e ∷ es) = (e.stamp < limit) × AreStampsBelow limit es
 
 -- an entry comes before another: its stamp is lower, or the stamps are equal and its shard is lower
@@ -50,13 +50,13 @@ IsBefore x y = (x.stamp < y.stamp) ⊎ ((x.stamp ≡ y.stamp) × (x.shard < y.sh
 
 -- an entry comes after the one before, if there is one
 abbrev pub IsBehind : Option Entry → Entry → Type 0
-IsBehind None e = Unit {0}
+IsBehind None e = ⊤
 IsBehind (Some before) e = IsBefore before e
 
 -- the entries come after the one before, and are ordered by stamp and, if stamps are equal, by
 -- shard
 abbrev pub IsOrdered : Option Entry → List Entry → Type 0
-IsOrdered before [] = Unit {0}
+IsOrdered before [] = ⊤
 IsOrdered before (e ∷ es) = IsBehind before e × IsOrdered (Some e) es
 
 -- the list is in order, and has at each shard the entries of that shard's history and no others

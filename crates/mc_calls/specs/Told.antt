@@ -1,5 +1,5 @@
 -- Items, replies and entries without uniques, shards and stamps.
-use Rattle.std.specs.Prelude.{◌≡◌, ◌&&◌, ℕ, Bool, true, false, List, map, if◌then◌else◌, Option, None, Some}
+use Rattle.std.specs.Prelude.{◌≡◌, ◌&&◌, ℕ, Bool, true, false, List, map, if◌then◌else◌, Option, None, Some, ⊤}
 use Rattle.std.specs.Ordering.{nat_cmp, eq_by_cmp}
 use Rattle.std.specs.Cmp.Lexicographic.{slice_cmp}
 use Rattle.std.specs.FinMap.{get}
@@ -66,7 +66,7 @@ seen_after empties key found = None
 
 -- an effect is at this key only
 abbrev pub IsAtOnly : List ℕ → Effect → Type 0
-IsAtOnly key keeps = Unit {0}
+IsAtOnly key keeps = ⊤
 IsAtOnly key (stores at flags value) = at ≡ key
 IsAtOnly key (removes at) = at ≡ key
 IsAtOnly key empties = ⊥
