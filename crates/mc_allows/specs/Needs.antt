@@ -1,6 +1,6 @@
 -- What an answer shows of what was said to a call, what this needs of the item before the call, and what it surely
 -- leaves. These tables are part of the program: laws hold them against `Allows`.
-use Rattle.std.specs.Prelude.{◌≡◌, ℕ, zero, suc, ◌+◌, ◌-◌, ◌%◌, ◌^◌, nat_lt, if◌then◌else◌, Bool, true, false}
+use Rattle.std.specs.Prelude.{◌≡◌, ℕ, zero, suc, ◌+◌, ◌-◌, ◌%◌, ◌^◌, nat_lt, if◌then◌else◌, Bool, true, false, ⊤}
 use Rattle.mc_calls.specs.declared.call.Call.{Call}
 use Rattle.mc_calls.specs.declared.call.Call.TheVariants as Calls
 use Rattle.mc_calls.specs.declared.call_reply.CallReply.{CallReply}
@@ -24,10 +24,10 @@ may_have_failed shown = false
 
 -- the call may have got this reply, by what is shown
 abbrev pub SuitsReply : Shown → CallReply → Type 0
-SuitsReply Nothing reply = Unit {0}
-SuitsReply NoFailure reply = Unit {0}
+SuitsReply Nothing reply = ⊤
+SuitsReply NoFailure reply = ⊤
 SuitsReply (Reply shown) reply = told reply ≡ told shown
-SuitsReply SomeHit (Replies.Hit flags unique value) = Unit {0}
+SuitsReply SomeHit (Replies.Hit flags unique value) = ⊤
 SuitsReply SomeHit reply = ⊥
 SuitsReply (HitWith shown) (Replies.Hit flags unique value) = value ≡ shown
 SuitsReply (HitWith shown) reply = ⊥

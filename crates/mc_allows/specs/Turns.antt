@@ -1,5 +1,5 @@
 -- Where in a chain of steps a need came to hold.
-use Rattle.std.specs.Prelude.{◌≡◌, ◌⊎◌, ℕ, Bool, true, false, List, [], ◌∷◌, ◌++◌, Option, None}
+use Rattle.std.specs.Prelude.{◌≡◌, ◌⊎◌, ℕ, Bool, true, false, List, [], ◌∷◌, ◌++◌, Option, None, ⊤}
 use Rattle.mc_calls.specs.declared.item.Item.{Item}
 use Rattle.mc_calls.specs.declared.call.Call.{Call}
 use Rattle.mc_calls.specs.declared.call.Call.TheVariants.{Append, Prepend}
@@ -15,7 +15,7 @@ use Rattle.mc_allows.specs.Needs.{Suits, left_by}
 
 -- a fact holds after each of these steps
 abbrev pub HoldsAfterEach : Fact → List KeyStep → Type 0
-HoldsAfterEach fact [] = Unit {0}
+HoldsAfterEach fact [] = ⊤
 HoldsAfterEach fact (made name call said after ∷ steps) = (holds fact after ≡ true) × HoldsAfterEach fact steps
 HoldsAfterEach fact (lost ∷ steps) = (holds_without fact ≡ true) × HoldsAfterEach fact steps
 
