@@ -1,7 +1,7 @@
 -- The bytes with which a memcached may answer a command: the text of docs/PROFILE.md, "Answers", for what was said to
 -- the command's calls, but that items stand in any order, and that a server has its own texts for the version, for
 -- faults and for counts.
-use Rattle.std.specs.Prelude.{◌≡◌, ℕ, Bool, true, false, List, [], ◌∷◌, ◌++◌, codes, IsPermutation}
+use Rattle.std.specs.Prelude.{◌≡◌, ℕ, Bool, true, false, List, [], ◌∷◌, ◌++◌, codes, IsPermutation, ⊤}
 use Rattle.std.specs.List.{concat, AllByRecursion}
 use Rattle.mc_calls.specs.declared.call_kind.CallKind.{CallKind}
 use Rattle.mc_calls.specs.declared.call_kind.CallKind.TheVariants.{Set as SetKind, Add, Replace, Append, Prepend, Cas}
@@ -88,7 +88,7 @@ pub record IsSomeAnswer (command : Command) (bytes : List ℕ) : Type 0 where
 
 -- some answer to each command
 abbrev pub AreSomeAnswers : List Command → List (List ℕ) → Type 0
-AreSomeAnswers [] [] = Unit {0}
+AreSomeAnswers [] [] = ⊤
 AreSomeAnswers (command ∷ commands) (text ∷ texts) = IsSomeAnswer command text × AreSomeAnswers commands texts
 AreSomeAnswers commands texts = ⊥
 
@@ -127,7 +127,7 @@ IsFromLine (Get keys unique) = AllByRecursion IsWord keys
 IsFromLine (Meta (Metas.Get key flags)) = IsOfLine key
 IsFromLine (Meta (Metas.Set key call marks)) = IsOfLine key × (stores (call_kind call) ≡ true)
 IsFromLine (Meta (Metas.Delete key flags)) = IsOfLine key
-IsFromLine command = Unit {0}
+IsFromLine command = ⊤
 
 -- a line gave the command, and it is not one that is not followed here
 pub record IsCuttable (command : Command) : Type 0 where

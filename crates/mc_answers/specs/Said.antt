@@ -1,5 +1,5 @@
 -- What may be said to the calls of a command.
-use Rattle.std.specs.Prelude.{◌≡◌, ℕ, true, List, [], ◌∷◌, map}
+use Rattle.std.specs.Prelude.{◌≡◌, ℕ, true, List, [], ◌∷◌, map, ⊤}
 use Rattle.mc_calls.specs.declared.call.Call.{Call}
 use Rattle.mc_calls.specs.declared.call.Call.TheVariants.{Get, Flush}
 use Rattle.mc_calls.specs.declared.call_reply.CallReply.{CallReply}
@@ -37,13 +37,13 @@ IsOne IsSuch saids = ⊥
 
 -- what may be said to the gets of keys
 abbrev pub AreGot : List (List ℕ) → List Said → Type 0
-AreGot [] [] = Unit {0}
+AreGot [] [] = ⊤
 AreGot (key ∷ keys) (said ∷ saids) = MaySay (Get key) said × AreGot keys saids
 AreGot keys saids = ⊥
 
 -- what is said to a flush of any number of shards
 abbrev pub AreFlushed : List Said → Type 0
-AreFlushed [] = Unit {0}
+AreFlushed [] = ⊤
 AreFlushed (said ∷ saids) = (said ≡ Replied Flushed) × AreFlushed saids
 
 -- what may be said to a call without a key, on each shard: a flush has a reply from each, and a tally does not count
