@@ -1,6 +1,6 @@
 -- What is found of the answer to what was said.
 use Rattle.std.specs.Prelude.{◌≡◌, ℕ, zero, suc, ◌+◌, ◌<◌, ◌≤◌, Bool, true, false, List, [], ◌∷◌, ◌++◌, length, take}
-use Rattle.std.specs.Prelude.{Option, None, Some}
+use Rattle.std.specs.Prelude.{Option, None, Some, ⊤}
 use Rattle.std.specs.List.{slice_index_or}
 use Rattle.mc_calls.specs.declared.call_kind.CallKind.{CallKind}
 use Rattle.mc_calls.specs.declared.call_reply.CallReply.TheVariants.{Hit}
@@ -16,7 +16,7 @@ use Rattle.mc_answered.specs.Replies.{kind_may_fail}
 
 -- the bytes begin with a text of this kind, which has the length that was found
 abbrev pub IsFound : (List ℕ → Type 0) → List ℕ → Option ℕ → Type 0
-IsFound IsText bytes None = Unit {0}
+IsFound IsText bytes None = ⊤
 IsFound IsText bytes (Some n) = (n ≤ length bytes) × IsText (take n bytes)
 
 -- the bytes begin with this text

@@ -1,4 +1,5 @@
+use Rattle.std.specs.Prelude.{⊤}
 use Rattle.mc_answered.proofs.any_order.next_item.Given as goal
 
 abbrev pub invariant-loop-place : goal.invariant-loop-place
-invariant-loop-place l = Unit {0}
+invariant-loop-place l = ⊤
