@@ -1,5 +1,5 @@
 -- How the output of a session is cut into the answers of its commands.
-use Rattle.std.specs.Prelude.{◌≡◌, ◌⊎◌, ℕ, ◌-◌, ◌<◌, ◌≤◌, List, [], ◌++◌, length, take, drop, slice_get, Some}
+use Rattle.std.specs.Prelude.{◌≡◌, ◌⊎◌, ℕ, ◌-◌, ◌<◌, ◌≤◌, List, [], ◌++◌, length, take, drop, slice_get, Some, ⊤}
 use Rattle.std.specs.List.{concat}
 use Rattle.mc_parse.specs.declared.command.Command.{Command}
 use Rattle.mc_allows.specs.declared.said.Said.{Said}
@@ -77,7 +77,7 @@ AreAllTexts commands output texts = (cut : Cut) → IsCut commands output cut �
 abbrev pub IsCutting : List Command → List ℕ → Cutting → Type 0
 IsCutting commands output (Kind index) = HasNoCut commands output × IsRefutedAt commands output index
 IsCutting commands output Surplus = HasNoCut commands output
-IsCutting commands output (Other index) = Unit {0}
+IsCutting commands output (Other index) = ⊤
 IsCutting commands output (All texts) =
     AreTexts commands output texts × AreFirstTexts commands output texts × AreAllTexts commands output texts
 IsCutting commands output (Front texts) = AreTexts commands output texts × AreFirstTexts commands output texts

@@ -1,5 +1,5 @@
 -- Where the first answer in some bytes ends, whatever was said to the calls of its command.
-use Rattle.std.specs.Prelude.{◌≡◌, ◌⊎◌, ℕ, ◌≤◌, Bool, true, false, not, List, ◌++◌, length, codes}
+use Rattle.std.specs.Prelude.{◌≡◌, ◌⊎◌, ℕ, ◌≤◌, Bool, true, false, not, List, ◌++◌, length, codes, ⊤}
 use Rattle.mc_parse.specs.declared.command.Command.{Command}
 use Rattle.mc_parse.specs.declared.command.Command.TheVariants.{Get, Stats, Version, Verbosity, Flush, Fault, Meta}
 use Rattle.mc_parse.specs.declared.meta.Meta.TheVariants as Metas
@@ -33,8 +33,8 @@ pub record IsRefused (command : Command) (bytes : List ℕ) : Type 0 where
 abbrev pub IsFirst : Command → List ℕ → First → Type 0
 IsFirst command bytes (Whole n) = IsWhole command bytes n
 IsFirst command bytes Refused = IsRefused command bytes
-IsFirst command bytes Other = Unit {0}
-IsFirst command bytes Unread = Unit {0}
+IsFirst command bytes Other = ⊤
+IsFirst command bytes Unread = ⊤
 
 -- ---- commands
 

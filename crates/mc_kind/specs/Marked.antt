@@ -1,5 +1,5 @@
 -- The lines that answer meta commands. No public clause cites this module.
-use Rattle.std.specs.Prelude.{◌≡◌, ◌⊎◌, ℕ, ◌+◌, Bool, false, List, Some, codes}
+use Rattle.std.specs.Prelude.{◌≡◌, ◌⊎◌, ℕ, ◌+◌, Bool, false, List, Some, codes, ⊤}
 use Rattle.mc_meta.specs.Flags.{is_among}
 use Rattle.mc_parse.specs.declared.meta.Meta.{Meta}
 use Rattle.mc_parse.specs.declared.meta.Meta.TheVariants as Metas
@@ -14,7 +14,7 @@ shows_value meta = false
 
 -- the command stores
 abbrev pub IsSet : Meta → Type 0
-IsSet (Metas.Set key call marks) = Unit {0}
+IsSet (Metas.Set key call marks) = ⊤
 IsSet meta = ⊥
 
 -- the line begins with a code that answers a command which shows no value

@@ -1,5 +1,5 @@
 -- The first text of a retrieval's answer: an item, or the end. No public clause cites this module.
-use Rattle.std.specs.Prelude.{◌≡◌, ◌⊎◌, ℕ, ◌≤◌, Bool, List, length, take}
+use Rattle.std.specs.Prelude.{◌≡◌, ◌⊎◌, ℕ, ◌≤◌, Bool, List, length, take, ⊤}
 use Rattle.zy_base.specs.Limits.{value_limit}
 use Rattle.mc_reply.specs.Text.{line}
 use Rattle.mc_answers.specs.Cut.{IsWord, IsOfLine}
@@ -29,4 +29,4 @@ abbrev pub IsPiece : Bool → List (List ℕ) → List ℕ → Piece → Type 0
 IsPiece asked keys bytes (Item n) = (n ≤ length bytes) × IsItemText asked keys (take n bytes)
 IsPiece asked keys bytes (End n) = (n ≤ length bytes) × IsEndText (take n bytes)
 IsPiece asked keys bytes Refused = NoneFits (IsItemOrEnd asked keys) bytes × (IsErrorLine bytes → ⊥)
-IsPiece asked keys bytes Unread = Unit {0}
+IsPiece asked keys bytes Unread = ⊤
