@@ -1,5 +1,5 @@
 -- The line of what was said to one call. No public clause cites this module.
-use Rattle.std.specs.Prelude.{◌≡◌, true, List, ℕ}
+use Rattle.std.specs.Prelude.{◌≡◌, true, List, ℕ, ⊤}
 use Rattle.mc_calls.specs.declared.call_reply.CallReply.{CallReply}
 use Rattle.mc_calls.specs.declared.call_reply.CallReply.TheVariants.{TooLarge}
 use Rattle.mc_calls.specs.Bounds.{FitsReply}
@@ -13,7 +13,7 @@ use Rattle.mc_answered.specs.Reading.{has_line}
 -- a reply that is answered by a line of its own, and whose numbers fit; or that the call failed
 abbrev pub HasLine : Said → Type 0
 HasLine (Replied reply) = (has_line reply ≡ true) × FitsReply reply
-HasLine Failed = Unit {0}
+HasLine Failed = ⊤
 
 -- the line is that of what was said
 abbrev pub IsToldBy : List ℕ → Said → Type 0
