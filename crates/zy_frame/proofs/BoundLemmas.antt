@@ -1,5 +1,5 @@
 -- The commands of frames are within their bounds; and those of plain lines are plain.
-use Rattle.std.specs.Prelude.{nat_lt, if◌then◌else◌, Option, None, Some, MatchOption}
+use Rattle.std.specs.Prelude.{nat_lt, if◌then◌else◌, Option, None, Some, MatchOption, ⊤}
 use Rattle.std.specs.List.{AllByRecursion}
 use Rattle.std.proofs.Common.{◌≡◌, ℕ, ◌+◌, ◌-◌, ◌≤◌, List, [], ◌∷◌, length, map, Bool, true, false, refl, arith, length-take}
 use borrow.Author.Tests.{ltb-false}
@@ -25,10 +25,10 @@ use Rattle.zy_frame.proofs.CutLemmas.{splits_cut}
 -- ---- bounds
 
 abbrev IsSmall : FrameKind → Type 0
-IsSmall (Kinds.Line line) = Unit {0}
+IsSmall (Kinds.Line line) = ⊤
 IsSmall (Kinds.Block line block) = IsValue (value_of block)
-IsSmall (Kinds.Large line) = Unit {0}
-IsSmall Kinds.Long = Unit {0}
+IsSmall (Kinds.Large line) = ⊤
+IsSmall Kinds.Long = ⊤
 
 frame_within : (frame : FrameKind) → IsSmall frame → IsCommand (command_of frame)
 frame_within (Kinds.Line line) small = line_within line
