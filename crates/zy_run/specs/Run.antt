@@ -1,5 +1,5 @@
 -- One legal run of the commands of all connections. There are no cores, threads, queues or stamps in it.
-use Rattle.std.specs.Prelude.{◌≡◌, ℕ, ◌<◌, List, [], ◌∷◌}
+use Rattle.std.specs.Prelude.{◌≡◌, ℕ, ◌<◌, List, [], ◌∷◌, ⊤}
 use Rattle.mc_calls.specs.declared.entry.Entry.{Entry}
 use Rattle.mc_calls.specs.Order.{of_connection}
 use Rattle.mc_calls.specs.History.{IsLegal}
@@ -8,7 +8,7 @@ use Rattle.mc_parse.specs.Calls.{due, dues_of}
 
 -- each entry belongs to one of `count` connections
 abbrev pub AreOfConnections : ℕ → List Entry → Type 0
-AreOfConnections count [] = Unit {0}
+AreOfConnections count [] = ⊤
 AreOfConnections count (e ∷ es) = (e.tag.conn < count) × AreOfConnections count es
 
 -- the entries make the calls of all connections' commands: again and again the next call of some

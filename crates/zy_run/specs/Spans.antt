@@ -1,5 +1,5 @@
 -- The holds of a run: the number of its commands that each core finished, connection by connection.
-use Rattle.std.specs.Prelude.{◌≡◌, ℕ, ◌+◌, ◌<◌, ◌==◌, if◌then◌else◌, List, [], ◌∷◌, length}
+use Rattle.std.specs.Prelude.{◌≡◌, ℕ, ◌+◌, ◌<◌, ◌==◌, if◌then◌else◌, List, [], ◌∷◌, length, ⊤}
 use Rattle.mc_calls.specs.declared.hold.Hold.{Hold}
 use Rattle.mc_parse.specs.declared.command.Command.{Command}
 use Rattle.zy_journal.specs.Journal.{AreByConnection}
@@ -11,7 +11,7 @@ held_of conn (h ∷ hs) = if h.conn == conn then h.count + held_of conn hs else 
 
 -- each hold belongs to one of `count` connections
 abbrev pub AreHoldsOf : ℕ → List Hold → Type 0
-AreHoldsOf count [] = Unit {0}
+AreHoldsOf count [] = ⊤
 AreHoldsOf count (h ∷ hs) = (h.conn < count) × AreHoldsOf count hs
 
 -- the holds span the commands of the first `count` connections
