@@ -1,6 +1,6 @@
 -- The values of a lawful request are in their ranges.
 use Rattle.std.proofs.Common.{◌≡◌, ℕ, ◌*◌, ◌≤◌, List, [], ◌∷◌, refl, Bool, true, false, arith, min}
-use Rattle.std.specs.Prelude.{Option, Some, None, nat_le, ◌&&◌, if◌then◌else◌, option_and_then, option_map, length, codes}
+use Rattle.std.specs.Prelude.{Option, Some, None, nat_le, ◌&&◌, if◌then◌else◌, option_and_then, option_map, length, codes, ⊤}
 use Rattle.std.proofs.lemmas.Bool.{leb-true}
 use Rattle.zy_base.specs.Number.{number_of}
 use Rattle.zy_command_line.specs.Grammar.{Word, Options, value_of, options_of}
@@ -16,7 +16,7 @@ use Rattle.zy_command_line.specs.Range.{IsRunnable, AreShards, IsPort, IsMakeabl
 
 -- a number, if it is given, is in its range
 abbrev IsFrom : ℕ → ℕ → Option ℕ → Type 0
-IsFrom low high None = Unit {0}
+IsFrom low high None = ⊤
 IsFrom low high (Some n) = (low ≤ n) × (n ≤ high)
 
 tested : (low high n : ℕ) (a b : Bool) → nat_le low n ≡ a → nat_le n high ≡ b → IsFrom low high (if a && b then Some n else None)
@@ -43,7 +43,7 @@ given low high default (Some word) above below = short low high (number_of word)
 
 -- a run that words ask for is in its ranges
 abbrev IsFine : Option Run → Type 0
-IsFine None = Unit {0}
+IsFine None = ⊤
 IsFine (Some run) = IsRunnable run
 
 resting : (cores threads shards : ℕ) (order : Option ℕ) (rest : Option ℕ) → 1 ≤ cores → cores ≤ 64 → 1 ≤ threads → threads ≤ cores → 1 ≤ shards → shards ≤ 256 → IsFrom 0 1000000 rest
@@ -80,7 +80,7 @@ run_fine options = cored options (cores_of options) (given 1 64 4 (value_of (cod
 
 -- traffic that words ask for can be made
 abbrev IsMade : Option Traffic → Type 0
-IsMade None = Unit {0}
+IsMade None = ⊤
 IsMade (Some traffic) = IsMakeable traffic
 
 fitted : (t : Traffic) (test : Bool) → nat_le (t.conns * t.commands) 1000000 ≡ test → 1 ≤ t.conns → t.conns ≤ 4096 → 1 ≤ t.commands → IsMade (if test then Some t else None)
@@ -111,13 +111,13 @@ traffic_fine options =
 
 -- the values of a request that words ask for are in their ranges
 abbrev AsksFine : Option Request → Type 0
-AsksFine None = Unit {0}
+AsksFine None = ⊤
 AsksFine (Some (Requests.Run run out)) = IsRunnable run
 AsksFine (Some (Requests.Check shards)) = AreShards shards
 AsksFine (Some (Requests.Gen traffic)) = IsMakeable traffic
 AsksFine (Some (Requests.SelfTest traffic run)) = IsMakeable traffic × IsRunnable run
 AsksFine (Some (Requests.Pcap port)) = IsPort port
-AsksFine (Some Requests.Report) = Unit {0}
+AsksFine (Some Requests.Report) = ⊤
 
 outed : (run : Run) (out : Option Out) → IsRunnable run → AsksFine (option_map (Requests.Run run) out)
 outed run None is = tt

@@ -1,6 +1,6 @@
 -- The words that the parser accepts are those that spell options, and it keeps what they spell.
 use Rattle.std.proofs.Common.{◌≡◌, List, [], ◌∷◌, ◌++◌, refl, sym, ◌∙◌, ap, ap₂, append_assoc, Bool, true, false}
-use Rattle.std.specs.Prelude.{Option, Some, None, ◌&&◌, not, is_some, if◌then◌else◌, option_and_then}
+use Rattle.std.specs.Prelude.{Option, Some, None, ◌&&◌, not, is_some, if◌then◌else◌, option_and_then, ⊤}
 use Rattle.std.proofs.lemmas.List.{append-nil}
 use Rattle.clap.specs.Lexer.{long_of}
 use Rattle.clap.specs.Kinds.{Kinds, or_else}
@@ -169,7 +169,7 @@ module _ (command : Text) (names : List Text) where
   -- ---- all words
 
   abbrev pub AreWords : List Text → Type 0
-  AreWords [] = Unit {0}
+  AreWords [] = ⊤
   AreWords (w ∷ ws) = IsWord w × AreWords ws
 
   end_has : (rows : List Row) (id text : Text) → is_among names id ≡ true → has_row id rows ≡ false → At (at rows (Some (id, text ∷ [])) idle) [] rows (Some ((id, text) ∷ []))
