@@ -1,5 +1,5 @@
 -- The holder of a place of a ring, as the ring's table shows it.
-use Rattle.std.specs.Prelude.{ℕ, ◌+◌, List, [], ◌∷◌}
+use Rattle.std.specs.Prelude.{ℕ, ◌+◌, List, [], ◌∷◌, ⊤}
 use Rattle.zy_shuffle.specs.declared.ring.view.Role.{Role}
 use Rattle.zy_shuffle.specs.declared.ring.view.Role.TheVariants.{Spent, Start, Core, Home, Closed}
 use Rattle.zy_shuffle.specs.declared.ring.view.View.{View}
@@ -29,9 +29,9 @@ bell at_bell = 1
 -- its block is in the table
 abbrev pub IsInTable : Holder → Type 0
 IsInTable nobody = ⊥
-IsInTable (in_queue k) = Unit {0}
+IsInTable (in_queue k) = ⊤
 IsInTable (in_hand j) = ⊥
-IsInTable at_bell = Unit {0}
+IsInTable at_bell = ⊤
 
 -- 1 for the seat of a pass that is out
 abbrev pub core_count : Role → ℕ

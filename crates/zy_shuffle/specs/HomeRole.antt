@@ -1,6 +1,6 @@
 -- What a seat knows by its role, and how steps of the home change it. Of public clauses only laws
 -- cite this module.
-use Rattle.std.specs.Prelude.{ℕ, ◌+◌, ◌-◌, ◌*◌, Option, Some, None}
+use Rattle.std.specs.Prelude.{ℕ, ◌+◌, ◌-◌, ◌*◌, Option, Some, None, ⊤}
 use Rattle.std.specs.Int.{trailing_zeros}
 use mir.Syntax.{w64}
 use Rattle.zy_shuffle.specs.declared.ring.view.Role.{Role}
@@ -55,15 +55,15 @@ abbrev pub IsHome : Role → Type 0
 IsHome Spent = ⊥
 IsHome Start = ⊥
 IsHome Core = ⊥
-IsHome (Home t stored noted out) = Unit {0}
+IsHome (Home t stored noted out) = ⊤
 IsHome (Closed gone) = ⊥
 
 -- the seat may make steps: it is that of a core, or of the home
 abbrev pub IsActive : Role → Type 0
 IsActive Spent = ⊥
 IsActive Start = ⊥
-IsActive Core = Unit {0}
-IsActive (Home t stored noted out) = Unit {0}
+IsActive Core = ⊤
+IsActive (Home t stored noted out) = ⊤
 IsActive (Closed gone) = ⊥
 
 -- the place of the lowest bit that was noted

@@ -1,5 +1,6 @@
 -- The views of a ring and of its passes, and the meaning of the answers of a claim and of a collect.
-use Rattle.std.specs.Prelude.{◌≡◌, ◌≢◌, ℕ, ◌+◌, ◌-◌, ◌/◌, ◌%◌, ◌<◌, ◌≤◌, List, [], ◌∷◌, true, false, ◌==◌, cond, length, slice_get, Option, Some, None}
+use Rattle.std.specs.Prelude.{◌≡◌, ◌≢◌, ℕ, ◌+◌, ◌-◌, ◌/◌, ◌%◌, ◌<◌, ◌≤◌, List, [], ◌∷◌, true, false, ◌==◌, cond, length}
+use Rattle.std.specs.Prelude.{slice_get, Option, Some, None, ⊤}
 use Rattle.std.specs.Int.{bit_at}
 use Rattle.atomic_table.specs.Seated.{TableId}
 use Rattle.zy_table.specs.declared.name.Name.{Name}
@@ -133,8 +134,8 @@ Rang begin word found t = ((last_bell word t.bells).value ≡ found) × (begin <
 -- if a place was taken, this holds of it and its block
 abbrev pub IfTook : {T : Type 0} → Claim T → (ℕ → T → Type 0) → Type 0
 IfTook (Took place block) P = P place block
-IfTook (Empty at) P = Unit {0}
-IfTook (Raced saw found) P = Unit {0}
+IfTook (Empty at) P = ⊤
+IfTook (Raced saw found) P = ⊤
 
 -- the pass is unchanged except for what it has seen
 abbrev pub Unchanged : {T : Type 0} → Held T → Held T → Type 0

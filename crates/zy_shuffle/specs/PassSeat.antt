@@ -1,5 +1,5 @@
 -- The seats of passes between two calls. No public clause cites this module.
-use Rattle.std.specs.Prelude.{◌≡◌, ℕ, ◌+◌, ◌<◌, ◌≤◌, List, ◌∷◌, true, Option, Some, None, IfSome}
+use Rattle.std.specs.Prelude.{◌≡◌, ℕ, ◌+◌, ◌<◌, ◌≤◌, List, ◌∷◌, true, Option, Some, None, IfSome, ⊤}
 use Rattle.atomic_table.specs.Seated.{TableId}
 use Rattle.zy_table.specs.Member.{is_in, without, IsDistinct}
 use Rattle.zy_shuffle.specs.declared.ring.view.Role.{Role}
@@ -40,7 +40,7 @@ IsCoreSeat places m = (m.1 ≡ emptied m.0.hand) × (m.0.role ≡ Core) × Withi
 
 -- the slot of this place is in front
 abbrev pub IsFront : Option ℕ → List ℕ → Type 0
-IsFront None hand = Unit {0}
+IsFront None hand = ⊤
 IsFront (Some p) hand = hand ≡ p ∷ rest_of hand
 
 -- the pass of a core

@@ -1,5 +1,5 @@
 -- What the seats of a ring know of the run of the ownership machine: together their views have all of it.
-use Rattle.std.specs.Prelude.{◌≡◌, ◌⊎◌, ℕ, List, [], ◌∷◌, ◌++◌, true, false, Option, Some, None}
+use Rattle.std.specs.Prelude.{◌≡◌, ◌⊎◌, ℕ, List, [], ◌∷◌, ◌++◌, true, false, Option, Some, None, ⊤}
 use mathlib.Core.Option.{some}
 use lib.ListN.{get_elem?}
 use Rattle.zy_table.specs.Member.{is_in}
@@ -45,17 +45,17 @@ seat_of (Settle c) = 0
 
 -- each of these events is of this seat
 abbrev pub AreOfSeat : ℕ → List Event → Type 0
-AreOfSeat seat [] = Unit {0}
+AreOfSeat seat [] = ⊤
 AreOfSeat seat (e ∷ es) = (seat_of e ≡ seat) × AreOfSeat seat es
 
 -- none of these events is of one of these seats
 abbrev pub Apart : List ℕ → List Event → Type 0
-Apart seats [] = Unit {0}
+Apart seats [] = ⊤
 Apart seats (e ∷ es) = (is_in (seat_of e) seats ≡ false) × Apart seats es
 
 -- the list of seats is empty, or it begins with this seat
 abbrev pub Leads : ℕ → List ℕ → Type 0
-Leads seat [] = Unit {0}
+Leads seat [] = ⊤
 Leads seat (x ∷ xs) = seat ≡ x
 
 -- ---- what a seat adds to the run
@@ -96,7 +96,7 @@ module _ {T : Type 0} where
 
   -- each of these events is of such a seat
   abbrev pub AreOwned : List (View T) → List Event → Type 0
-  AreOwned views [] = Unit {0}
+  AreOwned views [] = ⊤
   AreOwned views (e ∷ es) = IsOwned views (seat_of e) × AreOwned views es
 
   -- the seat was joined

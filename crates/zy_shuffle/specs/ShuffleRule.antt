@@ -1,6 +1,7 @@
 -- The rule of the shuffle queue, which holds of the words, the slots and the views of a ring's
 -- table between any two steps.
-use Rattle.std.specs.Prelude.{◌≡◌, ℕ, zero, suc, ◌+◌, ◌*◌, ◌/◌, ◌%◌, ◌<◌, ◌≤◌, List, [], ◌∷◌, length, Bool, true, false, slice_index}
+use Rattle.std.specs.Prelude.{◌≡◌, ℕ, zero, suc, ◌+◌, ◌*◌, ◌/◌, ◌%◌, ◌<◌, ◌≤◌, List, [], ◌∷◌, length, Bool, true, false}
+use Rattle.std.specs.Prelude.{slice_index, ⊤}
 use Rattle.std.specs.Prelude as std
 use mathlib.Core.Option.{Option, none, some}
 use lib.ListN.{get_elem?}
@@ -26,26 +27,26 @@ RingState T = State (std.Option T) (View T)
 module _ (words : List ℕ) (head tail m place : ℕ) where
   -- the k-th place of the queue is in the cell of k
   abbrev pub InQueue : Holder → Type 0
-  InQueue nobody = Unit {0}
+  InQueue nobody = ⊤
   InQueue (in_queue k) = (head ≤ k) × (k < tail) × (cell words m k ≡ place)
-  InQueue (in_hand j) = Unit {0}
-  InQueue at_bell = Unit {0}
+  InQueue (in_hand j) = ⊤
+  InQueue at_bell = ⊤
 
 module _ (words : List ℕ) (head tail m : ℕ) where
   -- the cell that a seat noted still has the value found there, as long as the head has not passed it
   abbrev pub IsNote : std.Option (ℕ × ℕ) → Type 0
-  IsNote std.None = Unit {0}
+  IsNote std.None = ⊤
   IsNote (std.Some x) = (x.0 < tail) × (head ≤ x.0 → cell words m x.0 ≡ x.1)
 
   -- the cell of the next place to be published has the place that the home stored there
   abbrev pub IsStored : std.Option ℕ → Type 0
-  IsStored std.None = Unit {0}
+  IsStored std.None = ⊤
   IsStored (std.Some place) = cell words m tail ≡ place
 
 -- each bit that the home found to be 1 is that of a place which was given back, until the home
 -- clears it
 abbrev pub IsRung : ℕ → (ℕ → Holder) → std.Option (ℕ × ℕ) → Type 0
-IsRung m holders std.None = Unit {0}
+IsRung m holders std.None = ⊤
 IsRung m holders (std.Some x) =
     (i : ℕ) → i < 64 → bit_at x.1 i ≡ 1 → (64 * x.0 + i < m) × (holders (64 * x.0 + i) ≡ at_bell)
 
