@@ -1,5 +1,6 @@
 -- The rule of the control words, which holds between any two steps.
 use Rattle.std.specs.Prelude.{◌≡◌, ℕ, ◌+◌, ◌^◌, ◌<◌, ◌≤◌, ◌==◌, Bool, List, [], ◌∷◌, length, true, false, slice_index}
+use Rattle.std.specs.Prelude.{⊤}
 use Rattle.std.specs.Int.{bit_at}
 use mathlib.Core.Option.{some}
 use lib.ListN.{get_elem?}
@@ -64,8 +65,8 @@ asleep_in i (v ∷ vs) = is_asleep i v.role + asleep_in i vs
 -- seat 0 is the root, and it knows the number of seats that it gave to cores
 abbrev pub IsRole : List View → ℕ → Role → Type 0
 IsRole vs j (Root given) = (j ≡ 0) × (given ≡ cores_in vs)
-IsRole vs j (Core number counted announced) = Unit {0}
-IsRole vs j Watcher = Unit {0}
+IsRole vs j (Core number counted announced) = ⊤
+IsRole vs j Watcher = ⊤
 
 -- what seat j knows is true
 pub record Knows (words : List ℕ) (vs : List View) (cores j : ℕ) (v : View) : Type 0 where

@@ -1,5 +1,5 @@
 -- What the seats at the control words know, and how each kind of step changes it.
-use Rattle.std.specs.Prelude.{◌≡◌, ℕ, ◌+◌, ◌<◌, Bool, true, false}
+use Rattle.std.specs.Prelude.{◌≡◌, ℕ, ◌+◌, ◌<◌, Bool, true, false, ⊤}
 use Rattle.std.specs.Int.{bit_at}
 use Rattle.zy_control.specs.declared.view.Sight.{Sight}
 use Rattle.zy_control.specs.declared.view.Trace.{Trace}
@@ -35,9 +35,9 @@ IsUncounted Watcher = ⊥
 
 -- the seat has counted itself if it is of a core
 abbrev pub MustHaveCounted : Role → Type 0
-MustHaveCounted (Root given) = Unit {0}
+MustHaveCounted (Root given) = ⊤
 MustHaveCounted (Core number counted announced) = counted ≡ true
-MustHaveCounted Watcher = Unit {0}
+MustHaveCounted Watcher = ⊤
 
 -- a core after it has counted itself
 abbrev pub counted : Role → Role
