@@ -1,5 +1,5 @@
 -- The seats at the tokens and the parkers of the cores. No public clause cites this module.
-use Rattle.std.specs.Prelude.{◌≡◌, Bool, true, false, List, [], ◌∷◌, map, Option, Some, None}
+use Rattle.std.specs.Prelude.{◌≡◌, Bool, true, false, List, [], ◌∷◌, map, Option, Some, None, ⊤}
 use Rattle.atomic_table.specs.Seated.{TableId}
 use Rattle.zy_park.specs.declared.view.View.{View}
 use Rattle.zy_park.specs.Token.{unrung}
@@ -36,12 +36,12 @@ new_seat table = seated table unrung
 
 -- a parker that is there is of this table
 abbrev pub IsParker : TableId → Option TableId → Type 0
-IsParker table None = Unit {0}
+IsParker table None = ⊤
 IsParker table (Some own) = own ≡ table
 
 -- there is an entry for the parker of each table
 abbrev pub AreParkers : List TableId → List (Option TableId) → Type 0
-AreParkers [] [] = Unit {0}
+AreParkers [] [] = ⊤
 AreParkers [] (s ∷ ss) = ⊥
 AreParkers (t ∷ ts) [] = ⊥
 AreParkers (t ∷ ts) (s ∷ ss) = IsParker t s × AreParkers ts ss
