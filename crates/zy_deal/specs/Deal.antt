@@ -1,6 +1,6 @@
 -- How items are dealt to groups, and gathered again.
 use Rattle.std.specs.Prelude.{◌≡◌, ℕ, zero, suc, ◌+◌, ◌≤◌, List, [], ◌∷◌, ◌++◌, map, Vec, vec_len, vec_capacity}
-use Rattle.std.specs.Prelude.{Some, slice_get}
+use Rattle.std.specs.Prelude.{Some, slice_get, ⊤}
 use Rattle.std.specs.declared.alloc.Global.{Global}
 
 module _ {X : Type 0} where
@@ -10,7 +10,7 @@ module _ {X : Type 0} where
 
   -- no group has a member
   abbrev pub AreEmpty : List (List X) → Type 0
-  AreEmpty [] = Unit {0}
+  AreEmpty [] = ⊤
   AreEmpty (group ∷ groups) = (group ≡ []) × AreEmpty groups
 
   -- taking the first of the first group, again and again, with that group going to the end each time, gives these,
@@ -36,13 +36,13 @@ module _ {X : Type 0} where
 
   -- there is no member to take
   abbrev pub HasNoFirst : List (List X) → Type 0
-  HasNoFirst [] = Unit {0}
-  HasNoFirst ([] ∷ groups) = Unit {0}
+  HasNoFirst [] = ⊤
+  HasNoFirst ([] ∷ groups) = ⊤
   HasNoFirst ((x ∷ group) ∷ groups) = ⊥
 
   -- each group has room for n more members
   abbrev pub HaveRoom : ℕ → List (Vec X Global) → Type 0
-  HaveRoom n [] = Unit {0}
+  HaveRoom n [] = ⊤
   HaveRoom n (group ∷ groups) = (vec_len group + n ≤ vec_capacity group) × HaveRoom n groups
 
   -- each member of a list has this property
@@ -51,5 +51,5 @@ module _ {X : Type 0} where
 
   -- each member of each group has this property
   abbrev pub EachOfAll : (X → Type 0) → List (List X) → Type 0
-  EachOfAll P [] = Unit {0}
+  EachOfAll P [] = ⊤
   EachOfAll P (group ∷ groups) = Each P group × EachOfAll P groups
