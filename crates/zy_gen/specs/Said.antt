@@ -1,5 +1,5 @@
 -- What a line of generated traffic says. No public clause cites this module.
-use Rattle.std.specs.Prelude.{◌≡◌, ℕ, ◌≤◌, ◌<◌, Bool, List, [], ◌∷◌, ◌++◌, length, Some}
+use Rattle.std.specs.Prelude.{◌≡◌, ℕ, ◌≤◌, ◌<◌, Bool, List, [], ◌∷◌, ◌++◌, length, Some, ⊤}
 use Rattle.std.specs.List.{AllByRecursion}
 use Rattle.mc_parse.specs.Form.{Ask, asks, form_of}
 use Rattle.mc_parse.specs.Need.{ask_need}
@@ -66,7 +66,7 @@ pub record IsOwnText (conn : ℕ) (text : List ℕ) : Type 0 where
 
 -- every record is a segment
 abbrev pub AreSegments : List Record → Type 0
-AreSegments [] = Unit {0}
+AreSegments [] = ⊤
 AreSegments (Kinds.Segment s ∷ items) = AreSegments items
 AreSegments (Kinds.Close conn ∷ items) = ⊥
 

@@ -1,6 +1,7 @@
 -- Generated traffic, docs/FORMATS.md, "Generated traffic": the bytes of each command, the segments in which they come,
 -- and the whole capture.
-use Rattle.std.specs.Prelude.{ℕ, zero, suc, ◌+◌, ◌*◌, ◌%◌, ◌≤◌, ◌^◌, ◌<◌, Bool, true, false, List, [], ◌∷◌, ◌++◌, length, take, drop, codes, decimal}
+use Rattle.std.specs.Prelude.{ℕ, zero, suc, ◌+◌, ◌*◌, ◌%◌, ◌≤◌, ◌^◌, ◌<◌, Bool, true, false, List, [], ◌∷◌, ◌++◌}
+use Rattle.std.specs.Prelude.{length, take, drop, codes, decimal, ⊤}
 use Rattle.std.specs.Int.{to_be_bytes, w32}
 use Rattle.rand_pcg.specs.Lcg.{Lcg}
 use Rattle.zy_capture.specs.declared.record.Record.{Record}
@@ -54,7 +55,7 @@ command_text connection command = request_text connection command.item command.r
 -- flags and blocks are as small as generated ones
 abbrev pub IsSmall : Request → Type 0
 IsSmall (Set flags size quiet) = (flags < 65536) × (size < 256)
-IsSmall request = Unit {0}
+IsSmall request = ⊤
 
 -- ---- segments
 
