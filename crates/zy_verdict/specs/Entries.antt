@@ -1,5 +1,5 @@
 -- The entries of an explanation: calls with what was said to them, and when.
-use Rattle.std.specs.Prelude.{◌≡◌, ℕ, ◌+◌, ◌==◌, ◌&&◌, Bool, List, [], ◌∷◌, ◌++◌, map, filter}
+use Rattle.std.specs.Prelude.{◌≡◌, ℕ, ◌+◌, ◌==◌, ◌&&◌, Bool, List, [], ◌∷◌, ◌++◌, map, filter, ⊤}
 use Rattle.mc_allows.specs.declared.call_name.CallName.{CallName}
 use Rattle.mc_allows.specs.declared.said.Said.{Said}
 use Rattle.mc_allows.specs.Steps.{KeyStep, made, lost, is_about}
@@ -68,5 +68,5 @@ abbrev pub AreStepsOf : List MadeCall → List KeyStep → Type 0
 AreStepsOf entries (lost ∷ steps) = AreStepsOf entries steps
 AreStepsOf (e ∷ entries) (made name call said after ∷ steps) =
     (name ≡ e.named.name) × (call ≡ e.named.call.call) × (said ≡ e.said) × AreStepsOf entries steps
-AreStepsOf [] [] = Unit {0}
+AreStepsOf [] [] = ⊤
 AreStepsOf entries steps = ⊥
