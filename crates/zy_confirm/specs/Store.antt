@@ -1,6 +1,6 @@
 -- The items of a server at a point of an order. No public clause cites this module.
 use Rattle.std.specs.Prelude.{◌≡◌, ℕ, ◌+◌, ◌*◌, ◌%◌, ◌^◌, ◌<◌, Bool, true, false, List, [], ◌∷◌, length}
-use Rattle.std.specs.Prelude.{Option, None, Some}
+use Rattle.std.specs.Prelude.{Option, None, Some, ⊤}
 use Rattle.std.specs.List.{slice_get}
 use Rattle.std.specs.Ordering.{nat_cmp}
 use Rattle.std.specs.Cmp.Lexicographic.{slice_cmp}
@@ -52,7 +52,7 @@ is_used store key unique = contains nat_cmp store.used (mark_of store key unique
 
 -- each of these uniques was given to an item of a key
 abbrev pub AreUsed : Store → List ℕ → List ℕ → Type 0
-AreUsed store key [] = Unit {0}
+AreUsed store key [] = ⊤
 AreUsed store key (unique ∷ uniques) = (is_used store key unique ≡ true) × AreUsed store key uniques
 
 -- a store of this many shards without items
@@ -74,7 +74,7 @@ IsOnItsShard shards (Some key) shard = shard ≡ shard_of key shards
 
 -- the unique of an item that was stored at a key was not given to one of it before, and is now
 abbrev pub IsNewlyUsed : Store → Store → List ℕ → Option ℕ → Type 0
-IsNewlyUsed before after key None = Unit {0}
+IsNewlyUsed before after key None = ⊤
 IsNewlyUsed before after key (Some unique) = (is_used before key unique ≡ false) × (is_used after key unique ≡ true)
 
 -- the uniques that were given stay so
