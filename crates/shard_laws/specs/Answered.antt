@@ -1,5 +1,5 @@
 -- Lists of entries whose replies are those of the entries before them.
-use Rattle.std.specs.Prelude.{◌≡◌, ℕ, ◌<◌, List, [], ◌∷◌, ◌++◌}
+use Rattle.std.specs.Prelude.{◌≡◌, ℕ, ◌<◌, List, [], ◌∷◌, ◌++◌, ⊤}
 use Rattle.mc_calls.specs.declared.entry.Entry.{Entry}
 use Rattle.mc_calls.specs.declared.call.Call.{Call}
 use Rattle.mc_calls.specs.declared.call.Call.TheVariants.{Tally}
@@ -19,7 +19,7 @@ answer_after shards number before call = reply_to (replayed shards number empty_
 -- each entry's shard is one of `shards` shards, and its reply is the one after the entries of this
 -- shard that come before it
 abbrev pub AreAnswered : ℕ → List Entry → List Entry → Type 0
-AreAnswered shards before [] = Unit {0}
+AreAnswered shards before [] = ⊤
 AreAnswered shards before (e ∷ es) =
     (e.shard < shards) × (e.reply ≡ answer_after shards e.shard (at_shard e.shard before) e.call)
     × AreAnswered shards (before ++ e ∷ []) es

@@ -1,5 +1,5 @@
 -- The replies to the calls on one key, CAS values aside.
-use Rattle.std.specs.Prelude.{◌≡◌, ℕ, Bool, true, false, if◌then◌else◌, List, [], ◌∷◌, filter}
+use Rattle.std.specs.Prelude.{◌≡◌, ℕ, Bool, true, false, if◌then◌else◌, List, [], ◌∷◌, filter, ⊤}
 use Rattle.mc_calls.specs.declared.call.Call.{Call}
 use Rattle.mc_calls.specs.declared.call.Call.TheVariants.{Cas}
 use Rattle.mc_calls.specs.declared.call_reply.CallReply.{CallReply}
@@ -14,7 +14,7 @@ is_cas call = false
 
 -- none of the calls is a cas
 abbrev pub AreWithoutCas : List Call → Type 0
-AreWithoutCas [] = Unit {0}
+AreWithoutCas [] = ⊤
 AreWithoutCas (call ∷ calls) = (is_cas call ≡ false) × AreWithoutCas calls
 
 -- the calls on the key, and the flushes, in the list's order

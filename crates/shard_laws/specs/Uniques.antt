@@ -1,5 +1,5 @@
 -- The CAS values that the calls of a list give.
-use Rattle.std.specs.Prelude.{◌≡◌, ◌⊎◌, ℕ, ◌<◌, ◌==◌, if◌then◌else◌, List, [], ◌∷◌, ◌++◌, Option, None, Some}
+use Rattle.std.specs.Prelude.{◌≡◌, ◌⊎◌, ℕ, ◌<◌, ◌==◌, if◌then◌else◌, List, [], ◌∷◌, ◌++◌, Option, None, Some, ⊤}
 use Rattle.std.specs.FinMap.{get}
 use Rattle.mc_calls.specs.declared.item.Item.{Item}
 use Rattle.mc_calls.specs.declared.entry.Entry.{Entry}
@@ -38,7 +38,7 @@ uniques_at shards number es = uniques_from shards number (λ number. empty_state
 
 -- the numbers rise strictly, and are above the one before
 abbrev pub AreRising : ℕ → List ℕ → Type 0
-AreRising before [] = Unit {0}
+AreRising before [] = ⊤
 AreRising before (x ∷ xs) = (before < x) × AreRising x xs
 
 -- a number is in a list
