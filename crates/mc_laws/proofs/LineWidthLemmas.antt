@@ -1,5 +1,5 @@
 -- How many words a line has, and how many letters the meta command that it is: fewer than the line has bytes.
-use Rattle.std.specs.Prelude.{◌==◌, ◌&&◌, codes, if◌then◌else◌, filter, Option, None, Some, option_map, not}
+use Rattle.std.specs.Prelude.{◌==◌, ◌&&◌, codes, if◌then◌else◌, filter, Option, None, Some, option_map, not, ⊤}
 use Rattle.std.specs.Option.{option_and_then}
 use Rattle.std.specs.Str.{bytes_eq}
 use Rattle.std.proofs.Common.{◌≡◌, ℕ, ◌+◌, ◌<◌, ◌≤◌, List, [], ◌∷◌, length, Bool, true, false, refl, arith, length-append}
@@ -68,7 +68,7 @@ placed_few at text = omega (arith, filter_few is_placed_word (placed at (pieces_
 
 -- further flags have at most `n` marks
 abbrev HasFewMarks : ℕ → Option Flags → Type 0
-HasFewMarks n None = Unit {0}
+HasFewMarks n None = ⊤
 HasFewMarks n (Some said) = length said.marks ≤ n
 
 marks_mapped : {X : Type 0} (n : ℕ) (f : X → Flags) (o : Option X) → ((x : X) → length (f x).marks ≤ n) → HasFewMarks n (option_map f o)
