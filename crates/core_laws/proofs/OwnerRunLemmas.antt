@@ -2,6 +2,7 @@
 use Rattle.zy_shuffle.proofs.OwnerLemmas.{idle_or, runs_sound}
 use Rattle.std.proofs.Common.{◌≡◌, ◌≢◌, ◌⊎◌, ℕ, ◌+◌, ◌<◌, List, [], ◌∷◌, ◌++◌, refl, sym, ◌∙◌, subst, ⊎_elim, arith}
 use Rattle.std.proofs.Common.{length, set, cond, Bool, true, false, true≢false, ap}
+use Rattle.std.specs.Prelude.{⊤}
 use Rattle.zy_shuffle.specs.declared.ring.view.Event.{Event}
 use Rattle.zy_shuffle.specs.declared.ring.view.Event.TheVariants.{Arrive, Claim, Handle, GiveBack, Collect, Settle}
 use Rattle.zy_shuffle.specs.Ownership.{idle, held, Owners, no_requests, moved, happens, IsSound, Runs}
@@ -66,7 +67,7 @@ runs_step home s t es es' e is h k = let l = runs_steps home s t es es' (e ∷ [
 
 -- each event is of one of these seats
 abbrev AllIn : List ℕ → List Event → Type 0
-AllIn seats [] = Unit {0}
+AllIn seats [] = ⊤
 AllIn seats (e ∷ es) = (is_in (seat_of e) seats ≡ true) × AllIn seats es
 
 -- the events of a seat among these are of these

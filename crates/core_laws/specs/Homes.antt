@@ -1,5 +1,5 @@
 -- What a settled home hands out at the end, and outputs cut at the ends of sessions.
-use Rattle.std.specs.Prelude.{ℕ, ◌+◌, ◌-◌, List, [], ◌∷◌, length, take, drop, ◌≡◌, Some, slice_get}
+use Rattle.std.specs.Prelude.{ℕ, ◌+◌, ◌-◌, List, [], ◌∷◌, length, take, drop, ◌≡◌, Some, slice_get, ⊤}
 use Rattle.mc_calls.specs.declared.entry.Entry.{Entry}
 use Rattle.mc_reply.specs.Texts.{texts_from}
 use Rattle.zy_frame.specs.Cut.{commands_of}
@@ -44,7 +44,7 @@ pub record IsHandedOut (label : Name) (received : ℕ → Sessions) (block : Blo
 
 -- the same holds of each connection of a home, by rising number
 abbrev pub AreFinished : Name → (ℕ → Sessions) → List Blocked → List EndedOutput → Type 0
-AreFinished label received [] [] = Unit {0}
+AreFinished label received [] [] = ⊤
 AreFinished label received (block ∷ blocks) (end ∷ ends) =
     IsHandedOut label received block end × AreFinished label received blocks ends
 AreFinished label received blocks ends = ⊥
