@@ -1,6 +1,7 @@
 -- What a run says to the calls of a command fits the command.
 use Rattle.std.specs.List.{AllByRecursion, range_with_len}
 use Rattle.std.proofs.Common.{◌≡◌, ℕ, zero, suc, ◌+◌, List, [], ◌∷◌, map, Option, Some, refl, ap, ◌∙◌, subst}
+use Rattle.std.specs.Prelude.{⊤}
 use Rattle.mc_calls.specs.declared.call.Call.{Call}
 use Rattle.mc_calls.specs.declared.call.Call.TheVariants as Calls
 use Rattle.mc_calls.specs.declared.call_reply.CallReply.{CallReply}
@@ -75,7 +76,7 @@ nothing_fits conn index (e ∷ es) are = absurd (cc)
 -- the call of a storage command of `ms` has a key
 abbrev pub IsKeyed : Command → Type 0
 IsKeyed (Meta (Metas.Set key call marks)) = (own : List ℕ) × (key_of call ≡ Some own)
-IsKeyed command = Unit {0}
+IsKeyed command = ⊤
 
 -- what was said to a command's calls, which these entries make, fits
 pub said_fits : (shards conn index : ℕ) (command : Command) (es : List Entry) → IsKeyed command → AllByRecursion IsSaid es → dues_of es ≡ tagged conn index 0 (calls_of shards command) → FitsCommand command (said_by command (replies_in es))
