@@ -6,7 +6,7 @@ use Rattle.std.specs.Prelude.{⊤}
 use Rattle.zy_shuffle.specs.declared.ring.view.Event.{Event}
 use Rattle.zy_shuffle.specs.declared.ring.view.Event.TheVariants.{Arrive, Claim, Handle, GiveBack, Collect, Settle}
 use Rattle.zy_shuffle.specs.Ownership.{idle, held, Owners, no_requests, moved, happens, IsSound, Runs}
-use Rattle.std.proofs.lemmas.List.{append-nil, append_cancel_right, append_assoc}
+use Rattle.std.proofs.lemmas.List.{append-nil, append_cancel_right, append_assoc, length-append}
 use Rattle.atomic_table.proofs.Lists.{set_here, set_else}
 use Rattle.zy_table.specs.Member.{is_in}
 use Rattle.zy_table.proofs.SlotLemmas.{at_below}
@@ -17,7 +17,7 @@ use Rattle.core_laws.specs.OneStep.{IsStep}
 use Rattle.zy_shuffle.specs.Step.{newcomer, splitting, taken_in}
 use Rattle.zy_shuffle.specs.View.{with_own, spent}
 use Rattle.zy_shuffle.proofs.KnownLemmas.{in_own, not_spent, known_added, known_same, known_joined, all_of}
-use Rattle.zy_shuffle.proofs.KnownLemmas.{apart_front, apart_own, long_append, owned_front, same_view}
+use Rattle.zy_shuffle.proofs.KnownLemmas.{apart_front, apart_own, owned_front, same_view}
 use mathlib.Core.Logic.{dite}
 use native.Mathlib.Decide.{ℕ_discrete}
 use mathlib.Core.Option.{some}
@@ -115,9 +115,9 @@ module _ {T : Type 0} where
       let x_is : es' ≡ x.0 ++ es = x.1 ∙ ap (λ l. x.0 ++ l) a.3 in
       let y_is : es ≡ y.0 ++ es' = y.1 ∙ ap (λ l. y.0 ++ l) b.3 in
       let c = ap length y_is in
-      let d = long_append y.0 es' in
+      let d = length-append y.0 es' in
       let e = ap length x_is in
-      let f = long_append x.0 es in
+      let f = length-append x.0 es in
       all_of x.0 es es' x_is (omega arith)
 
   -- no event: the run stays
@@ -135,9 +135,9 @@ module _ {T : Type 0} where
       (λ e. let o = t.missing id v at in (o.0, o.1 ∙ ap (λ k. o.0 ++ k) (sym run ∙ ap (λ (y : View T). y.trace.run) (same_view (set views id w) id b.0 w b.1 here b.2 (sym e)) ∙ m)))
       (λ ne. let o = t.missing b.0 b.1 (sym (set_else views id b.0 w ne) ∙ b.2) in (o.0, o.1 ∙ ap (λ k. o.0 ++ k) m)) in
       let c = ap length y.1 in
-      let d = long_append y.0 es' in
+      let d = length-append y.0 es' in
       let e = ap length x.1 in
-      let f = long_append x.0 es in
+      let f = length-append x.0 es in
       sym (all_of x.0 es es' x.1 (omega arith))
 
   -- events: the run goes on by them, and by nothing else
