@@ -64,8 +64,8 @@ fn takes(reader: &mut JournalReader, text: &[u8]) -> bool {
 #[test]
 fn a_journal_is_read_byte_by_byte(rt: HostRuntime) {
     let mut reader = JournalReader::new(rt.alloc());
-    let text =
-        b"ZYGJRN1\nJ\0\0\0\0\0\0\0\x01\0\0\0\x0c\0\0\0\0\0\0\0\0\0\0\0\0\0\0\0\0\x02\x01a\0\0\0\0\0\0\0\x01x\x03H\0\0\0\0\0\0\0\0\0\0\0\x01E";
+    let text = b"ZYGJRN1\nJ\0\0\0\0\0\0\0\x01\0\0\0\x0c\0\0\0\0\0\0\0\0\0\0\0\0\0\0\0\0\
+        \x02\x01a\0\0\0\0\0\0\0\x01x\x03H\0\0\0\0\0\0\0\0\0\0\0\x01E";
     let takes = takes(&mut reader, text);
     let is_done = reader.is_done();
     drop(reader);
