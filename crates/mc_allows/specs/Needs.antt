@@ -11,8 +11,8 @@ use Rattle.mc_allows.specs.declared.said.Said.TheVariants.{Replied, Failed}
 use Rattle.mc_allows.specs.declared.shown.Shown.{Shown}
 use Rattle.mc_allows.specs.declared.shown.Shown.TheVariants.{Nothing, NoFailure, Reply, SomeHit, HitWith, Failure}
 use Rattle.mc_allows.specs.declared.fact.Fact.{Fact}
-use Rattle.mc_allows.specs.declared.fact.Fact.TheVariants.{Unknown, Never, Absent, Present, Item, Value, Number, Counted}
-use Rattle.mc_allows.specs.declared.fact.Fact.TheVariants.{Ending, Beginning}
+use Rattle.mc_allows.specs.declared.fact.Fact.TheVariants.{Unknown, Never, Absent, Present, Item, Value, Number}
+use Rattle.mc_allows.specs.declared.fact.Fact.TheVariants.{Counted, Ending, Beginning}
 
 -- ---- what is shown
 

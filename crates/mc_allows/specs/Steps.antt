@@ -85,7 +85,8 @@ uniques_with before (Some unique) = unique ∷ before
 abbrev pub HaveNewUniques : List ℕ → List KeyStep → Type 0
 HaveNewUniques before [] = ⊤
 HaveNewUniques before (made name call said after ∷ steps) =
-    IsNewUnique before (unique_stored said after) × HaveNewUniques (uniques_with before (unique_stored said after)) steps
+    IsNewUnique before (unique_stored said after)
+    × HaveNewUniques (uniques_with before (unique_stored said after)) steps
 HaveNewUniques before (lost ∷ steps) = HaveNewUniques [] steps
 
 -- the unique of what a key has at first
