@@ -5,7 +5,8 @@ use Rattle.std.specs.Prelude.{◌≡◌, ℕ, Bool, true, false, List, [], ◌�
 use Rattle.std.specs.List.{concat, AllByRecursion}
 use Rattle.mc_calls.specs.declared.call_kind.CallKind.{CallKind}
 use Rattle.mc_calls.specs.declared.call_kind.CallKind.TheVariants.{Set as SetKind, Add, Replace, Append, Prepend, Cas}
-use Rattle.mc_calls.specs.declared.call_kind.CallKind.TheVariants.{Get as GetKind, Flush as FlushKind, Tally as TallyKind}
+use Rattle.mc_calls.specs.declared.call_kind.CallKind.TheVariants.{Get as GetKind, Flush as FlushKind}
+use Rattle.mc_calls.specs.declared.call_kind.CallKind.TheVariants.{Tally as TallyKind}
 use Rattle.mc_calls.specs.declared.call_reply.CallReply.TheVariants.{Hit, Miss}
 use Rattle.mc_calls.specs.Code.{call_kind}
 use Rattle.mc_parse.specs.declared.command.Command.{Command}

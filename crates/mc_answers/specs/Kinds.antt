@@ -49,7 +49,8 @@ pub record IsValueText (key letters text : List ℕ) : Type 0 where
   pub few : flags < 2 ^ 32
   pub small : unique < 2 ^ 64
   pub fits : length value ≤ value_limit
-  pub is : text ≡ marked (codes "VA " ++ decimal (length value)) key (Some (found_of flags unique value)) letters ++ line value
+  pub is : text
+      ≡ marked (codes "VA " ++ decimal (length value)) key (Some (found_of flags unique value)) letters ++ line value
 
 -- the line that says that a key has no item, with the mark of the key or without
 abbrev pub IsMissLine : List ℕ → List ℕ → Type 0
