@@ -11,9 +11,10 @@ use Rattle.mc_calls.specs.declared.call.Call.{Call}
 use Rattle.mc_calls.specs.declared.call_reply.CallReply.{CallReply}
 use Rattle.mc_calls.specs.declared.tallied.Tallied.{Tallied}
 use Rattle.mc_calls.specs.declared.call_reply.CallReply.TheVariants.{Miss, Hit, Stored, NotStored, Exists, NotFound}
-use Rattle.mc_calls.specs.declared.call_reply.CallReply.TheVariants.{Deleted, Number, NotNumber, TooLarge, Flushed, Tally}
-use Rattle.mc_calls.specs.Table.{CallParts, parts_of, key_part, flags_part, number_part, value_part, Act, says, shows, puts}
-use Rattle.mc_calls.specs.Table.{appends, prepends, exchanges, counts_up, counts_down, takes, clears, tallies}
+use Rattle.mc_calls.specs.declared.call_reply.CallReply.TheVariants.{Deleted, Number, NotNumber, TooLarge, Flushed}
+use Rattle.mc_calls.specs.declared.call_reply.CallReply.TheVariants.{Tally}
+use Rattle.mc_calls.specs.Table.{CallParts, parts_of, key_part, flags_part, number_part, value_part, Act, says, shows}
+use Rattle.mc_calls.specs.Table.{puts, appends, prepends, exchanges, counts_up, counts_down, takes, clears, tallies}
 use Rattle.mc_calls.specs.Table.{Acts, always, by_item}
 use Rattle.mc_calls.specs.Call.{key_of}
 use Rattle.mc_calls.specs.Code.{tally, call_row, reply_code}
