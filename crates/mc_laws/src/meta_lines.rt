@@ -7,8 +7,8 @@ ghost use Rattle.mc_meta.specs.Meta.{meta_line};
 ghost use Rattle.mc_meta.specs.Key.{key_of, IsKeyIn};
 ghost use Rattle.mc_laws.specs.WorkedMeta.{AllSay, span, long_key, sets_in_mode, other_lines, miscounted_lines};
 ghost use Rattle.mc_laws.specs.WorkedMeta.{lines_with_an_unlisted_letter, lines_with_a_repeated_letter};
-ghost use Rattle.mc_laws.specs.WorkedMeta.{lines_with_a_needless_token, lines_with_a_bad_token, lines_with_a_bad_datalen};
-ghost use Rattle.mc_laws.specs.WorkedMeta.{lines_with_a_unique_and_a_mode, lines_with_key};
+ghost use Rattle.mc_laws.specs.WorkedMeta.{lines_with_a_needless_token, lines_with_a_bad_token};
+ghost use Rattle.mc_laws.specs.WorkedMeta.{lines_with_a_bad_datalen, lines_with_a_unique_and_a_mode, lines_with_key};
 
 /// The words of a line are at their places in it: without their places they are the line's maximal
 /// runs of bytes other than a space.
