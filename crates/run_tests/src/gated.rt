@@ -11,7 +11,8 @@ const TWO_OF_THREE: &[u8] =
     b"ZYGCAP1\n\0\0\0\x03S\0\0\0\0\0\0\0\x09version\r\nS\0\0\0\x02\0\0\0\x09version\r\nE";
 
 const FOUR_OF_SEVEN: &[u8] =
-    b"ZYGCAP1\n\0\0\0\x07S\0\0\0\0\0\0\0\x09version\r\nS\0\0\0\x02\0\0\0\x09version\r\nS\0\0\0\x04\0\0\0\x09version\r\nS\0\0\0\x06\0\0\0\x09version\r\nE";
+    b"ZYGCAP1\n\0\0\0\x07S\0\0\0\0\0\0\0\x09version\r\nS\0\0\0\x02\0\0\0\x09version\r\n\
+    S\0\0\0\x04\0\0\0\x09version\r\nS\0\0\0\x06\0\0\0\x09version\r\nE";
 
 // Words, and a capture.
 struct Case(&'static [&'static [u8]], &'static [u8]);
