@@ -3,7 +3,8 @@ use Rattle.std.specs.Prelude.{◌≡◌, ◌⊎◌, ℕ, ◌<◌, ◌==◌, if�
 use Rattle.std.specs.FinMap.{get}
 use Rattle.mc_calls.specs.declared.item.Item.{Item}
 use Rattle.mc_calls.specs.declared.entry.Entry.{Entry}
-use Rattle.mc_calls.specs.Shard.{Items, State, Effect, keeps, stores, removes, empties, empty_state, outcome_on, state_after}
+use Rattle.mc_calls.specs.Shard.{Items, State, Effect, keeps, stores, removes, empties, empty_state, outcome_on}
+use Rattle.mc_calls.specs.Shard.{state_after}
 use Rattle.mc_calls.specs.History.{states_after}
 
 -- the CAS value of the item that was found

@@ -4,7 +4,8 @@ ghost use Rattle.mc_calls.specs.declared.call.Call.TheVariants as Calls;
 ghost use Rattle.mc_calls.specs.Counted.{counted};
 ghost use Rattle.mc_calls.specs.Shard.{State, state_after, outcome_of, stores, removes, empties, keeps};
 ghost use Rattle.shard_laws.specs.Worked as Worked;
-ghost use Rattle.shard_laws.specs.Laws.{FailedCasKeeps, FailedAddKeeps, FailedReplaceKeeps, FlushedMisses, FlushKeepsCount};
+ghost use Rattle.shard_laws.specs.Laws.{FailedCasKeeps, FailedAddKeeps, FailedReplaceKeeps, FlushedMisses};
+ghost use Rattle.shard_laws.specs.Laws.{FlushKeepsCount};
 ghost use Rattle.mc_calls.specs.declared.call_reply.CallReply.TheVariants as Replies;
 ghost use Rattle.shard_laws.specs.WorkedItems.{none, item_of, outcome};
 

@@ -3,7 +3,8 @@ ghost use Rattle.std.specs.Prelude.{◌≡◌, ◌<◌, ◌∷◌, ℕ, List, []
 ghost use Rattle.mc_calls.specs.declared.entry.Entry.{Entry};
 ghost use Rattle.zy_base.specs.Limits.{stamp_limit};
 ghost use Rattle.mc_calls.specs.History.{IsLegal, AreHistories};
-ghost use Rattle.mc_calls.specs.Order.{of_connection, AreByShard, StampsRise, AreStampsBelow, history_of, IsMergeOf, AreCallsOf};
+ghost use Rattle.mc_calls.specs.Order.{of_connection, AreByShard, StampsRise, AreStampsBelow, history_of, IsMergeOf};
+ghost use Rattle.mc_calls.specs.Order.{AreCallsOf};
 
 /// Histories have at most one merged list.
 pub fn histories_have_one_merge()
