@@ -79,7 +79,8 @@ IsNewlyUsed before after key (Some unique) = (is_used before key unique ≡ fals
 
 -- the uniques that were given stay so
 abbrev pub KeepsUniques : Store → Store → Type 0
-KeepsUniques before after = (key : List ℕ) (unique : ℕ) → is_used before key unique ≡ true → is_used after key unique ≡ true
+KeepsUniques before after =
+    (key : List ℕ) (unique : ℕ) → is_used before key unique ≡ true → is_used after key unique ≡ true
 
 -- a store was changed at one key only, where an item that was stored got this unique
 pub record ChangesAt (before after : Store) (key : List ℕ) (unique : ℕ) (change : After) : Type 0 where
@@ -107,7 +108,8 @@ pub record NotesLoss (before after : Store) (key : List ℕ) : Type 0 where
 pub record Clears (before after : Store) (shard : ℕ) : Type 0 where
   pub shards : store_shards after ≡ store_shards before
   pub here : (key : List ℕ) → shard_of key (store_shards before) ≡ shard → held_at after key ≡ None
-  pub others : (key : List ℕ) → (shard_of key (store_shards before) ≡ shard → ⊥) → held_at after key ≡ held_at before key
+  pub others : (key : List ℕ) → (shard_of key (store_shards before) ≡ shard → ⊥)
+      → held_at after key ≡ held_at before key
   pub used : KeepsUniques before after
 
 -- a call that was answered so led from one store to another
@@ -117,7 +119,8 @@ pub record MakesCall (before after : Store) (call : ShardCall) (said : Said) : T
       → Allows (held_at before key) call.call said (held_at after key)
   pub fresh : (key : List ℕ) → is_at_key (store_shards before) key call ≡ true
       → IsNewlyUsed before after key (unique_stored said (held_at after key))
-  pub others : (key : List ℕ) → is_at_key (store_shards before) key call ≡ false → held_at after key ≡ held_at before key
+  pub others : (key : List ℕ) → is_at_key (store_shards before) key call ≡ false
+      → held_at after key ≡ held_at before key
   pub used : KeepsUniques before after
 
 -- ---- chains
@@ -125,7 +128,8 @@ pub record MakesCall (before after : Store) (call : ShardCall) (said : Said) : T
 -- the uniques that were given since the last loss, after these steps
 abbrev pub uniques_after : List ℕ → List KeyStep → List ℕ
 uniques_after before [] = before
-uniques_after before (made name call said after ∷ steps) = uniques_after (uniques_with before (unique_stored said after)) steps
+uniques_after before (made name call said after ∷ steps) =
+    uniques_after (uniques_with before (unique_stored said after)) steps
 uniques_after before (lost ∷ steps) = uniques_after [] steps
 
 -- the entries at a key that had this first, and whose items may be lost or not, are allowed steps to what the store has

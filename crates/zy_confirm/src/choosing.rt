@@ -151,7 +151,8 @@ fn join(item: &Item, front: &Blob, back: &Blob) -> Result<Option<Outcome>, NoMem
 
 // Replaces the item if it has this unique.
 fn exchange(item: &Item, flags: u32, unique: u64, value: &Blob) -> Result<Outcome, NoMemory>
-    ensures chosen { IfOk result (λ o. (key : List ℕ) → IsAnyChosen (Some item.now) (Cas flags key unique value.now) o) }
+    ensures chosen { IfOk result (λ o. (key : List ℕ)
+        → IsAnyChosen (Some item.now) (Cas flags key unique value.now) o) }
 {
     if item.unique == unique {
         put(flags, value)
