@@ -62,14 +62,15 @@ pub record AreLineNumbers (sessions : Sessions) (outputs : List (List (List ℕ)
     (n : Numbers) : Type 0 where
   pub right : AllEndRight sessions outputs rows conn number
   pub commands : n.commands ≡ total_below (λ session. commands_in (session_at sessions conn session)) number
-  pub ended : n.ended ≡ total_below (λ session. ended_in (session_at sessions conn session) (track_at rows conn session)) number
+  pub ended : n.ended ≡ total_below (λ session. ended_in (session_at sessions conn session)
+      (track_at rows conn session)) number
 
 -- the numbers of the sessions of the connections below this one, all of which end right
 pub record AreNumbers (sessions : Sessions) (outputs : List (List (List ℕ))) (rows : List Row) (count : ℕ) (n : Numbers)
     : Type 0 where
   pub right : (conn : ℕ) → conn < count → AllEndRight sessions outputs rows conn (sessions_on sessions conn)
-  pub commands : n.commands ≡ total_below (λ conn. total_below (λ session. commands_in (session_at sessions conn session))
-      (sessions_on sessions conn)) count
+  pub commands : n.commands ≡ total_below (λ conn. total_below (λ session.
+      commands_in (session_at sessions conn session)) (sessions_on sessions conn)) count
   pub ended : n.ended ≡ total_below (λ conn. total_below (λ session. ended_in (session_at sessions conn session)
       (track_at rows conn session)) (sessions_on sessions conn)) count
 

@@ -1,5 +1,6 @@
 -- How far an order was followed. No public clause cites this module.
-use Rattle.std.specs.Prelude.{◌≡◌, ◌⊎◌, ℕ, ◌+◌, ◌≤◌, Bool, false, List, [], ◌++◌, length, take, map, All, Option, None, Some}
+use Rattle.std.specs.Prelude.{◌≡◌, ◌⊎◌, ℕ, ◌+◌, ◌≤◌, Bool, false, List, [], ◌++◌, length, take, map, All, Option, None}
+use Rattle.std.specs.Prelude.{Some}
 use Rattle.std.specs.List.{AllPairs, slice_get, slice_set, slice_index_or, concat}
 use Rattle.std.specs.BTreeSet.{BTreeSet}
 use Rattle.mc_allows.specs.declared.call_name.CallName.{CallName}
@@ -153,15 +154,16 @@ StandsSome rules sessions outputs state = (entries : List MadeCall) × Stands ru
 
 -- the next call of a session, which has this name, was made on the store at a moment, once the commands before it were
 -- ended
-pub record FollowsTo (rules : Rules) (lasting : BTreeSet (List ℕ)) (s : Session) (output : List ℕ) (before after : Store)
-    (old new : Track) (name : CallName) (latest moment : ℕ) : Type 0 where
+pub record FollowsTo (rules : Rules) (lasting : BTreeSet (List ℕ)) (s : Session) (output : List ℕ)
+    (before after : Store) (old new : Track) (name : CallName) (latest moment : ℕ) : Type 0 where
   pub between : Track
   pub settles : Settles rules.shards rules.forget s output old between
-  pub makes : MakesNext rules.shards rules.forget (may_lose_in rules.forget lasting) s before after between new name latest moment
+  pub makes : MakesNext rules.shards rules.forget (may_lose_in rules.forget lasting) s before after between new name
+      latest moment
 
 -- the same of the session with this number in a row
-pub record RowFollows (rules : Rules) (lasting : BTreeSet (List ℕ)) (s : Session) (output : List ℕ) (before after : Store)
-    (old new : Row) (name : CallName) (latest moment : ℕ) : Type 0 where
+pub record RowFollows (rules : Rules) (lasting : BTreeSet (List ℕ)) (s : Session) (output : List ℕ)
+    (before after : Store) (old new : Row) (name : CallName) (latest moment : ℕ) : Type 0 where
   pub one : Track
   pub other : Track
   pub is : slice_get old.tracks.items name.session ≡ Some one

@@ -131,7 +131,8 @@ fn own_numbers(session: &Session, track: &Track) -> Numbers
 
 // Adds numbers, if they are small enough.
 fn both(one: Numbers, other: Numbers) -> Option<Numbers>
-    ensures value { IfSome result (λ n. (n.commands ≡ one.commands + other.commands) × (n.ended ≡ one.ended + other.ended)) }
+    ensures value { IfSome result (λ n. (n.commands ≡ one.commands + other.commands)
+        × (n.ended ≡ one.ended + other.ended)) }
 {
     let commands = one.commands.checked_add(other.commands)?;
     let ended = one.ended.checked_add(other.ended)?;

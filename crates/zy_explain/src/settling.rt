@@ -22,7 +22,8 @@ impl State {
         requires some { 1 ≤ rules.shards }
         requires limit { rules.shards ≤ 256 }
         requires stands { StandsSome rules sessions.now outputs.now.sessions self.old }
-        ensures stands { IfOk result (λ done. done ≡ true → StandsSome rules sessions.now outputs.now.sessions self.new) }
+        ensures stands { IfOk result (λ done. done ≡ true
+            → StandsSome rules sessions.now outputs.now.sessions self.new) }
     {
         for conn in 0..self.rows.len() {
             if !self.settle_row(alloc, rules, sessions, outputs, conn)? {
@@ -44,7 +45,8 @@ impl State {
         requires some { 1 ≤ rules.shards }
         requires limit { rules.shards ≤ 256 }
         requires stands { StandsSome rules sessions.now outputs.now.sessions self.old }
-        ensures stands { IfOk result (λ done. done ≡ true → StandsSome rules sessions.now outputs.now.sessions self.new) }
+        ensures stands { IfOk result (λ done. done ≡ true
+            → StandsSome rules sessions.now outputs.now.sessions self.new) }
     {
         if conn >= self.rows.len() {
             return Ok(false);
@@ -70,7 +72,8 @@ impl State {
         requires some { 1 ≤ rules.shards }
         requires limit { rules.shards ≤ 256 }
         requires stands { StandsSome rules sessions.now outputs.now.sessions self.old }
-        ensures stands { IfOk result (λ done. done ≡ true → StandsSome rules sessions.now outputs.now.sessions self.new) }
+        ensures stands { IfOk result (λ done. done ≡ true
+            → StandsSome rules sessions.now outputs.now.sessions self.new) }
     {
         if 4_294_967_295 < conn {
             return Ok(false);

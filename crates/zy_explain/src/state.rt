@@ -58,7 +58,8 @@ impl State {
         requires some { 1 ≤ rules.shards }
         requires limit { rules.shards ≤ 256 }
         requires stands { StandsSome rules sessions.now outputs.now.sessions self.old }
-        ensures stands { IfOk result (λ made. made ≡ true → StandsSome rules sessions.now outputs.now.sessions self.new) }
+        ensures stands { IfOk result (λ made. made ≡ true
+            → StandsSome rules sessions.now outputs.now.sessions self.new) }
     {
         let name = placement.name;
         let conn = name.conn as usize;
