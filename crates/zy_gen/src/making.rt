@@ -2,7 +2,8 @@
 ghost use Rattle.std.specs.Prelude.{◌≡◌, ◌<◌, ◌≤◌, [], ◌∷◌, ◌++◌, flat_map, length, IfOk, OnOk};
 ghost use Rattle.zy_capture.specs.Capture.{spelled};
 ghost use Rattle.zy_gen.specs.Draw.{draw_command};
-ghost use Rattle.zy_gen.specs.Traffic.{command_text, segment_record, one_command, one_round, rounds, gen_bytes, IsTraffic, head};
+ghost use Rattle.zy_gen.specs.Traffic.{command_text, segment_record, one_command, one_round, rounds, gen_bytes};
+ghost use Rattle.zy_gen.specs.Traffic.{IsTraffic, head};
 
 use crate::drawing::{draw, draw_command};
 use crate::writing::append_text;
