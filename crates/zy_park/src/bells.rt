@@ -1,6 +1,7 @@
 //! The bells of all cores.
 ghost use Rattle.std.specs.Prelude.{◌≡◌, ◌≢◌, ◌<◌, ◌≤◌, ℕ, length, true, Some, None, slice_set, IfOk, OnOk, OnErr};
-ghost use Rattle.zy_park.specs.Pass.{new_root, rooted, IsFree, GaveNone, new_pass, ringing, ringing_from, ringing_each, ringing_each_from, resting};
+ghost use Rattle.zy_park.specs.Pass.{new_root, rooted, IsFree, GaveNone, new_pass, ringing, ringing_from, ringing_each};
+ghost use Rattle.zy_park.specs.Pass.{ringing_each_from, resting};
 
 mod making;
 mod ringing;

@@ -1,5 +1,6 @@
 //! Making bells, and the passes at them.
-ghost use Rattle.std.specs.Prelude.{◌≡◌, ◌+◌, ◌≤◌, length, [], ◌∷◌, ◌++◌, map, Some, None, false, slice_get, slice_set, IfOk, OnOk};
+ghost use Rattle.std.specs.Prelude.{◌≡◌, ◌+◌, ◌≤◌, length, [], ◌∷◌, ◌++◌, map, Some, None, false, slice_get, slice_set};
+ghost use Rattle.std.specs.Prelude.{IfOk, OnOk};
 ghost use Rattle.zy_park.specs.Pass.{new_root};
 ghost use Rattle.zy_park.specs.Bell.{given_of, new_seat};
 
