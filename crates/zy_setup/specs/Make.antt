@@ -1,5 +1,6 @@
 -- How the parts of a run are made, connection by connection and core by core. No public clause cites this module.
-use Rattle.std.specs.Prelude.{◌≡◌, ℕ, zero, suc, ◌+◌, ◌-◌, ◌==◌, nat_lt, if◌then◌else◌, List, [], ◌∷◌, ◌++◌, length, Some, slice_get, option_map}
+use Rattle.std.specs.Prelude.{◌≡◌, ℕ, zero, suc, ◌+◌, ◌-◌, ◌==◌, nat_lt, if◌then◌else◌, List, [], ◌∷◌, ◌++◌, length}
+use Rattle.std.specs.Prelude.{Some, slice_get, option_map}
 use Rattle.std.specs.List.{AllByRecursion}
 use Rattle.atomic_table.specs.Seated.{TableId}
 use Rattle.zy_table.specs.declared.name.Name.{Name}
