@@ -1,7 +1,8 @@
 //! The lines of an input's faults, after the program's name.
 ghost use Rattle.std.specs.Prelude.{◌≡◌};
 ghost use Rattle.zy_base.specs.Outside.{Writes};
-ghost use Rattle.zy_shell.specs.FaultLine.{refusal_line, fault_line, fault_text, fault_middle, journal_text, replies_text, file_line, pcap_number};
+ghost use Rattle.zy_shell.specs.FaultLine.{refusal_line, fault_line, fault_text, fault_middle, journal_text};
+ghost use Rattle.zy_shell.specs.FaultLine.{replies_text, file_line, pcap_number};
 
 use crate::lines::{write_number, write_two};
 use zy_base::{Failed, FileFault, Sink, write_whole};
