@@ -8,7 +8,8 @@ use Rattle.zy_shuffle.specs.declared.ring.view.Event.{Event}
 use Rattle.zy_shuffle.specs.declared.ring.view.Event.TheVariants.{Claim, GiveBack, Collect}
 use Rattle.zy_shuffle.specs.Run.{Before, publication, MayFollow}
 use Rattle.zy_shuffle.specs.declared.ring.view.View.{View}
-use Rattle.zy_shuffle.specs.HomeRole.{with_stored, with_published, with_bells, one_more, one_less, IsHome, rung_place, noted_in}
+use Rattle.zy_shuffle.specs.HomeRole.{with_stored, with_published, with_bells, one_more, one_less, IsHome, rung_place}
+use Rattle.zy_shuffle.specs.HomeRole.{noted_in}
 use Rattle.zy_shuffle.specs.Hand.{first_of, rest_of, emptied, below_then, marked}
 use Rattle.zy_shuffle.specs.View.{plain_step, head_step, tail_step, try_step, bell_step, fresh, traced}
 use Rattle.zy_shuffle.specs.View.{after_event, after_events, joining}
