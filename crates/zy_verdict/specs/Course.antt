@@ -10,7 +10,8 @@ use Rattle.mc_parse.specs.declared.command.Command.{Command}
 use Rattle.zy_verdict.specs.Recorded.{Recorded, session_commands, last_moment}
 use Rattle.mc_answers.specs.Output.{FitsText, text_at}
 use Rattle.zy_verdict.specs.Entries.{NamedCall, MadeCall, is_at_key}
-use Rattle.zy_verdict.specs.Explained.{OutputCuts, AreCuts, IsCallSent, IsCallEnded, IsTimely, IsNotLater, MayHaveFailed, IsChain}
+use Rattle.zy_verdict.specs.Explained.{OutputCuts, AreCuts, IsCallSent, IsCallEnded, IsTimely, IsNotLater}
+use Rattle.zy_verdict.specs.Explained.{MayHaveFailed, IsChain}
 
 -- ---- calls
 

@@ -25,7 +25,8 @@ OutputCuts = ℕ → ℕ → Cut
 
 -- all outputs are cut so
 abbrev pub AreCuts : Recorded → OutputCuts → Type 0
-AreCuts r cuts = (conn session : ℕ) → IsCut (session_commands r conn session) (output_of r conn session) (cuts conn session)
+AreCuts r cuts =
+    (conn session : ℕ) → IsCut (session_commands r conn session) (output_of r conn session) (cuts conn session)
 
 -- which commands of a session are answered: at least one byte of the answer stands in the output
 abbrev pub answered_by_cut : OutputCuts → ℕ → ℕ → List Bool

@@ -11,8 +11,8 @@ ghost use Rattle.std.specs.Prelude.{Option};
 
 /// If a recording is explained, every key has a course.
 pub fn an_explained_recording_has_courses()
-    ensures course { (r : Recorded) (cuts : OutputCuts) (entries : List MadeCall) → (explained : IsExplainedBy r cuts entries)
-        → (key : List ℕ) → IsCourse r cuts key (explained.first key) }
+    ensures course { (r : Recorded) (cuts : OutputCuts) (entries : List MadeCall)
+        → (explained : IsExplainedBy r cuts entries) → (key : List ℕ) → IsCourse r cuts key (explained.first key) }
     ensures some { (r : Recorded) → IsExplained r → (key : List ℕ) → HasCourse r key }
 {}
 
