@@ -1,4 +1,4 @@
-//! memcached's calls on shards: calls, replies, entries, histories and holds, with the definitions on them.
+//! memcached's calls on shards: calls, replies, entries and holds, with the definitions on them.
 #![tactic(auto)]
 
 mod call;
@@ -7,7 +7,6 @@ mod call_reply;
 mod counting;
 mod entry;
 mod fits;
-mod histories;
 mod hold;
 mod item;
 mod key;
@@ -18,7 +17,6 @@ pub use call_kind::{CallFields, CallKind, LAST_CALL_CODE};
 pub use call_reply::{CallReply, HIT_CODE, LAST_REPLY_CODE, NUMBER_CODE, Replies, TALLY_CODE};
 pub use entry::{Entries, Entry, Tag};
 pub use fits::numbers_fit;
-pub use histories::Histories;
 pub use hold::{Hold, Holds};
 pub use item::Item;
 pub use key::{hash_of, shard_of};
