@@ -17,7 +17,7 @@ WITHOUT = [RIGHT[0], RIGHT[2]]
 YES, NO = "yes commands 2 ended 2", "no unmet connection 1 command 0 part 0"
 SEARCHED, OTHER_LINE = "unknown search connection 1 command 0", "unknown other connection 1 command 0"
 BY_PROGRAM = "order found, by the proved program, on the bytes as they were recorded"
-FOUND = "order found: 2 commands, 2 calls, 1 keys"
+FOUND = "order found, by search: 2 commands, 2 calls, 1 keys"
 ACCUSED = "no: key a: no order of these commands explains their answers, whatever came before"
 # what stands for ./zygos: it keeps its words and what it reads, and `judge` says one thing, or first one and then another
 STAND_IN = """#!/bin/sh

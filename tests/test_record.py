@@ -689,7 +689,7 @@ class Gathered:
 def judged(name):
     """The capture of this name and its replies have an order, or none is found; the server is not accused."""
     ran = run("judge", "--warm", "--out", "/dev/null", name, name.replace(".cap", ".replies"))
-    if not ran.stdout.startswith((b"order found: ", b"unknown: ")):
+    if not ran.stdout.startswith((b"order found, by search: ", b"unknown: ")):
         fail(f"the order of {name}", ran.stdout + ran.stderr)
 
 
@@ -705,7 +705,7 @@ def joined(names):
         one.write(capture(len(told), records))
         other.write(replies(told))
     ran = run("judge", "--out", "/dev/null", "joined.cap", "joined.replies")
-    if not ran.stdout.startswith((b"order found: 2000 commands", b"unknown: ")):
+    if not ran.stdout.startswith((b"order found, by search: 2000 commands", b"unknown: ")):
         fail("the order of all windows", ran.stdout + ran.stderr)
     os.unlink("joined.cap")
     os.unlink("joined.replies")

@@ -461,7 +461,7 @@ def at_a_terminal():
         os.close(below)
         shown = os.read(above, 10000).decode().split("\r\n")
         os.close(above)
-    same("the lines", (0, "order found: 1 commands, 1 calls, 1 keys", "not certified: "), (status, shown[0], shown[2][:15]))
+    same("the lines", (0, "order found, by search: 1 commands, 1 calls, 1 keys", "not certified: "), (status, shown[0], shown[2][:15]))
 
 
 def hot_keys_hold_nobody_up():

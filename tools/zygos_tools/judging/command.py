@@ -28,16 +28,17 @@ CAPTURE, REPLIES  what clients sent and what the server answered, best as `tools
 --states N    gives up on a key after N of its states (if left out, 200,000)
 --processes N  searches keys in N processes (if left out, as many as there are processors that are not busy)
 
-The first line is `order found: ..`, and a second one says what is translated; `no: ..`, with a few commands that no
-order explains; or `unknown: ..`, with the reason. Then follow how many keys have an order, and a line for each that has
-none. The status is 0 for an order, 1 for `no` and nothing else, and 7 for `unknown`. After an order, with --check, the
-checker says `yes`. Other statuses: 2 a wrong option, 3 an error in a file, 4 a failed read, 5 a failed write, 6 too
-little memory. docs/JUDGE.md says what `yes` means, and what it does not.
+The first line is `order found, by search: ..`, and a second one says what is translated; `no: ..`, with a few commands
+that no order explains; or `unknown: ..`, with the reason. Then follow how many keys have an order, and a line for each
+that has none. The status is 0 for an order, 1 for `no` and nothing else, and 7 for `unknown`. After an order, with
+--check, the checker says `yes`. Other statuses: 2 a wrong option, 3 an error in a file, 4 a failed read, 5 a failed
+write, 6 too little memory. docs/JUDGE.md says what `yes` means, and what it does not.
 
 If all keys are judged, no files are written, and ends of answers are known or --times none is given, the proved program
-`./zygos judge` is asked first, if it is there. After its `yes` nothing is searched, and the first line says so. A `no`
-that it proves begins with `proved no: ..`, another one after it with `no, not proved: ..`. If it does not know a
-command, it is asked again about what the recording is translated to, and the first line of a verdict says so.
+`./zygos judge` is asked first, if it is there. After its `yes` nothing is searched, and the first line is `order
+found, by the proved program, ..`. A `no` that it proves begins with `proved no: ..`, another one after it with `no, not
+proved: ..`. If it does not know a command, it is asked again about what the recording is translated to, and the first
+line of a verdict says so.
 """
 from __future__ import annotations
 
@@ -345,7 +346,7 @@ class Judging:
     def lines(self, judge: Judge) -> Iterator[str]:
         """What is said of an order that was found."""
         commands = len(judge.table.verb)
-        yield f"order found: {commands} commands, {len(judge.order)} calls, {len(judge.keys.names)} keys"
+        yield f"order found, by search: {commands} commands, {len(judge.order)} calls, {len(judge.keys.names)} keys"
         found = self.certificate.counts if self.certificate else judge.recording.notes
         counts = counts_in(found)
         yield f"translated: {counts}" if counts else "nothing is translated"
