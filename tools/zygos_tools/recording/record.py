@@ -14,7 +14,8 @@ came, and REPLIES what the server answered. docs/GUIDE.md says how to use them.
 --connections  end once N connections have come and gone (default: at Ctrl-C, a termination or a closed terminal)
 --processes    the number of processes that share the clients (default 1), for busy servers
 --every        record in windows of this length, a number of commands (100000) or a time (60s, 10m, 1h)
---ends         write into CAPTURE when each answer was complete, as a segment without bytes; tools/judge needs it
+--ends         write into CAPTURE when each answer was complete, as a segment without bytes. Always give it for
+               tools/judge, whose `yes` otherwise says nothing of time
 --over         overwrite CAPTURE and REPLIES if there is something in them
 --repair       complete the files of a recording that was killed; says how many commands have no whole answer
 
@@ -27,9 +28,10 @@ without them.
 
 With --every the files are my.000001.cap and my.000001.replies, my.000002.cap and so on. Each is there once it is
 whole, the replies first. A window ends at a quiet moment: clients are held until no command is in flight, and then go
-on in the next one, where an open connection is a new one. If none comes within 0.1 seconds, clients go on; it is said,
-and tried again a second later, for up to 0.8 seconds. A moment is not quiet while a client has sent a part of a
-command, or after `noreply` no command that was answered. A window also ends at 3 GiB. --over removes older windows.
+on in the next one, where an open connection is a new one. The first try holds them for 0.1 seconds. If it fails,
+clients go on; it is said, and tried again a second later, each time for twice as long, up to 0.8 seconds. A try fails
+if a client has sent only a part of a command, or if its last command has `noreply`. A window also ends at 3 GiB. --over
+removes older windows.
 
 With several processes or windows, what comes is in REPLIES.spool.0 and so on until the files are written; --repair
 completes a window too, by the names of its files.

@@ -13,7 +13,8 @@ to standard error.
 --port      the port to which requests go, 1 to 65535 (default 11211)
 --in-order  write a capture in the order of the packets' times. It has the streams of `zygos pcap`, which writes one
             connection after another
---ends      write into that capture when each answer was complete, as a segment without bytes; tools/judge needs it
+--ends      write into that capture when each answer was complete, as a segment without bytes. Always give it for
+            tools/judge, whose `yes` otherwise says nothing of time
 --replies   write what the server answered, with the same connections and sessions; if requests are left out, so are
             the answers to them
 --resume    after a lost packet, begin the connection's next session as soon as client and server are in step again: at
