@@ -63,7 +63,8 @@ IsNoMaker store calls fact at x reader g =
 
 -- the same, whatever calls are at these places
 abbrev pub IsNoMakerAt : Store → List Observed → Fact → ℕ → ℕ → Type 0
-IsNoMakerAt store calls fact at reader = (x g : Observed) → slice_get calls at ≡ Some x → slice_get calls reader ≡ Some g
+IsNoMakerAt store calls fact at reader =
+    (x g : Observed) → slice_get calls at ≡ Some x → slice_get calls reader ≡ Some g
     → IsNoMaker store calls fact at x reader g
 
 -- no loss makes the fact
