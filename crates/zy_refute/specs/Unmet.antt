@@ -1,5 +1,5 @@
 -- When no call can have made what another one needs.
-use Rattle.std.specs.Prelude.{◌≡◌, ◌⊎◌, ℕ, ◌<◌, true, false, List, ◌++◌, length, Option, None, Some, All}
+use Rattle.std.specs.Prelude.{◌≡◌, ◌⊎◌, ℕ, ◌<◌, true, false, List, ◌++◌, length, Option, None, Some, All, ⊤}
 use Rattle.std.specs.List.{slice_get}
 use Rattle.mc_calls.specs.declared.call.Call.{Call}
 use Rattle.mc_calls.specs.declared.call.Call.TheVariants.{Append, Prepend}
@@ -86,5 +86,5 @@ AreNeverMet store calls needs = All (λ (need : Need). IsNeverMet store calls ne
 
 -- if a call is named, it is one of the calls, and these have no order
 abbrev pub IsRefutation : Store → List Observed → Option ℕ → Type 0
-IsRefutation store calls None = Unit {0}
+IsRefutation store calls None = ⊤
 IsRefutation store calls (Some at) = (at < length calls) × HaveNoOrder store calls
