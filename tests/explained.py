@@ -5,8 +5,8 @@ usage: tests/explained.py [--warm] [--may-forget] [--shards N] < FILES     (a ca
 
 It tries every order of the calls, each at the least moment that it can have, and every choice that a server has, and
 says `explained` or `not explained`. It is for a few commands: `get`, `gets`, those that store, count and delete,
-`flush_all`, `version`, `stats` and faulty lines; on values that are numbers, perhaps with spaces behind them, or texts without a
-digit and without white space. Of `gets` no answer may be cut short.
+`flush_all`, `version`, `stats` and faulty lines. If a server may read any number of a value, as of `5x`, it tries the numbers
+that matter for what the answers show. Of `gets` no answer may be cut short.
 """
 from __future__ import annotations
 
@@ -207,6 +207,32 @@ def may_be_none(value: bytes) -> bool:
     return not (re.fullmatch(b"[0-9]{1,20}", value) and int(value) < 1 << 63)
 
 
+def may_be_any(value: bytes) -> bool:
+    """Whether a server may read any number of a value."""
+    return number_in(value) is None and bool(re.search(rb"[0-9 \t-\r]", value))
+
+
+def numbers_within(text: bytes) -> set[int]:
+    """The numbers that stand in a text, also within others."""
+    parts = {digits[one:end] for digits in re.findall(b"[0-9]+", text)
+             for end in range(1, len(digits) + 1) for one in range(end)}
+    return {int(part) for part in parts if int(part) < MOST}
+
+
+def numbers_near(lines: list[Line], key: bytes) -> set[int]:
+    """The numbers that matter, if the value of a key may have become any number: those that answers show, one of each
+    length, and all from which counting leads to these."""
+    found, sums = {0} | {10 ** size for size in range(20)}, {0}
+    for line in lines:
+        for (command, _), text in zip(line.session.frames, line.texts):
+            if command.verb in GETTING:
+                found |= {number for item in items_in(command, text)[0].get(key, []) for number in numbers_within(item.value)}
+            elif command.verb in COUNTING and command.keys == [key]:
+                found |= numbers_within(text)
+                sums |= {one + way * command.numbers["amount"] for one in sums for way in (1, -1)}
+    return {(number + one) % MOST for number in found for one in sums}
+
+
 def used_at(place: Place) -> frozenset[int]:
     shown = place.item.unique if place.item else None
     return place.used if shown is None else place.used | {shown}
@@ -241,8 +267,9 @@ def got(command: Command, key: bytes, text: bytes, place: Place) -> Iterator[tup
                 yield ("hit", now.item), now
 
 
-def after(command: Command, call: tuple[str, Any], text: bytes, place: Place) -> Iterator[tuple[Said, Place]]:
-    """What a call may be told, and what its key has then."""
+def after(command: Command, call: tuple[str, Any], text: bytes, place: Place,
+          near: set[int]) -> Iterator[tuple[Said, Place]]:
+    """What a call may be told, and what its key has then; `near` are the numbers that matter."""
     name, item, value, flags = call[0], place.item, command.value or b"", command.numbers.get("flags", 0)
     if name == "get":
         yield from got(command, call[1], text, place)
@@ -272,14 +299,22 @@ def after(command: Command, call: tuple[str, Any], text: bytes, place: Place) ->
         elif item.unique != unique:
             yield ("exists",), place
     else:
-        yield from counted(command, name, place, item)
+        yield from counted(command, text, place, item, near)
 
 
-def counted(command: Command, name: str, place: Place, item: Item) -> Iterator[tuple[Said, Place]]:
-    """What a call that counts may be told of an item."""
-    number, amount = number_in(item.value), command.numbers["amount"]
+def counts(command: Command, value: bytes, text: bytes, near: set[int]) -> set[int]:
+    """What a command may count to from a value; `text` is what stands of its answer."""
+    number, amount, is_up = number_in(value), command.numbers["amount"], command.verb == "incr"
     if number is not None:
-        count = (number + amount) % MOST if name == "incr" else max(0, number - amount)
+        return {(number + amount) % MOST if is_up else max(0, number - amount)}
+    if not may_be_any(value):
+        return set()
+    return {count for count in near if (is_up or count + amount < MOST) and (b"%d\r\n" % count).startswith(text)}
+
+
+def counted(command: Command, text: bytes, place: Place, item: Item, near: set[int]) -> Iterator[tuple[Said, Place]]:
+    """What a call that counts may be told of an item."""
+    for count in counts(command, item.value, text, near):
         for value in {b"%d" % count, (b"%d" % count).ljust(len(item.value))}:
             yield ("number", count), with_item(place, item.flags, value)
     if may_be_none(item.value):
@@ -356,6 +391,7 @@ class Judge:
         self.lasting = {key for session in self.sessions for key in lasting_keys(session)}
         self.keys = {key for session in self.sessions for command, _ in session.frames for key in command.keys}
         self.seen: set[Any] = set()
+        self.near: dict[bytes, set[int]] = {}
 
     def may_lose(self, key: bytes) -> bool:
         return self.forget or key in self.lasting
@@ -367,6 +403,7 @@ class Judge:
             lines = [Line(session, text, self.shards) for session, text in zip(self.sessions, texts)]
             if all(line.ends and line.marks_fit() for line in lines):
                 self.seen = set()
+                self.near = {key: numbers_near(lines, key) for key in self.keys}
                 start = tuple(((), 0) for _ in lines)
                 for places in self.beginnings(lines):
                     if self.search(lines, start, places, 0):
@@ -425,7 +462,7 @@ class Judge:
         if self.may_lose(key) or place.item and place.is_first:
             before.append(NOTHING)
         for one in before:
-            for said, now in after(call.command, call.call, call.text, one):
+            for said, now in after(call.command, call.call, call.text, one, self.near.get(key, set())):
                 yield said, {**places, key: now}
 
 
@@ -439,11 +476,11 @@ def lasting_keys(session: Session) -> Iterator[bytes]:
 
 def first_items(lines: list[Line], key: bytes) -> set[Item]:
     """The items that a key may have first: those that an answer shows, parts of them, numbers near those that answers show,
-    and another one."""
-    found = {Item(0, b"zz")}
+    another one, and one that may be any number or none."""
     shown = [(item, text) for line in lines for (command, _), text in zip(line.session.frames, line.texts)
              if command.verb in GETTING for item in items_in(command, text)[0].get(key, [])]
     flags = {item.flags for item, _ in shown} | {0}
+    found = {Item(0, b"zz")} | {Item(flag, b"z1") for flag in flags}
     for item, _ in shown:
         found |= {Item(item.flags, item.value[one:end]) for end in range(len(item.value) + 1) for one in range(end + 1)}
     numbers = {number_in(item.value) or 0 for item, _ in shown}
