@@ -13,6 +13,7 @@ use Rattle.mc_parse.specs.Name.{KeysAmong, no_word, one_word, each_word, which_k
 use Rattle.mc_parse.specs.MetaAsk.{MetaAsk, meta_gets, meta_stores, meta_exchanges, meta_deletes}
 use Rattle.mc_parse.specs.Form.{Ask, exchanges, gets, deletes, sets_verbosity, flushes, metas, first_word, key_words, keys_among, ask_keys, key_zero, key_number, count_by, sizes_of, store_ask, store_words, cas_ask, cas_words, verbosity_words, with_zero, ask_of}
 use Rattle.mc_parse.specs.Need.{ask_need, takes_more}
+use Rattle.mc_parse.specs.Line.{IsLimited}
 
 -- ---- what is asked for
 
@@ -30,14 +31,20 @@ ask_width (gets keys unique) = length keys
 ask_width (metas ask) = meta_width ask
 ask_width ask = 0
 
+-- it asks for no items
+abbrev pub GetsNone : Ask → Type 0
+GetsNone (gets keys unique) = ⊥
+GetsNone ask = Unit {0}
+
 -- ---- the words after a name
 
--- what a name asks for with some words: its keys are those among them, it has no letters, and it needs something only
--- if the name may
+-- what a name asks for with some words: its keys are those among them, it has no letters, it needs something only
+-- if the name may, and it gets items only if the name does
 pub record Reads (name : Name) (ws : List (List ℕ)) (ask : Ask) : Type 0 where
   pub keys : ask_keys ask ≡ keys_among name ws
   pub width : ask_width ask ≤ length (ask_keys ask)
   pub needs : takes_more name ≡ false → ask_need ask ≡ Nothing
+  pub none : IsLimited name → GetsNone ask
 
 mapped : {X : Type 0} (P : Ask → Type 0) (f : X → Ask) (o : Option X) → ((x : X) → P (f x)) → IfSome (option_map f o) P
 mapped P f None each = tt
@@ -64,7 +71,7 @@ store_reads verb (key ∷ flags ∷ []) = tt
 store_reads verb (key ∷ flags ∷ exptime ∷ []) = tt
 store_reads verb (key ∷ flags ∷ exptime ∷ bytes ∷ []) =
     mapped (Reads (Store verb) (key ∷ flags ∷ exptime ∷ bytes ∷ [])) (store_ask verb key) (sizes_of flags exptime bytes)
-    (λ sizes. record { keys = refl; width = omega arith; needs = λ more. absurd (true≢false more) })
+    (λ sizes. record { keys = refl; width = omega arith; needs = λ more. absurd (true≢false more); none = λ limited. tt })
 store_reads verb (key ∷ flags ∷ exptime ∷ bytes ∷ next ∷ ws) = tt
 
 cas_reads : (ws : List (List ℕ)) → IfSome (cas_words ws) (Reads Cas ws)
@@ -75,7 +82,7 @@ cas_reads (key ∷ flags ∷ exptime ∷ []) = tt
 cas_reads (key ∷ flags ∷ exptime ∷ bytes ∷ []) = tt
 cas_reads (key ∷ flags ∷ exptime ∷ bytes ∷ unique ∷ []) =
     exchanged (Reads Cas (key ∷ flags ∷ exptime ∷ bytes ∷ unique ∷ [])) key (sizes_of flags exptime bytes) (number_of unique)
-    (λ flags bytes number. record { keys = refl; width = omega arith; needs = λ more. absurd (true≢false more) })
+    (λ flags bytes number. record { keys = refl; width = omega arith; needs = λ more. absurd (true≢false more); none = λ limited. tt })
 cas_reads (key ∷ flags ∷ exptime ∷ bytes ∷ unique ∷ next ∷ ws) = tt
 
 -- a key, and a zero that may follow it
@@ -93,19 +100,19 @@ number_reads name ask (key ∷ word ∷ next ∷ ws) each = tt
 verbosity_reads : (ws : List (List ℕ)) → IfSome (verbosity_words ws) (Reads Verbosity ws)
 verbosity_reads [] = tt
 verbosity_reads (number ∷ []) =
-    mapped (Reads Verbosity (number ∷ [])) (λ _. sets_verbosity) (small_number_of number) (λ level. record { keys = refl; width = omega arith; needs = λ more. refl })
+    mapped (Reads Verbosity (number ∷ [])) (λ _. sets_verbosity) (small_number_of number) (λ level. record { keys = refl; width = omega arith; needs = λ more. refl; none = λ limited. tt })
 verbosity_reads (number ∷ next ∷ ws) = tt
 
 pub reads : (name : Name) (ws : List (List ℕ)) → IfSome (ask_of name ws) (Reads name ws)
 reads (Store verb) ws = store_reads verb ws
 reads Cas ws = cas_reads ws
-reads (Get unique) ws = record { keys = refl; width = omega arith; needs = λ more. refl }
-reads Delete ws = zero_reads Delete deletes ws (λ key rest. record { keys = refl; width = omega arith; needs = λ more. refl })
-reads (Count up) ws = number_reads (Count up) (count_by up) ws (λ key word number. record { keys = refl; width = omega arith; needs = λ more. refl })
+reads (Get unique) ws = record { keys = refl; width = omega arith; needs = λ more. refl; none = λ limited. absurd limited }
+reads Delete ws = zero_reads Delete deletes ws (λ key rest. record { keys = refl; width = omega arith; needs = λ more. refl; none = λ limited. tt })
+reads (Count up) ws = number_reads (Count up) (count_by up) ws (λ key word number. record { keys = refl; width = omega arith; needs = λ more. refl; none = λ limited. tt })
 reads Verbosity ws = verbosity_reads ws
-reads Flush ws = zeroed (Reads Flush ws) flushes ws (record { keys = refl; width = omega arith; needs = λ more. refl })
-reads Quit ws = record { keys = refl; width = omega arith; needs = λ more. absurd (true≢false more) }
-reads name ws = record { keys = refl; width = omega arith; needs = λ more. refl }
+reads Flush ws = zeroed (Reads Flush ws) flushes ws (record { keys = refl; width = omega arith; needs = λ more. refl; none = λ limited. tt })
+reads Quit ws = record { keys = refl; width = omega arith; needs = λ more. absurd (true≢false more); none = λ limited. tt }
+reads name ws = record { keys = refl; width = omega arith; needs = λ more. refl; none = λ limited. tt }
 
 -- the keys among words are none of them, the first, or all
 pub keys_by_name : (P : List (List ℕ) → Type 0) (name : Name) (ws : List (List ℕ)) → P [] → P (first_word ws) → P ws → P (keys_among name ws)

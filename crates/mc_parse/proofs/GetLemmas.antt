@@ -43,7 +43,8 @@ got_nothing : (unique : Bool) (ws : List (List ℕ)) → need_for (form_after (G
 got_nothing unique [] = refl
 got_nothing unique (word ∷ ws) = ap need_for (some_words unique word ws) ∙ checked (list_all is_key (word ∷ ws)) (word ∷ ws) unique
 
-few_by : (name : Name) → ((unique : Bool) → name ≡ Get unique → ⊥) → IsLimited name
+-- any other name than that of a retrieval
+pub few_by : (name : Name) → ((unique : Bool) → name ≡ Get unique → ⊥) → IsLimited name
 few_by (Get unique) other = other unique refl
 few_by name other = tt
 

@@ -9,5 +9,6 @@ pub mod BoundLemmas
 pub mod AskLemmas
 pub mod NeedLemmas
 pub mod GetLemmas
+pub mod OneKeyLemmas
 mod StoringLemmas
 mod ParsedLemmas

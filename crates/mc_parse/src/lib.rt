@@ -37,6 +37,6 @@ pub use parse::{
     parse_block, parse_large, parse_line, parse_read, parse_read_block, parse_read_in,
 };
 pub use parsed::Parsed;
-pub use retrieval::got_keys;
+pub use retrieval::{OneKey, got_keys, one_key};
 pub use shard_call::{Calls, ShardCall};
 pub use verb::Verb;

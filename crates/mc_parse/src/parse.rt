@@ -346,13 +346,11 @@ fn take_keys(line: &Blob, keys: &mut Keys, text: &[u8]) -> Result<bool, NoMemory
 }
 
 // Appends a word of a line as a key, which is a part of the line.
-#[tactic(auto, using(crate::proofs::ParsedLemmas::word_within, zy_base::proofs::RestLemmas::rest_word))]
 fn take_key(line: &Blob, keys: &mut Keys, split: Split<'_>) -> Result<(), NoMemory>
     requires rest { IsRestOf (split.word.now ++ split.rest.now) line.now }
     ensures ok { OnOk result (keys.new ≡ keys.old ++ split.entry.word.now ∷ []) }
 {
-    let end = line.bytes().len() - split.rest.len();
-    let key = line.part(end - split.word.len(), end)?;
+    let key = word_in(line, split)?;
     match keys.push(key) {
         Ok(()) => Ok(()),
         Err((key, e)) => {
@@ -360,4 +358,14 @@ fn take_key(line: &Blob, keys: &mut Keys, split: Split<'_>) -> Result<(), NoMemo
             Err(e)
         }
     }
+}
+
+// Returns a word of a line, which is a part of the line.
+#[tactic(auto, using(crate::proofs::ParsedLemmas::word_within, zy_base::proofs::RestLemmas::rest_word))]
+pub(crate) fn word_in(line: &Blob, split: Split<'_>) -> Result<Blob, NoMemory>
+    requires rest { IsRestOf (split.word.now ++ split.rest.now) line.now }
+    ensures value { IfOk result (λ word. word ≡ split.entry.word.now) }
+{
+    let end = line.bytes().len() - split.rest.len();
+    line.part(end - split.word.len(), end)
 }

@@ -24,9 +24,9 @@ pub(crate) fn items_room(keys: &[Blob], replies: &[CallReply]) -> Option<usize>
     Some(total)
 }
 
-// Returns a number of bytes that the text of a key does not exceed: its bytes, those of its value,
-// and 73 for three numbers of up to 20 digits and what is around them.
-fn item_room(key: &Blob, reply: &CallReply) -> Option<usize>
+/// Returns a number of bytes that the text of a key does not exceed: its bytes, those of its value,
+/// and 73 for three numbers of up to 20 digits and what is around them.
+pub(crate) fn item_room(key: &Blob, reply: &CallReply) -> Option<usize>
     ensures value { IfSome result (λ n. (asked : Bool) → length (item_text asked key.now reply.now) ≤ n) }
 {
     let CallReply::Hit {

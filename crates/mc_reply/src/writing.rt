@@ -1,13 +1,14 @@
 //! The text that answers a command.
-ghost use Rattle.std.specs.Prelude.{◌≡◌, ◌≤◌, ◌+◌, ◌++◌, length, codes, decimal, OnOk, OnErr};
-ghost use Rattle.mc_reply.specs.Text.{text, line, items_text};
+ghost use Rattle.std.specs.Prelude.{◌≡◌, ◌≤◌, ◌+◌, [], ◌∷◌, ◌++◌, length, codes, decimal, OnOk, OnErr};
+ghost use Rattle.mc_parse.specs.declared.command.Command.TheVariants.{Get};
+ghost use Rattle.mc_reply.specs.Text.{text, line, item_text, items_text};
 ghost use Rattle.mc_reply.specs.Answers.{AnswerCommand};
 ghost use Rattle.mc_reply.specs.Shape.{answer_text};
 
 use crate::answer::Answer;
 use crate::answering::{fault_answer, only_answer, unless};
 use crate::item::put_item;
-use crate::length::items_room;
+use crate::length::{item_room, items_room};
 use crate::lines::{self, END, LINE_END};
 use crate::meta_answer::append_meta;
 use crate::stats::append_stats;
@@ -36,6 +37,46 @@ pub fn reply_text(out: &mut Blob, command: &Command, replies: &Replies) -> Resul
         Command::Fault { line, quiet } => append_answer(out, unless(*quiet, fault_answer(*line))),
         _ => append_answer(out, unless(command.is_quiet(), only_answer(replies))),
     }
+}
+
+/// Appends the text that answers a retrieval of one key with this reply. May answer `NoMemory`.
+#[tactic(auto, unfolding(crate::specs::Text::text))]
+pub fn got_text(
+    out: &mut Blob,
+    key: &Blob,
+    unique: bool,
+    reply: &CallReply,
+) -> Result<(), NoMemory>
+    ensures ok { OnOk result (out.new ≡ out.old ++ text (Get (key.now ∷ []) unique) (reply.now ∷ [])) }
+    ensures err { OnErr result (out.new ≡ out.old) }
+{
+    match reply {
+        CallReply::Hit { .. } => append_item(out, unique, key, reply),
+        _ => out.append(END),
+    }
+}
+
+// Appends the text of one key, and the end.
+fn append_item(
+    out: &mut Blob,
+    asked: bool,
+    key: &Blob,
+    reply: &CallReply,
+) -> Result<(), NoMemory>
+    ensures ok { OnOk result (out.new ≡ out.old ++ (item_text asked key.now reply.now ++ line (codes "END"))) }
+    ensures err { OnErr result (out.new ≡ out.old) }
+{
+    let Some(item) = item_room(key, reply) else {
+        return Err(NoMemory);
+    };
+    let Some(more) = item.checked_add(END.len()) else {
+        return Err(NoMemory);
+    };
+    let mut reserved = out.reserve(more)?;
+    put_item(&mut reserved, asked, key, reply);
+    reserved.append(END);
+    drop(mem::replace(out, reserved.into_blob()));
+    Ok(())
 }
 
 // Appends an answer.

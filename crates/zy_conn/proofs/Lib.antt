@@ -2,3 +2,4 @@ pub mod KeptLemmas
 pub mod StepLemmas
 pub mod HoldLemmas
 pub mod LabelLemmas
+pub mod DirectLemmas

@@ -4,3 +4,4 @@ pub mod Kept
 pub mod Hold
 pub mod Block
 pub mod Step
+pub mod Direct

@@ -1,5 +1,6 @@
 //! The command in progress.
-ghost use Rattle.std.specs.Prelude.{◌≡◌, ◌≢◌, true, false, IfSome, IfNone, OnOk, OnErr};
+ghost use Rattle.std.specs.Prelude.{◌≡◌, ◌≢◌, ◌<◌, [], true, false, vec_len, vec_capacity};
+ghost use Rattle.std.specs.Prelude.{IfSome, IfNone, IfOk, OnOk, OnErr};
 ghost use Rattle.zy_frame.specs.declared.frame_kind.FrameKind.{FrameKind};
 ghost use Rattle.zy_frame.specs.Frame.{command_of};
 ghost use Rattle.mc_parse.specs.declared.command.Command.{Command};
@@ -105,6 +106,36 @@ impl Begun {
                 Err(e)
             }
         }
+    }
+
+    /// Begins this command, when nothing is begun. Takes no memory.
+    pub(crate) fn begin(&mut self, command: Command)
+        requires none { self.old ≡ no_frame }
+        ensures value { self.new ≡ command_read command }
+    {
+        self.command = command;
+        self.going = true;
+    }
+
+    /// Moves the room for the keys of a retrieval out, with room for at least one.
+    pub(crate) fn take_room(&mut self) -> Result<Vec<Blob>, NoMemory>
+        ensures same { self.new ≡ self.old }
+        ensures empty { IfOk result (λ room. room.items ≡ []) }
+        ensures room { IfOk result (λ room. vec_len room < vec_capacity room) }
+    {
+        self.room.clear();
+        if self.room.reserve(1).is_err() {
+            return Err(NoMemory);
+        }
+        let none = Vec::new(*self.room.allocator());
+        Ok(mem::replace(&mut self.room, none))
+    }
+
+    /// Moves the room for the keys of a retrieval back.
+    pub(crate) fn give_room(&mut self, room: Vec<Blob>)
+        ensures same { self.new ≡ self.old }
+    {
+        drop(mem::replace(&mut self.room, room));
     }
 
     /// Ends the command in progress.

@@ -75,8 +75,8 @@ fn next_get(
     make_get(pass, store, index, key, replies)
 }
 
-// Makes the get of this key, which is the next call.
-fn make_get(
+/// Makes the get of this key, which is the next call.
+pub(crate) fn make_get(
     pass: &mut Pass,
     store: &StoreTable,
     index: u64,

@@ -6,6 +6,7 @@ ghost use Rattle.zy_rx.specs.Ring.{offering};
 ghost use Rattle.zy_conn.specs.Work.{work_of_pass, idle, has_event, texts_taken, batch_waiting};
 ghost use Rattle.zy_conn.specs.Kept.{KeepsCommands};
 
+mod direct;
 mod run;
 mod steps;
 

@@ -1,10 +1,11 @@
 //! The command of a frame.
-ghost use Rattle.std.specs.Prelude.{◌≡◌, [], IfOk, IfErr};
+ghost use Rattle.std.specs.Prelude.{◌≡◌, ◌≢◌, ℕ, Bool, List, [], ◌∷◌, IfOk, IfErr, IfSome, IfNone};
+ghost use Rattle.mc_parse.specs.declared.command.Command.TheVariants.{Get};
 ghost use Rattle.zy_frame.specs.Frame.{command_of};
 
 use crate::frame::Frame;
 use crate::frame_kind::FrameKind;
-use mc_parse::{Command, ErrorLine, parse_large, parse_read_block, parse_read_in};
+use mc_parse::{Command, ErrorLine, OneKey, one_key, parse_large, parse_read_block, parse_read_in};
 use std::alloc::Global;
 use zy_base::{Blob, NoMemory};
 
@@ -68,5 +69,20 @@ pub fn meaning_in(
             line: ErrorLine::LongLine,
             quiet: false,
         }),
+    }
+}
+
+/// Returns the key of a frame that is a retrieval of one key, a part of its line; `None` for any
+/// other frame.
+#[tactic(auto, using(mc_parse::proofs::OneKeyLemmas::other_block, mc_parse::proofs::OneKeyLemmas::other_large, mc_parse::proofs::OneKeyLemmas::other_long))]
+pub fn one_key_of(frame: &Frame) -> Result<Option<OneKey>, NoMemory>
+    ensures some { IfOk result (λ found. IfSome found (λ one. command_of frame.now
+        ≡ Get (one.key ∷ []) one.unique)) }
+    ensures none { IfOk result (λ found. IfNone found ((key : List ℕ) (unique : Bool)
+        → command_of frame.now ≢ Get (key ∷ []) unique)) }
+{
+    match &frame.kind {
+        FrameKind::Line { line } => one_key(line, &frame.parsed),
+        _ => Ok(None),
     }
 }

@@ -4,6 +4,7 @@ ghost use Rattle.zy_conn.specs.Work.{idle};
 ghost use Rattle.zy_conn.specs.Step.{IsGoing, IsAllMade, StepsOn, StopsBy};
 
 use super::Work;
+use super::direct::Begins;
 use crate::calling::Made;
 use crate::hold_end::HoldEnd;
 use mc_store::StoreTable;
@@ -42,8 +43,10 @@ impl Work {
             (λ end. (self.new.finished ≡ self.old.finished) × StopsBy self.old self.new end)) }
         ensures err { OnErr result (self.new.finished ≡ self.old.finished) }
     {
-        if let Some(stop) = self.begin(store.shards(), gate, core)? {
-            return Ok(Some(stop));
+        match self.begin(store, gate, core)? {
+            Begins::Finished => return Ok(None),
+            Begins::Stopped(stop) => return Ok(Some(stop)),
+            Begins::Going => {}
         }
         if let Some(stop) = self.make_calls(store)? {
             return Ok(Some(stop));

@@ -1,12 +1,14 @@
 //! The steps of a connection's work. A step whose allocation fails leaves the work as it was.
-ghost use Rattle.std.specs.Prelude.{◌≡◌, ◌≢◌, ◌+◌, ◌≤◌, OnOk, OnErr, IfOk, MatchOption};
+ghost use Rattle.std.specs.Prelude.{◌≡◌, ◌≢◌, ◌+◌, ◌≤◌, OnOk, OnErr, IfOk};
 ghost use Rattle.zy_calls.specs.Batch.{with_text};
 ghost use Rattle.mc_reply.specs.Text.{text};
 ghost use Rattle.mc_reply.specs.Answers.{AnswerCommand};
 ghost use Rattle.zy_conn.specs.Work.{idle};
-ghost use Rattle.zy_conn.specs.Step.{IsGoing, IsAllMade, StepsOn, StopsBy, MadeFrom};
+ghost use Rattle.zy_conn.specs.Step.{IsGoing, IsAllMade, StepsOn, MadeFrom};
+ghost use Rattle.zy_conn.specs.Direct.{BeginsTo};
 
 use super::Work;
+use super::direct::{Begins, start};
 use crate::answer::Answer;
 use crate::calling::{Made, next_call};
 use crate::hold_end::HoldEnd;
@@ -18,42 +20,45 @@ use zy_base::{COMMAND_LIMIT, Gate, NoMemory};
 use zy_calls::Batch;
 
 impl Work {
-    /// Begins the next command if none is in progress, or says why it did not. It passes the gate. The
-    /// calls of the command go to `shards` shards.
+    /// Begins the next command if none is in progress, or says why it did not. It passes the gate. A
+    /// retrieval of one key is finished, if its call is made.
     pub(crate) fn begin<G: Gate>(
         &mut self,
-        shards: u32,
+        store: &StoreTable,
         gate: &G,
         core: u32,
-    ) -> Result<Option<HoldEnd>, NoMemory>
-        requires shards { shards ≡ self.old.table.slots }
-        requires some { 1 ≤ shards }
-        requires few { shards ≤ 256 }
+    ) -> Result<Begins, NoMemory>
+        requires table { self.old.table ≡ store.now.id }
         ensures goes { StepsOn self.old self.new }
-        ensures finished { self.new.finished ≡ self.old.finished }
-        ensures begun { IfOk result (λ stop. MatchOption stop (IsGoing self.new.begun) (StopsBy self.old self.new)) }
+        ensures begun { IfOk result (BeginsTo self.old self.new) }
+        ensures err { OnErr result (self.new.finished ≡ self.old.finished) }
     {
         if self.begun.is_going() {
-            return Ok(None);
+            return Ok(Begins::Going);
         }
         if self.begun.is_alone() {
-            self.read_again(shards)?;
-            return Ok(None);
+            self.read_again(store.shards())?;
+            return Ok(Begins::Going);
         }
         if self.frames.is_empty() {
-            return Ok(Some(HoldEnd::Drained));
+            return Ok(Begins::Stopped(HoldEnd::Drained));
         }
         let index = self.batch.finished();
         if index == COMMAND_LIMIT {
-            return Ok(Some(HoldEnd::Spent));
+            return Ok(Begins::Stopped(HoldEnd::Spent));
         }
         gate.pass(core, self.pass.conn(), index);
         let frame = self.frames.take_known();
         self.replies.clear();
-        match self.begun.read(self.alloc, frame) {
-            Ok(()) => Ok(None),
-            Err(e) => Err(e),
-        }
+        start(
+            self.alloc,
+            frame,
+            store,
+            &mut self.pass,
+            &mut self.begun,
+            &mut self.replies,
+            &mut self.batch,
+        )
     }
 
     // Reads the command of the frame that is begun, after an allocation for it has failed.
