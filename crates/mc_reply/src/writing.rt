@@ -41,12 +41,7 @@ pub fn reply_text(out: &mut Blob, command: &Command, replies: &Replies) -> Resul
 
 /// Appends the text that answers a retrieval of one key with this reply. May answer `NoMemory`.
 #[tactic(auto, unfolding(crate::specs::Text::text))]
-pub fn got_text(
-    out: &mut Blob,
-    key: &Blob,
-    unique: bool,
-    reply: &CallReply,
-) -> Result<(), NoMemory>
+pub fn got_text(out: &mut Blob, key: &Blob, unique: bool, reply: &CallReply) -> Result<(), NoMemory>
     ensures ok { OnOk result (out.new ≡ out.old ++ text (Get (key.now ∷ []) unique) (reply.now ∷ [])) }
     ensures err { OnErr result (out.new ≡ out.old) }
 {
@@ -57,12 +52,7 @@ pub fn got_text(
 }
 
 // Appends the text of one key, and the end.
-fn append_item(
-    out: &mut Blob,
-    asked: bool,
-    key: &Blob,
-    reply: &CallReply,
-) -> Result<(), NoMemory>
+fn append_item(out: &mut Blob, asked: bool, key: &Blob, reply: &CallReply) -> Result<(), NoMemory>
     ensures ok { OnOk result (out.new ≡ out.old ++ (item_text asked key.now reply.now ++ line (codes "END"))) }
     ensures err { OnErr result (out.new ≡ out.old) }
 {

@@ -127,55 +127,55 @@ module _ (p q : Passed) (r r' : RingName) (taken taken' known known' : List Fram
             err = tt;
           }
 
-    module _ (begun' : Started) (batch' : Batch) where
-      -- the work as it is then
-      abbrev last : Worked
-      last = work_of_pass q r' taken' known' (start_of q.table.slots begun' replies') batch'.finished sh batch'.texts
+  module _ (replies' : List CallReply) (begun' : Started) (batch' : Batch) where
+    -- the work as it is then
+    abbrev last : Worked
+    last = work_of_pass q r' taken' known' (start_of q.table.slots begun' replies') batch'.finished sh batch'.texts
 
-      last_as : (result : Result Begins NoMemory) (start : Start) → start_of q.table.slots begun' replies' ≡ start → batch' ≡ batch → IsBegun first (with q start) result → IsBegun first last result
-      last_as result start start_is same begun =
-          subst (λ (b : Batch). IsBegun first (work_of_pass q r' taken' known' (start_of q.table.slots begun' replies') b.finished sh b.texts) result) (sym same)
-          (subst (λ y. IsBegun first (with q y) result) (sym start_is) begun)
+    last_as : (result : Result Begins NoMemory) (start : Start) → start_of q.table.slots begun' replies' ≡ start → batch' ≡ batch → IsBegun first (with q start) result → IsBegun first last result
+    last_as result start start_is same begun =
+        subst (λ (b : Batch). IsBegun first (work_of_pass q r' taken' known' (start_of q.table.slots begun' replies') b.finished sh b.texts) result) (sym same)
+        (subst (λ y. IsBegun first (with q y) result) (sym start_is) begun)
 
-      going_is : begun' ≡ command_read command → start_of q.table.slots begun' replies' ≡ going command calls replies'
-      going_is read = ap (λ b. start_of q.table.slots b replies') read ∙ ap (λ t. going command (calls_of t.slots command) replies') pass.table
+    going_is : begun' ≡ command_read command → start_of q.table.slots begun' replies' ≡ going command calls replies'
+    going_is read = ap (λ b. start_of q.table.slots b replies') read ∙ ap (λ t. going command (calls_of t.slots command) replies') pass.table
 
-      going_on : {E : Type 0} (made : Result Made E) (result : Result Begins NoMemory) → begun' ≡ command_read command → batch' ≡ batch
-          → IsMade (with p (going command calls [])) (with q (going command calls replies')) made
-          → IfOk result (BeginsTo first (with q (going command calls replies'))) → IsBegun first last result
-      going_on made result read same on to =
-          last_as result (going command calls replies') (going_is read) same (record { kept = on.kept; goes = made_on made on; to = to; err = held result })
-        where
-          held : (result : Result Begins NoMemory) → OnErr result (batch.finished ≡ batch.finished)
-          held (Ok x) = tt
-          held (Err x) = refl
+    going_on : {E : Type 0} (made : Result Made E) (result : Result Begins NoMemory) → begun' ≡ command_read command → batch' ≡ batch
+        → IsMade (with p (going command calls [])) (with q (going command calls replies')) made
+        → IfOk result (BeginsTo first (with q (going command calls replies'))) → IsBegun first last result
+    going_on made result read same on to =
+        last_as result (going command calls replies') (going_is read) same (record { kept = on.kept; goes = made_on replies' made on; to = to; err = held result })
+      where
+        held : (result : Result Begins NoMemory) → OnErr result (batch.finished ≡ batch.finished)
+        held (Ok x) = tt
+        held (Err x) = refl
 
-      read_begun : (result : Result Begins NoMemory) → IsRead p.table.slots frame p batch q begun' replies' batch' result → IsBegun first last result
-      read_begun (Ok Going) read = going_on (Err tt) (Ok Going) read.reads read.batch_is (none_made read.unmade) (tt, refl)
-      read_begun (Ok Finished) read = absurd read.reads
-      read_begun (Ok (Stopped end)) read = absurd read.reads
-      read_begun (Err none) read =
-          last_as (Err none) (raw frame) (ap (λ b. start_of q.table.slots b replies') read.reads) read.batch_is (raw_begun read.unmade.same none)
+    read_begun : (result : Result Begins NoMemory) → IsRead p.table.slots frame p batch q begun' replies' batch' result → IsBegun first last result
+    read_begun (Ok Going) read = going_on (Err tt) (Ok Going) read.reads read.batch_is (none_made replies' read.unmade) (tt, refl)
+    read_begun (Ok Finished) read = absurd read.reads
+    read_begun (Ok (Stopped end)) read = absurd read.reads
+    read_begun (Err none) read =
+        last_as (Err none) (raw frame) (ap (λ b. start_of q.table.slots b replies') read.reads) read.batch_is (raw_begun read.unmade.same none)
 
-      tried_begun : (result : Result Begins NoMemory) → IsTried p.table.slots frame p batch q begun' replies' batch' result → IsBegun first last result
-      tried_begun (Ok Going) tried = absurd tried.tries
-      tried_begun (Ok Finished) tried =
-          let alone = tried.tries.0 in
-          subst (λ (b : Batch). IsBegun first (work_of_pass q r' taken' known' (start_of q.table.slots begun' replies') b.finished sh b.texts) (Ok Finished)) (sym tried.tries.1)
-          (subst (λ y. IsBegun first (work_of_pass q r' taken' known' y (batch.finished + 1) sh (finished_with batch command replies').texts) (Ok Finished))
-          (sym (ap (λ b. start_of q.table.slots b replies') tried.begun_is)) (finished_begun tried.asked tried.only alone))
-      tried_begun (Ok (Stopped end)) tried =
-          last_as (Ok (Stopped end)) (going command calls replies') (going_is tried.begun_is) tried.tries.2
-          (stopped_begun tried.asked tried.only end (tried.asked, there tried.asked tried.only, tried.tries.0, tried.tries.1.same, tried.tries.1.none))
-      tried_begun (Err none) tried = by tried.tries.0
-        where
-          by : (IsMadeAlone batch.finished tried.asked p q replies' ⊎ IsUnmade p q replies') → IsBegun first last (Err none)
-          by (inl alone) = going_on (Ok Mades.Call) (Err none) tried.begun_is tried.tries.1 (one_made tried.asked tried.only alone) tt
-          by (inr unmade) = going_on (Err tt) (Err none) tried.begun_is tried.tries.1 (none_made unmade) tt
+    tried_begun : (result : Result Begins NoMemory) → IsTried p.table.slots frame p batch q begun' replies' batch' result → IsBegun first last result
+    tried_begun (Ok Going) tried = absurd tried.tries
+    tried_begun (Ok Finished) tried =
+        let got = tried.tries.0 in
+        subst (λ (b : Batch). IsBegun first (work_of_pass q r' taken' known' (start_of q.table.slots begun' replies') b.finished sh b.texts) (Ok Finished)) (sym tried.tries.2)
+        (subst (λ y. IsBegun first (work_of_pass q r' taken' known' y (batch.finished + 1) sh (finished_with batch command got).texts) (Ok Finished))
+        (sym (ap (λ b. start_of q.table.slots b replies') tried.begun_is)) (finished_begun got tried.asked tried.only tried.tries.1))
+    tried_begun (Ok (Stopped end)) tried =
+        last_as (Ok (Stopped end)) (going command calls replies') (going_is tried.begun_is) tried.tries.2
+        (stopped_begun replies' tried.asked tried.only end (tried.asked, there replies' tried.asked tried.only, tried.tries.0, tried.tries.1.same, tried.tries.1.none))
+    tried_begun (Err none) tried = by tried.tries.0
+      where
+        by : (IsMadeAlone batch.finished tried.asked p q replies' ⊎ IsUnmade p q replies') → IsBegun first last (Err none)
+        by (inl alone) = going_on (Ok Mades.Call) (Err none) tried.begun_is tried.tries.1 (one_made replies' tried.asked tried.only alone) tt
+        by (inr unmade) = going_on (Err tt) (Err none) tried.begun_is tried.tries.1 (none_made replies' unmade) tt
 
-      pub begun_as : (shards : ℕ) (result : Result Begins NoMemory) → shards ≡ p.table.slots → StartsTo shards frame p batch q begun' replies' batch' result → IsBegun first last result
-      begun_as shards result same starts = by (subst (λ n. StartsTo n frame p batch q begun' replies' batch' result) same starts)
-        where
-          by : StartsTo p.table.slots frame p batch q begun' replies' batch' result → IsBegun first last result
-          by (inl read) = read_begun result read
-          by (inr tried) = tried_begun result tried
+    pub begun_as : (shards : ℕ) (result : Result Begins NoMemory) → shards ≡ p.table.slots → StartsTo shards frame p batch q begun' replies' batch' result → IsBegun first last result
+    begun_as shards result same starts = by (subst (λ n. StartsTo n frame p batch q begun' replies' batch' result) same starts)
+      where
+        by : StartsTo p.table.slots frame p batch q begun' replies' batch' result → IsBegun first last result
+        by (inl read) = read_begun result read
+        by (inr tried) = tried_begun result tried

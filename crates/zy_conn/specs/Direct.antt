@@ -19,11 +19,11 @@ use Rattle.zy_conn.specs.Step.{IsGoing, IsMadeAsPart, CallStopsBy, StopsBy}
 -- ---- the only call of a command
 
 -- this call was made, as the only one of a command, and got the only reply
-pub record IsMadeAlone (index : ℕ) (asked : ShardCall) (before after : Passed) (replies' : List CallReply) : Type 0 where
+pub record IsMadeAlone (index : ℕ) (asked : ShardCall) (before after : Passed) (got : List CallReply) : Type 0 where
   pub entry : Entry
   pub part : IsMadeAsPart before.conn index 0 asked entry
   pub entered : after.calls ≡ before.calls ++ entry ∷ []
-  pub replied : replies' ≡ entry.reply ∷ []
+  pub replied : got ≡ entry.reply ∷ []
 
 -- no call was made
 pub record IsUnmade (before after : Passed) (replies' : List CallReply) : Type 0 where
@@ -39,8 +39,8 @@ module _ (command : Command) (asked : ShardCall) (before : Passed) (batch : Batc
     (replies' : List CallReply) (batch' : Batch) where
   -- the result of making its call, and of appending its text
   abbrev pub TriesTo : Result Begins NoMemory → Type 0
-  TriesTo (Ok Finished) =
-      IsMadeAlone batch.finished asked before after replies' × (batch' ≡ finished_with batch command replies')
+  TriesTo (Ok Finished) = (got : List CallReply) × IsMadeAlone batch.finished asked before after got
+      × (batch' ≡ finished_with batch command got)
   TriesTo (Ok Going) = ⊥
   TriesTo (Ok (Stopped end)) =
       CallStopsBy asked before after end × IsUnmade before after replies' × (batch' ≡ batch)
