@@ -95,7 +95,7 @@ module _ (p q : Passed) (r r' : RingName) (taken taken' known known' : List Fram
     made_on : {E : Type 0} (made : Result Made E) → IsMade (with p (going command calls [])) (with q (going command calls replies')) made → StepsOn first (with q (going command calls replies'))
     made_on made on = goes_on first (with p (going command calls [])) (with q (going command calls replies')) (goes_to (going command calls [])) on.goes
 
-    none_made : IsUnmade p q replies' → IsMade (with p (going command calls [])) (with q (going command calls replies')) (Err tt)
+    none_made : IsUnmade p q replies' → IsMade {E = Unit {0}} (with p (going command calls [])) (with q (going command calls replies')) (Err tt)
     none_made unmade = is_made p q r' taken' known' (going command calls []) batch.finished sh batch.texts command calls [] replies' kept_going refl pass (Err tt) (unmade.same, unmade.none)
 
     module _ (asked : ShardCall) (only : calls ≡ asked ∷ []) where
@@ -151,7 +151,7 @@ module _ (p q : Passed) (r r' : RingName) (taken taken' known known' : List Fram
         held (Err x) = refl
 
     read_begun : (result : Result Begins NoMemory) → IsRead p.table.slots frame p batch q begun' replies' batch' result → IsBegun first last result
-    read_begun (Ok Going) read = going_on (Err tt) (Ok Going) read.reads read.batch_is (none_made replies' read.unmade) (tt, refl)
+    read_begun (Ok Going) read = going_on {E = Unit {0}} (Err tt) (Ok Going) read.reads read.batch_is (none_made replies' read.unmade) (tt, refl)
     read_begun (Ok Finished) read = absurd read.reads
     read_begun (Ok (Stopped end)) read = absurd read.reads
     read_begun (Err none) read =
@@ -171,7 +171,7 @@ module _ (p q : Passed) (r r' : RingName) (taken taken' known known' : List Fram
       where
         by : (IsMadeAlone batch.finished tried.asked p q replies' ⊎ IsUnmade p q replies') → IsBegun first last (Err none)
         by (inl alone) = going_on (Ok Mades.Call) (Err none) tried.begun_is tried.tries.1 (one_made replies' tried.asked tried.only alone) tt
-        by (inr unmade) = going_on (Err tt) (Err none) tried.begun_is tried.tries.1 (none_made replies' unmade) tt
+        by (inr unmade) = going_on {E = Unit {0}} (Err tt) (Err none) tried.begun_is tried.tries.1 (none_made replies' unmade) tt
 
     pub begun_as : (shards : ℕ) (result : Result Begins NoMemory) → shards ≡ p.table.slots → StartsTo shards frame p batch q begun' replies' batch' result → IsBegun first last result
     begun_as shards result same starts = by (subst (λ n. StartsTo n frame p batch q begun' replies' batch' result) same starts)

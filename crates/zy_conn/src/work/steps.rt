@@ -32,12 +32,14 @@ impl Work {
         ensures goes { StepsOn self.old self.new }
         ensures begun { IfOk result (BeginsTo self.old self.new) }
         ensures err { OnErr result (self.new.finished ≡ self.old.finished) }
+        ensures shards { store.now.shards ≡ self.new.table.slots }
     {
+        let shards = store.shards();
         if self.begun.is_going() {
             return Ok(Begins::Going);
         }
         if self.begun.is_alone() {
-            self.read_again(store.shards())?;
+            self.read_again(shards)?;
             return Ok(Begins::Going);
         }
         if self.frames.is_empty() {
