@@ -1,8 +1,10 @@
 -- The text that answers a meta command with its reply (docs/PROFILE.md, "Answers"; memcached's protocol.txt, "Meta
 -- Commands"). What the flag `q` hides is this project's own rule.
-use Rattle.std.specs.Prelude.{ℕ, Bool, ◌==◌, if◌then◌else◌, List, [], ◌∷◌, ◌++◌, length, codes, decimal, Option, None, Some}
+use Rattle.std.specs.Prelude.{ℕ, Bool, ◌==◌, if◌then◌else◌, List, [], ◌∷◌, ◌++◌, length, codes, decimal, Option, None}
+use Rattle.std.specs.Prelude.{Some}
 use Rattle.mc_calls.specs.declared.call_reply.CallReply.{CallReply}
-use Rattle.mc_calls.specs.declared.call_reply.CallReply.TheVariants.{Miss, Hit, Stored, NotStored, Exists, NotFound, Deleted, TooLarge}
+use Rattle.mc_calls.specs.declared.call_reply.CallReply.TheVariants.{Miss, Hit, Stored, NotStored, Exists, NotFound}
+use Rattle.mc_calls.specs.declared.call_reply.CallReply.TheVariants.{Deleted, TooLarge}
 use Rattle.mc_meta.specs.Flags.{is_among}
 use Rattle.mc_parse.specs.Saying.{About, a_found, a_stored, a_removed}
 use Rattle.mc_reply.specs.declared.marks.Found.{Found}
