@@ -1,5 +1,6 @@
 -- Holds: which holds a connection can have, what a hold records, and why it ends.
-use Rattle.std.specs.Prelude.{◌≡◌, ◌≢◌, ◌⊎◌, ℕ, ◌+◌, ◌-◌, ◌<◌, ◌≤◌, ◌^◌, List, [], ◌∷◌, ◌++◌, length, Option, None, Some, IsSome, slice_get}
+use Rattle.std.specs.Prelude.{◌≡◌, ◌≢◌, ◌⊎◌, ℕ, ◌+◌, ◌-◌, ◌<◌, ◌≤◌, ◌^◌, List, [], ◌∷◌, ◌++◌, length, Option, None}
+use Rattle.std.specs.Prelude.{Some, IsSome, slice_get}
 use Rattle.mc_calls.specs.declared.hold.Hold.{Hold}
 use Rattle.mc_calls.specs.Held.{held_in}
 use Rattle.mc_parse.specs.declared.shard_call.ShardCall.{ShardCall}
