@@ -20,8 +20,8 @@ use Rattle.zygos_judge.specs.declared.finding.Reason.TheVariants.{Kind, Unmet, S
 
 -- ---- what is judged
 
--- the bytes are a capture and a replies file, one after the other, and `Holds` holds of their recording, by a server that
--- may have been so
+-- the bytes are a capture and a replies file, one after the other, and `Holds` holds of their recording, by a server
+-- that may have been so
 pub record OfRecording (rules : Rules) (bytes : List ℕ) (Holds : Recorded → Type 0) : Type 0 where
   pub streams : List (List (List ℕ))
   pub outputs : AllOutputs

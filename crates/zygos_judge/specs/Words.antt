@@ -25,7 +25,8 @@ with_shards told word = if is_some told.shards then None
 abbrev pub with_option : Told → List ℕ → Option Told
 with_option told word =
     if bytes_eq word (codes "--warm") then (if told.warm then None else Some (record told { warm = true }))
-    else (if bytes_eq word (codes "--may-forget") then (if told.forget then None else Some (record told { forget = true }))
+    else (if bytes_eq word (codes "--may-forget")
+    then (if told.forget then None else Some (record told { forget = true }))
     else (if bytes_eq word (codes "--shards") then Some (record told { waits = true }) else None))
 
 -- one more word is read
@@ -53,8 +54,8 @@ abbrev pub rules_told : Told → Option Rules
 rules_told told = if told.waits then None
     else Some (record { shards = shards_or told.shards; warm = told.warm; forget = told.forget })
 
--- what the words request: `--warm`, `--may-forget` and `--shards N`, in any order, each at most once; `None` if they are
--- not valid
+-- what the words request: `--warm`, `--may-forget` and `--shards N`, in any order, each at most once; `None` if they
+-- are not valid
 abbrev pub rules_asked : List (List ℕ) → Option Rules
 rules_asked words = option_and_then rules_told (told_after nothing_told words)
 

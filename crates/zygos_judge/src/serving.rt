@@ -2,7 +2,8 @@
 ghost use Rattle.std.specs.Prelude.{◌≡◌, ◌≤◌, ℕ, None, Ok, Err, ⊤};
 ghost use Rattle.zy_base.specs.Outside.{Rose};
 ghost use Rattle.zy_read.specs.Seen.{side, both_sides, NoneRose, OfGiven, OfTold, WasWritten};
-ghost use Rattle.zy_shell.specs.declared.failure.Failure.TheVariants.{Usage, Refused as Rejected, ReadFault, WriteFault};
+ghost use Rattle.zy_shell.specs.declared.failure.Failure.TheVariants.{Usage, Refused as Rejected, ReadFault};
+ghost use Rattle.zy_shell.specs.declared.failure.Failure.TheVariants.{WriteFault};
 ghost use Rattle.zy_shell.specs.Asked.{IsFaultOf, ReadsInput, IsToldGood, IsToldBad};
 ghost use Rattle.zy_shell.specs.Failure.{LeavesSink, IsThisOr};
 ghost use Rattle.zy_shell.specs.Finish.{FinishesOnce};
