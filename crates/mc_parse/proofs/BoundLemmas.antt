@@ -2,7 +2,7 @@
 use Rattle.std.specs.Prelude.{◌&&◌, if◌then◌else◌, filter, Option, None, Some, not}
 use Rattle.std.specs.List.{AllByRecursion, list_all, range_with_len}
 use Rattle.std.proofs.Common.{◌≡◌, ℕ, zero, suc, ◌+◌, ◌<◌, ◌≤◌, List, [], ◌∷◌, length, map, Bool, true, false, refl, sym, subst, arith, ◌-◌, drop, length-take}
-use Rattle.std.specs.Prelude.{IfSome}
+use Rattle.std.specs.Prelude.{IfSome, ⊤}
 use Rattle.std.proofs.lemmas.List.{length-drop}
 use borrow.Author.Tests.{leb-true}
 use Rattle.mc_calls.specs.declared.call.Call.{Call}
@@ -83,7 +83,7 @@ all_keys (word ∷ ws) some short =
 
 -- the keys of what a line says are within their bounds
 abbrev IsForm : Form → Type 0
-IsForm (faulty line) = Unit {0}
+IsForm (faulty line) = ⊤
 IsForm (asks ask quiet) = AllByRecursion IsKey (ask_keys ask)
 
 found_form : (name : Name) (ws : List (List ℕ)) (ask : Option Ask) (fault : ErrorLine) (quiet : Bool) → AllByRecursion IsKey (keys_among name ws) → IfSome ask (Reads name ws) → IsForm (find ask fault (λ a. asks a quiet))
@@ -183,7 +183,7 @@ alone_keys ask quiet is = is
 -- a deed has a value within its bound
 abbrev HasFewBytes : Deed → Type 0
 HasFewBytes (makes_one call) = IfSome (call_value call) IsValue
-HasFewBytes deed = Unit {0}
+HasFewBytes deed = ⊤
 
 -- without a block there is none
 alone_bytes : (ask : Ask) (quiet : Bool) → HasFewBytes (deed_of (alone_command ask quiet))

@@ -1,5 +1,5 @@
 -- Which commands, and which expected calls, are within their bounds.
-use Rattle.std.specs.Prelude.{ℕ, ◌<◌}
+use Rattle.std.specs.Prelude.{ℕ, ◌<◌, ⊤}
 use Rattle.std.specs.List.{AllByRecursion}
 use Rattle.mc_calls.specs.Bounds.{IsKey, IsCall}
 use Rattle.mc_parse.specs.declared.command.Command.{Command}
@@ -13,13 +13,13 @@ use Rattle.mc_parse.specs.Calls.{Due}
 abbrev pub IsDeed : Deed → Type 0
 IsDeed (makes_one call) = IsCall call
 IsDeed (gets_each keys) = AllByRecursion IsKey keys
-IsDeed deed = Unit {0}
+IsDeed deed = ⊤
 
 -- the keys that an answer shows are within their bounds
 abbrev pub IsShown : Saying → Type 0
 IsShown (says_items keys unique) = AllByRecursion IsKey keys
 IsShown (says_marks about key letters) = IsKey key
-IsShown says = Unit {0}
+IsShown says = ⊤
 
 -- the keys and the value of a command are within their bounds
 abbrev pub IsCommand : Command → Type 0

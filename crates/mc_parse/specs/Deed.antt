@@ -1,7 +1,7 @@
 -- What a command does on the shards, and what answers it (docs/PROFILE.md, "Calls" and "Answers"). Its calls, its keys,
 -- their bounds and their number depend only on the first; its text, the size of that and what it shows only on the
 -- second.
-use Rattle.std.specs.Prelude.{ℕ, Bool, true, false, List}
+use Rattle.std.specs.Prelude.{ℕ, Bool, true, false, List, ⊤}
 use Rattle.mc_calls.specs.declared.call.Call.{Call}
 use Rattle.mc_calls.specs.declared.call.Call.TheVariants.{Get as GetCall, Set as SetCall, Add as AddCall}
 use Rattle.mc_calls.specs.declared.call.Call.TheVariants.{Replace as ReplaceCall, Append as AppendCall}
@@ -107,4 +107,4 @@ is_unsaid says = false
 abbrev pub IsOnce : Deed → Type 0
 IsOnce (gets_each keys) = ⊥
 IsOnce (makes_on_all made) = ⊥
-IsOnce deed = Unit {0}
+IsOnce deed = ⊤

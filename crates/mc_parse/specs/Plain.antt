@@ -1,6 +1,6 @@
 -- Which keys a command calls, and which commands are plain: their calls have keys, and they neither
 -- show nor compare a unique.
-use Rattle.std.specs.Prelude.{◌≡◌, ℕ, ◌<◌, true, false, List, [], ◌∷◌, flat_map, Option, None, Some}
+use Rattle.std.specs.Prelude.{◌≡◌, ℕ, ◌<◌, true, false, List, [], ◌∷◌, flat_map, Option, None, Some, ⊤}
 use Rattle.std.specs.List.{AllByRecursion, Contains}
 use Rattle.mc_calls.specs.Call.{key_of}
 use Rattle.mc_calls.specs.Key.{shard_of}
@@ -46,13 +46,13 @@ unique_letter = 99
 abbrev pub IsSteadyDeed : Deed → Type 0
 IsSteadyDeed (makes_one call) = IsSteady call
 IsSteadyDeed (makes_on_all made) = ⊥
-IsSteadyDeed deed = Unit {0}
+IsSteadyDeed deed = ⊤
 
 -- an answer shows no unique
 abbrev pub HidesUniques : Saying → Type 0
 HidesUniques (says_items keys true) = ⊥
 HidesUniques (says_marks a_found key letters) = is_among letters unique_letter ≡ false
-HidesUniques says = Unit {0}
+HidesUniques says = ⊤
 
 -- the command is no `gets`, no `cas`, no `flush_all`, no `stats`, no `mg` with `c` and no `ms` with `C`
 abbrev pub IsPlain : Command → Type 0
@@ -71,11 +71,11 @@ IsOwnMeta IsOwn (meta_gets key flags) = (is_among flags unique_letter ≡ false)
 IsOwnMeta IsOwn (meta_stores verb key flags bytes marks) = IsOwn key
 IsOwnMeta IsOwn (meta_exchanges key flags bytes unique marks) = ⊥
 IsOwnMeta IsOwn (meta_deletes key flags) = IsOwn key
-IsOwnMeta IsOwn ask = Unit {0}
+IsOwnMeta IsOwn ask = ⊤
 
 -- each of some keys has this property
 abbrev pub AreOwn : (List ℕ → Type 0) → List (List ℕ) → Type 0
-AreOwn IsOwn [] = Unit {0}
+AreOwn IsOwn [] = ⊤
 AreOwn IsOwn (key ∷ []) = IsOwn key
 AreOwn IsOwn keys = AllByRecursion IsOwn keys
 
@@ -90,7 +90,7 @@ IsOwnAsk IsOwn ask = AreOwn IsOwn (ask_keys ask)
 
 -- what a line says is plain, and each of its keys has this property
 abbrev pub IsOwnForm : (List ℕ → Type 0) → Form → Type 0
-IsOwnForm IsOwn (faulty line) = Unit {0}
+IsOwnForm IsOwn (faulty line) = ⊤
 IsOwnForm IsOwn (asks ask quiet) = IsOwnAsk IsOwn ask
 
 -- ---- calls
