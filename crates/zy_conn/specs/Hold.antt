@@ -1,6 +1,6 @@
 -- Holds: which holds a connection can have, what a hold records, and why it ends.
 use Rattle.std.specs.Prelude.{◌≡◌, ◌≢◌, ◌⊎◌, ℕ, ◌+◌, ◌-◌, ◌<◌, ◌≤◌, ◌^◌, List, [], ◌∷◌, ◌++◌, length, Option, None}
-use Rattle.std.specs.Prelude.{Some, IsSome, slice_get}
+use Rattle.std.specs.Prelude.{Some, IsSome, slice_get, ⊤}
 use Rattle.mc_calls.specs.declared.hold.Hold.{Hold}
 use Rattle.mc_calls.specs.Held.{held_in}
 use Rattle.mc_parse.specs.declared.shard_call.ShardCall.{ShardCall}
@@ -22,7 +22,7 @@ pub record IsHoldOf (cores connection : ℕ) (hold : Hold) : Type 0 where
 
 -- each is a hold of this connection by one of these cores
 abbrev pub EachIsHold : ℕ → ℕ → List Hold → Type 0
-EachIsHold cores connection [] = Unit {0}
+EachIsHold cores connection [] = ⊤
 EachIsHold cores connection (hold ∷ holds) = IsHoldOf cores connection hold × EachIsHold cores connection holds
 
 -- the holds, by at most 64 cores, of a connection with `finished` finished commands

@@ -1,6 +1,6 @@
 -- What a connection's work keeps: the commands of the frames taken are executed in order, each
 -- expected call is made once, and each text is written once.
-use Rattle.std.specs.Prelude.{◌≡◌, ℕ, ◌<◌, ◌≤◌, ◌^◌, List, [], ◌∷◌, ◌++◌, length, take}
+use Rattle.std.specs.Prelude.{◌≡◌, ℕ, ◌<◌, ◌≤◌, ◌^◌, List, [], ◌∷◌, ◌++◌, length, take, ⊤}
 use Rattle.mc_calls.specs.declared.call_reply.CallReply.{CallReply}
 use Rattle.mc_calls.specs.Kind.{AreAnswers}
 use Rattle.mc_calls.specs.Replies.{replies_at}
@@ -42,8 +42,8 @@ pub record IsGoingOn (shards : ℕ) (command : Command) (calls : List ShardCall)
 
 -- if the command in progress has its calls, they and the replies are its own
 abbrev pub IsBegunCommand : ℕ → Start → Type 0
-IsBegunCommand shards idle = Unit {0}
-IsBegunCommand shards (raw frame) = Unit {0}
+IsBegunCommand shards idle = ⊤
+IsBegunCommand shards (raw frame) = ⊤
 IsBegunCommand shards (going command calls replies) = IsGoingOn shards command calls replies
 
 -- ---- the work

@@ -1,5 +1,5 @@
 -- The steps of a connection's work. No public clause cites this module.
-use Rattle.std.specs.Prelude.{◌≡◌, ◌⊎◌, ℕ, ◌+◌, ◌-◌, ◌≤◌, ◌^◌, List, [], ◌∷◌, ◌++◌, length, Some, slice_get}
+use Rattle.std.specs.Prelude.{◌≡◌, ◌⊎◌, ℕ, ◌+◌, ◌-◌, ◌≤◌, ◌^◌, List, [], ◌∷◌, ◌++◌, length, Some, slice_get, ⊤}
 use Rattle.mc_calls.specs.declared.call_reply.CallReply.{CallReply}
 use Rattle.mc_calls.specs.declared.entry.Entry.{Entry}
 use Rattle.mc_calls.specs.Kind.{MayAnswer}
@@ -21,7 +21,7 @@ use Rattle.zy_conn.specs.Hold.{IsCallSpent, IsCommandSpent, FoundBusy}
 abbrev pub IsGoing : Start → Type 0
 IsGoing idle = ⊥
 IsGoing (raw frame) = ⊥
-IsGoing (going command calls replies) = Unit {0}
+IsGoing (going command calls replies) = ⊤
 
 -- each of its calls was made
 abbrev pub IsAllMade : Start → Type 0
