@@ -1,5 +1,5 @@
 -- What is found of the outputs of a recording.
-use Rattle.std.specs.Prelude.{◌≡◌, ℕ, Bool, List}
+use Rattle.std.specs.Prelude.{◌≡◌, ℕ, Bool, List, ⊤}
 use Rattle.mc_kind.specs.Cutting.{IsRefutedAt}
 use Rattle.zy_capture.specs.declared.record.Record.{Record}
 use Rattle.zy_capture.specs.Outputs.{AllOutputs}
@@ -33,14 +33,14 @@ abbrev pub IsObserving : Recorded → Observing → Type 0
 IsObserving r (Kind conn session index) = (IsExplained r → ⊥) × IsRefutedByOutput r conn session index
 IsObserving r (Surplus conn session) = IsExplained r → ⊥
 IsObserving r (EarlyEnd moment) = IsExplained r → ⊥
-IsObserving r (Other conn session index) = Unit {0}
+IsObserving r (Other conn session index) = ⊤
 IsObserving r (Calls calls) = AreShown r calls.items
 
 -- a finding of one session, as what is found of all outputs
 abbrev pub IsFoundBy : Finding → Observing → Type 0
 IsFoundBy (Findings.Kind conn session index) (Kind own_conn own_session own_index) =
     (own_conn ≡ conn) × (own_session ≡ session) × (own_index ≡ index)
-IsFoundBy (Findings.Surplus conn session) (Surplus own_conn own_session) = Unit {0}
-IsFoundBy (Findings.EarlyEnd moment) (EarlyEnd own) = Unit {0}
-IsFoundBy (Findings.Other conn session index) (Other own_conn own_session own_index) = Unit {0}
+IsFoundBy (Findings.Surplus conn session) (Surplus own_conn own_session) = ⊤
+IsFoundBy (Findings.EarlyEnd moment) (EarlyEnd own) = ⊤
+IsFoundBy (Findings.Other conn session index) (Other own_conn own_session own_index) = ⊤
 IsFoundBy finding observing = ⊥

@@ -1,6 +1,6 @@
 -- What is found of the sessions of a recording, one after another. No public clause cites this module.
 use Rattle.std.specs.Prelude.{◌≡◌, ◌⊎◌, ℕ, zero, suc, ◌+◌, ◌<◌, Bool, true, List, [], ◌++◌, length}
-use Rattle.std.specs.Prelude.{Option, None, Some}
+use Rattle.std.specs.Prelude.{Option, None, Some, ⊤}
 use Rattle.std.specs.List.{slice_get}
 use Rattle.mc_allows.specs.declared.call_name.CallName.{CallName}
 use Rattle.mc_kind.specs.declared.text.Text.{Text}
@@ -25,7 +25,7 @@ use Rattle.zy_outputs.specs.Observing.{IsRefutedByOutput}
 
 -- a recording with a refuted output is not explained
 abbrev pub IsRefuting : Recorded → Finding → Type 0
-IsRefuting r (Other conn session index) = Unit {0}
+IsRefuting r (Other conn session index) = ⊤
 IsRefuting r (Kind conn session index) = (IsExplained r → ⊥) × IsRefutedByOutput r conn session index
 IsRefuting r finding = IsExplained r → ⊥
 
@@ -36,7 +36,7 @@ IsDone r old new named (Some finding) = IsRefuting r finding
 
 -- the command may have been answered in a way that is not followed
 abbrev pub IsOther : Option Finding → Type 0
-IsOther (Some (Other conn session index)) = Unit {0}
+IsOther (Some (Other conn session index)) = ⊤
 IsOther found = ⊥
 
 -- the first of two findings, or one that is not followed
@@ -94,7 +94,7 @@ HasOutputs r outputs = r.outputs ≡ outputs.sessions
 
 -- a number of outputs of a connection that is there is greater than that of its sessions
 abbrev pub HasSurplus : Type 0 → ℕ → ℕ → Option Finding → Type 0
-HasSurplus IsThere outputs count None = Unit {0}
+HasSurplus IsThere outputs count None = ⊤
 HasSurplus IsThere outputs count (Some (Surplus conn session)) = IsThere × (count < outputs)
 HasSurplus IsThere outputs count (Some finding) = ⊥
 
