@@ -1,8 +1,10 @@
 -- What the first answer shows of the cuts of an output.
 use Rattle.std.proofs.Common.{◌≡◌, ◌⊎◌, inl, inr, ⊎_elim, ℕ, zero, suc, add-one, ◌+◌, ◌-◌, ◌<◌, ◌≤◌, List, [], ◌∷◌, ◌++◌, length, take, drop, get_or, slice_get, Some, refl, ap, sym, ◌∙◌, subst, append_assoc, arith}
 use Rattle.std.specs.List.{concat, slice_index_or}
+use mathlib.Core.Logic.{dite}
+use native.Mathlib.Decide.{dec_lt}
 use Rattle.std.proofs.Math.Seq.{take-append_seam}
-use Rattle.std.proofs.lemmas.List.{append-nil, drop_more, drop_all, drop-drop, drop-append-le, take_more, length-append, length-drop}
+use Rattle.std.proofs.lemmas.List.{append-nil, drop_more, drop_all, take_all, drop-drop, drop-append-le, take_more, length-append, length-drop}
 use Rattle.std.proofs.lemmas.List.Folds.{concat-append}
 use Rattle.std.proofs.lemmas.Option.{slice_get_read}
 use Rattle.mc_parse.specs.declared.command.Command.{Command}
@@ -11,7 +13,7 @@ use Rattle.mc_answers.specs.Answer.{IsAnswer, IsSomeAnswer, AreSomeAnswers}
 use Rattle.mc_answers.specs.Kinds.{IsErrorLine}
 use Rattle.mc_answers.specs.Output.{Cut, FitsText, IsOverLine, IsCut, text_at}
 use Rattle.mc_kind.specs.First.{IsWhole, IsRefused}
-use Rattle.mc_kind.specs.Cutting.{text_in, StandsIn, AreTexts, BeginOutput, IsRefutedAt, HasNoCut, HasText, HasTexts, HasNoMore, AreFirstTexts, AreAllTexts}
+use Rattle.mc_kind.specs.Cutting.{text_in, StandsIn, AreTexts, BeginOutput, IsRefutedAt, GoesOn, HasNoCut, HasText, HasTexts, HasNoMore, AreFirstTexts, AreAllTexts}
 use Rattle.mc_kind.specs.declared.text.Text.{Text}
 
 -- ---- a cut by its parts
@@ -361,7 +363,7 @@ module _ (commands : List Command) (output : List ℕ) (index at : ℕ) (texts :
   pub all_of_all : index ≡ length commands → AreAllTexts commands output texts
   all_of_all last cut c = no_more cut (ap concat (no_texts last cut c))
 
-  pub surplus_no_cut : index ≡ length commands → (drop at output ≡ [] → ⊥) → (IsErrorLine (drop at output) → ⊥) → HasNoCut commands output
+  surplus_no_cut : index ≡ length commands → (drop at output ≡ [] → ⊥) → (IsErrorLine (drop at output) → ⊥) → HasNoCut commands output
   surplus_no_cut last some other cut c =
       let to = k.cuts cut c in
       let rest = to.rest in
@@ -371,3 +373,12 @@ module _ (commands : List Command) (output : List ℕ) (index at : ℕ) (texts :
       go : drop at output ≡ cut.left → (cut.left ≡ []) ⊎ IsOverLine (drop index commands) (parted (drop index cut.texts) cut.left) → ⊥
       go left (inl none) = some (left ∙ none)
       go left (inr over) = other (subst IsErrorLine (sym left) over.line)
+
+  pub goes_on_here : index ≡ length commands → (drop at output ≡ [] → ⊥) → (IsErrorLine (drop at output) → ⊥) → GoesOn commands output
+  goes_on_here last some other = record {
+    uncut = surplus_no_cut last some other;
+    at = at;
+    some = dite (dec_lt at (length output)) (λ before. before) (λ past. absurd (some (drop_all at output (omega (arith, past)))));
+    answers = λ own begin. k.ends own (subst (λ (cs : List Command). BeginOutput cs output own) (sym (take_all index commands (omega (arith, last)))) begin);
+    other = other;
+  }

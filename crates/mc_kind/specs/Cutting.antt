@@ -4,6 +4,7 @@ use Rattle.std.specs.List.{concat}
 use Rattle.mc_parse.specs.declared.command.Command.{Command}
 use Rattle.mc_allows.specs.declared.said.Said.{Said}
 use Rattle.mc_answers.specs.Answer.{IsAnswer, IsSomeAnswer, AreSomeAnswers}
+use Rattle.mc_answers.specs.Kinds.{IsErrorLine}
 use Rattle.mc_answers.specs.Output.{Cut, IsCut, FitsText, text_at}
 use Rattle.mc_kind.specs.declared.cutting.Cutting.{Cutting}
 use Rattle.mc_kind.specs.declared.cutting.Cutting.TheVariants.{Kind, Surplus, Other, All, Front}
@@ -50,6 +51,15 @@ pub record IsRefutedAt (commands : List Command) (output : List ℕ) (index : �
   pub before : (texts : List (List ℕ)) → BeginOutput (take index commands) output texts → length (concat texts) ≡ at
   pub none : NoneFits (IsSomeAnswer command) (drop at output)
 
+-- an output goes on after its answers: it has no cut, all answers of the commands with which it may begin end at one
+-- offset before its end, and what is left there is not an error line alone
+pub record GoesOn (commands : List Command) (output : List ℕ) : Type 0 where
+  pub uncut : HasNoCut commands output
+  pub at : ℕ
+  pub some : at < length output
+  pub answers : (texts : List (List ℕ)) → BeginOutput commands output texts → length (concat texts) ≡ at
+  pub other : IsErrorLine (drop at output) → ⊥
+
 -- a cut has these bytes for the command with this index; if they are some, they are its answer
 pub record HasText (commands : List Command) (cut : Cut) (i : ℕ) (bytes : List ℕ) : Type 0 where
   pub is : text_at cut i ≡ bytes
@@ -73,10 +83,11 @@ AreFirstTexts commands output texts = (cut : Cut) → IsCut commands output cut 
 abbrev pub AreAllTexts : List Command → List ℕ → List Text → Type 0
 AreAllTexts commands output texts = (cut : Cut) → IsCut commands output cut → HasNoMore (length texts) cut
 
--- a refuted output has no cut, and is refuted at the command that is named; each cut has the texts that are found
+-- a refuted output has no cut: it is refuted at the command that is named, or goes on after its answers; each cut has
+-- the texts that are found
 abbrev pub IsCutting : List Command → List ℕ → Cutting → Type 0
 IsCutting commands output (Kind index) = HasNoCut commands output × IsRefutedAt commands output index
-IsCutting commands output Surplus = HasNoCut commands output
+IsCutting commands output Surplus = GoesOn commands output
 IsCutting commands output (Other index) = ⊤
 IsCutting commands output (All texts) =
     AreTexts commands output texts × AreFirstTexts commands output texts × AreAllTexts commands output texts

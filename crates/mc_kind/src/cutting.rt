@@ -27,7 +27,7 @@ pub enum Cutting {
 }
 
 /// Finds the answers of a session's commands in its output, or the first command that the output refutes.
-#[tactic(auto, using(crate::proofs::CutLemmas::knows_nothing, crate::proofs::CutLemmas::surplus_no_cut))]
+#[tactic(auto, using(crate::proofs::CutLemmas::knows_nothing))]
 pub fn cut_session(alloc: Global, commands: &[Command], output: &[u8]) -> Result<Cutting, NoMemory>
     ensures value { IfOk result (IsCutting commands.now output.now) }
 {

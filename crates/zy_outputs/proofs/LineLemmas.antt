@@ -2,7 +2,7 @@
 use Rattle.std.proofs.Common.{◌≡◌, ◌⊎◌, inl, inr, ℕ, add-one, ◌+◌, ◌<◌, ◌≤◌, Bool, List, [], ◌++◌, length, Option, None, Some, refl, sym, ap, ◌∙◌, subst, append-nil, arith}
 use Rattle.std.specs.List.{slice_get, slice_index_or}
 use Rattle.mc_allows.specs.declared.call_name.CallName.{CallName}
-use Rattle.mc_kind.specs.Cutting.{HasNoCut, IsRefutedAt}
+use Rattle.mc_kind.specs.Cutting.{HasNoCut, IsRefutedAt, GoesOn}
 use Rattle.mc_parse.specs.declared.command.Command.{Command}
 use Rattle.zy_capture.specs.declared.record.Record.{Record}
 use Rattle.zy_capture.specs.Outputs.{AllOutputs}
@@ -13,7 +13,7 @@ use Rattle.zy_sessions.specs.declared.line.Line.{Line}
 use Rattle.zy_sessions.specs.declared.sessions.Sessions.{Sessions}
 use Rattle.zy_sessions.specs.Sessions.{LineHolds, SessionsHold, HasNothing}
 use Rattle.zy_sessions.proofs.OtherLemmas.{within_or_nothing}
-use Rattle.zy_verdict.specs.Recorded.{Recorded, session_commands, output_of}
+use Rattle.zy_verdict.specs.Recorded.{Recorded, session_commands, output_of, HaveSessions}
 use Rattle.zy_verdict.specs.Entries.{NamedCall}
 use Rattle.zy_verdict.specs.Explained.{IsExplained}
 use Rattle.zy_observed.specs.Shown.{AreShown}
@@ -23,9 +23,9 @@ use Rattle.zy_outputs.specs.declared.observing.Observing.{Observing}
 use Rattle.zy_outputs.specs.declared.observing.Observing.TheVariants as Observings
 use Rattle.zy_outputs.specs.declared.rules.Rules.{Rules}
 use Rattle.zy_outputs.specs.Adding.{Obeys, AddsShown}
-use Rattle.zy_outputs.specs.Observing.{recorded_of, IsRefutedByOutput, IsObserving, IsFoundBy}
+use Rattle.zy_outputs.specs.Observing.{recorded_of, IsRefutedByOutput, IsStray, IsSurplus, IsEarlyEnd, IsObserving, IsFoundBy}
 use Rattle.zy_outputs.specs.Telling.{IsTold}
-use Rattle.zy_outputs.specs.Sessions.{IsRefuting, IsDone, IsOther, IsFirstOf, HasSurplus, HasOutputs, session_calls, line_calls, all_calls, SessionIsDone, LineIsDone, LinesAreDone}
+use Rattle.zy_outputs.specs.Sessions.{IsRefuting, IsDone, IsOther, IsFirstOf, IsOutputFound, HasOutputs, session_calls, line_calls, all_calls, SessionIsDone, LineIsDone, LinesAreDone}
 use Rattle.zy_outputs.proofs.AddingLemmas.{adds_none, adds_on}
 use Rattle.zy_outputs.proofs.AllLemmas.{IsAmong, all_shown}
 use Rattle.zy_outputs.proofs.SessionLemmas.{uncut_refutes}
@@ -55,12 +55,27 @@ module _ (r : Recorded) where
   done_by old new named found next result one two is = subst (λ (l : List NamedCall). IsDone r old new l result) (append-nil named) (done_on old new new named [] found next result one two is)
 
   -- an output that has no session
-  pub surplus_done : (IsThere : Type 0) (outputs count : ℕ) (calls : List Observed) (found : Option Finding) → HasSurplus IsThere outputs count found → (IsThere → count < outputs → IsExplained r → ⊥) → IsDone r calls calls [] found
-  surplus_done IsThere outputs count calls None has refutes = adds_none r calls
-  surplus_done IsThere outputs count calls (Some (Kind conn session index)) has refutes = absurd has
-  surplus_done IsThere outputs count calls (Some (Surplus conn session)) has refutes = refutes has.0 has.1
-  surplus_done IsThere outputs count calls (Some (EarlyEnd moment)) has refutes = absurd has
-  surplus_done IsThere outputs count calls (Some (Other conn session index)) has refutes = absurd has
+  stray_refutes : (conn session : ℕ) → IsStray r conn session → IsExplained r → ⊥
+  stray_refutes conn session stray explained = let by = explained.1.1 in go by.sessions stray.missing
+    where
+      go : HaveSessions r → (r.count ≤ conn) ⊎ (closes conn r.records < session) → ⊥
+      go have (inl past) = let few = have.connections in let line = stray.line in omega (arith, few, line, past)
+      go have (inr past) = let few = have.sessions conn stray.line in let there = stray.there in omega (arith, few, there, past)
+
+  pub surplus_done : (outputs : AllOutputs) (conn session : ℕ) (calls : List Observed) (found : Option Finding) → IsOutputFound outputs conn session found → HasOutputs r outputs
+      → (r.count ≤ conn) ⊎ (closes conn r.records < session) → IsDone r calls calls [] found
+  surplus_done outputs conn session calls None is has missing = adds_none r calls
+  surplus_done outputs conn session calls (Some (Kind own_conn own_session index)) is has missing = absurd is
+  surplus_done outputs conn session calls (Some (Surplus own_conn own_session)) is has missing =
+      let stray : IsStray r conn session = record {
+        line = subst (λ (all : List (List (List ℕ))). conn < length all) (sym has) is.2.line;
+        there = subst (λ (all : List (List (List ℕ))). session < length (sessions_of all conn)) (sym has) is.2.there;
+        missing = missing;
+      } in
+      subst (λ (own : ℕ). (IsExplained r → ⊥) × IsSurplus r own own_session) (sym is.0)
+      (subst (λ (own : ℕ). (IsExplained r → ⊥) × IsSurplus r conn own) (sym is.1) (stray_refutes conn session stray, inr stray))
+  surplus_done outputs conn session calls (Some (EarlyEnd mark)) is has missing = absurd is
+  surplus_done outputs conn session calls (Some (Other own_conn own_session index)) is has missing = absurd is
 
 -- ---- a session
 
@@ -73,8 +88,11 @@ module _ (rules : Rules) (name : CallName) (s : Session) (output : List ℕ) (ol
         (subst (λ (own : List ℕ). IsRefutedAt s.commands.items own index) is.output_is cut.1),
   )
 
-  pub surplus_output_done : HasNoCut s.commands.items output → SessionIsDone rules name s output old new (Some (Surplus name.conn name.session))
-  surplus_output_done none r obeys is = uncut_refutes r name.conn name.session s output is.holds is.output_is none
+  pub surplus_output_done : GoesOn s.commands.items output → SessionIsDone rules name s output old new (Some (Surplus name.conn name.session))
+  surplus_output_done goes r obeys is = (
+    uncut_refutes r name.conn name.session s output is.holds is.output_is goes.uncut,
+    inl (subst (λ (cs : List Command). GoesOn cs (output_of r name.conn name.session)) is.holds.commands (subst (λ (own : List ℕ). GoesOn s.commands.items own) is.output_is goes)),
+  )
 
 -- ---- a connection
 
@@ -97,19 +115,12 @@ module _ (rules : Rules) (conn : ℕ) (line : Line) (outputs : AllOutputs) (old 
       (done_on r old now new (line_calls r conn session) (session_calls r conn session) found next result (k r obeys has holds) own first)
 
   -- no session is left
-  pub line_ends : (next result : Option Finding) → session ≡ length line.sessions.items → HasSurplus (conn < length outputs.sessions) (length (sessions_of outputs.sessions conn)) (length line.sessions.items) next
-      → IsFirstOf found next result → LineIsDone rules conn line outputs old now result
+  pub line_ends : (next result : Option Finding) → session ≡ length line.sessions.items → IsOutputFound outputs conn (length line.sessions.items) next → IsFirstOf found next result → LineIsDone rules conn line outputs old now result
   line_ends next result last surplus first r obeys has holds =
       let number : session ≡ closes conn r.records + 1 = last ∙ holds.count in
-      let refutes : conn < length outputs.sessions → length line.sessions.items < length (sessions_of outputs.sessions conn) → IsExplained r → ⊥ = λ there more explained.
-      let by = explained.1.1 in
-      let sessions = by.sessions in
-      let here : conn < length r.outputs = subst (λ (all : List (List (List ℕ))). conn < length all) (sym has) there in
-      let few = subst (λ (all : List (List (List ℕ))). length (sessions_of all conn) ≤ closes conn r.records + 1) has (sessions.sessions conn here) in
-      let count = holds.count in
-      omega (arith, few, count, more) in
+      let past : closes conn r.records < length line.sessions.items = let count = holds.count in omega (arith, count) in
       subst (λ (n : ℕ). IsDone r old now (line_calls r conn n) result) number
-      (done_by r old now (line_calls r conn session) found next result (k r obeys has holds) (surplus_done r (conn < length outputs.sessions) (length (sessions_of outputs.sessions conn)) (length line.sessions.items) now next surplus refutes) first)
+      (done_by r old now (line_calls r conn session) found next result (k r obeys has holds) (surplus_done r outputs conn (length line.sessions.items) now next surplus has (inr past)) first)
 
 -- ---- all connections
 
@@ -130,15 +141,10 @@ module _ (rules : Rules) (lines : List Line) (outputs : AllOutputs) (old now : L
       (done_on r old now new (all_calls r conn) (line_calls r conn (closes conn r.records + 1)) found next result (k r obeys has count holds) (done r obeys has (holds conn line is)) first)
 
   -- no connection is left
-  pub lines_end : (next result : Option Finding) → conn ≡ length lines → HasSurplus (1 ≤ 1) (length outputs.sessions) (length lines) next → IsFirstOf found next result → LinesAreDone rules lines outputs old now result
+  pub lines_end : (next result : Option Finding) → conn ≡ length lines → IsOutputFound outputs (length lines) 0 next → IsFirstOf found next result → LinesAreDone rules lines outputs old now result
   lines_end next result last surplus first r obeys has count holds =
-      let refutes : 1 ≤ 1 → length lines < length outputs.sessions → IsExplained r → ⊥ = λ one more explained.
-      let by = explained.1.1 in
-      let sessions = by.sessions in
-      let few = subst (λ (all : List (List (List ℕ))). length all ≤ r.count) has sessions.connections in
-      omega (arith, few, count, more) in
       subst (λ (n : ℕ). IsDone r old now (all_calls r n) result) (last ∙ count)
-      (done_by r old now (all_calls r conn) found next result (k r obeys has count holds) (surplus_done r (1 ≤ 1) (length outputs.sessions) (length lines) now next surplus refutes) first)
+      (done_by r old now (all_calls r conn) found next result (k r obeys has count holds) (surplus_done r outputs (length lines) 0 now next surplus has (inl (omega (arith, count)))) first)
 
 -- ---- the whole recording
 
@@ -154,13 +160,16 @@ found_by r (Kind conn session index) (Observings.EarlyEnd moment) is refutes = a
 found_by r (Kind conn session index) (Observings.Other own_conn own_session own_index) is refutes = tt
 found_by r (Kind conn session index) (Observings.Calls calls) is refutes = absurd is
 found_by r (Surplus conn session) (Observings.Kind own_conn own_session own_index) is refutes = absurd is
-found_by r (Surplus conn session) (Observings.Surplus own_conn own_session) is refutes = refutes
+found_by r (Surplus conn session) (Observings.Surplus own_conn own_session) is refutes = (
+  refutes.0,
+  subst (λ (own : ℕ). IsSurplus r own own_session) (sym is.0) (subst (λ (own : ℕ). IsSurplus r conn own) (sym is.1) refutes.1),
+)
 found_by r (Surplus conn session) (Observings.EarlyEnd moment) is refutes = absurd is
 found_by r (Surplus conn session) (Observings.Other own_conn own_session own_index) is refutes = tt
 found_by r (Surplus conn session) (Observings.Calls calls) is refutes = absurd is
 found_by r (EarlyEnd moment) (Observings.Kind own_conn own_session own_index) is refutes = absurd is
 found_by r (EarlyEnd moment) (Observings.Surplus own_conn own_session) is refutes = absurd is
-found_by r (EarlyEnd moment) (Observings.EarlyEnd own) is refutes = refutes
+found_by r (EarlyEnd mark) (Observings.EarlyEnd own_mark) is refutes = (refutes.0, subst (IsEarlyEnd r) (sym is) refutes.1)
 found_by r (EarlyEnd moment) (Observings.Other own_conn own_session own_index) is refutes = tt
 found_by r (EarlyEnd moment) (Observings.Calls calls) is refutes = absurd is
 found_by r (Other conn session index) (Observings.Kind own_conn own_session own_index) is refutes = absurd is

@@ -1,5 +1,5 @@
 -- What the texts and times of a session show of its commands.
-use Rattle.std.proofs.Common.{◌≡◌, ◌⊎◌, inl, inr, ℕ, add-one, ◌+◌, ◌-◌, ◌<◌, ◌≤◌, nat_lt, not, Bool, true, false, List, [], ◌∷◌, ◌++◌, length, take, drop, Option, None, Some, refl, sym, ap, ◌∙◌, subst, append_assoc, append-nil, arith}
+use Rattle.std.proofs.Common.{◌≡◌, ◌⊎◌, inl, inr, ℕ, add-one, ◌+◌, ◌-◌, ◌<◌, ◌≤◌, nat_lt, not, Bool, true, false, List, [], ◌∷◌, ◌++◌, length, take, drop, map, Option, None, Some, refl, sym, ap, ◌∙◌, subst, append_assoc, append-nil, arith}
 use Rattle.std.specs.List.{slice_get}
 use Rattle.std.proofs.lemmas.List.{length-take-le, length-drop, length-map, take_all}
 use Rattle.std.proofs.lemmas.Bool.{ltb-true, ltb-false}
@@ -17,19 +17,20 @@ use Rattle.zy_check.proofs.ListLemmas.{take_one}
 use Rattle.zy_refute.specs.declared.observed.Observed.{Observed}
 use Rattle.zy_sessions.specs.declared.session.Session.{Session}
 use Rattle.zy_sessions.specs.Sessions.{SessionHolds}
-use Rattle.zy_times.specs.Sessions.{marks_at}
+use Rattle.zy_times.specs.Sessions.{marks_at, MarksFitIn}
 use Rattle.zy_times.specs.Times.{trues, number_if}
-use Rattle.zy_verdict.specs.Recorded.{Recorded, output_of}
+use Rattle.zy_verdict.specs.Recorded.{Recorded, session_commands, output_of}
 use Rattle.zy_verdict.specs.Entries.{NamedCall, name_at, named_parts, named_from}
 use Rattle.zy_verdict.specs.Explained.{OutputCuts, AreCuts, answered_by_cut, IsExplained}
 use Rattle.zy_verdict.specs.Course.{IsBeforeAnswer}
 use Rattle.zy_outputs.specs.declared.rules.Rules.{Rules}
 use Rattle.zy_outputs.specs.declared.finding.Finding.{Finding}
 use Rattle.zy_outputs.specs.Adding.{Obeys, IsSeen, EachFits, AddsShown, AddsCalls}
+use Rattle.zy_outputs.specs.Observing.{IsEarlyEnd}
 use Rattle.zy_outputs.specs.Texts.{bytes_if, known_bytes, has_bytes_if, may_have_bytes, IsSureBelow}
 use Rattle.zy_outputs.specs.Sessions.{seen_by, session_calls, IsSession, IsDone, IsEarlyMark, IsEarlyAt, SessionAdds}
 use Rattle.zy_outputs.proofs.AddingLemmas.{past_end, adds_none, adds_on}
-use Rattle.zy_outputs.proofs.TimeLemmas.{flags_more, not_sent_before, mark_above, mark_in_end, early_never, last_never}
+use Rattle.zy_outputs.proofs.TimeLemmas.{flags_more, not_sent_before, mark_rises, mark_above, mark_in_end, early_never, last_never}
 
 -- ---- texts
 
@@ -44,39 +45,56 @@ text_empty output text none =
     let e : text.to - text.from ≡ 0 = omega (arith, few) in
     ap (λ (n : ℕ). take n (drop text.from output)) e
 
+-- the output of a session is cut so
+abbrev pub IsCutOf : Recorded → ℕ → ℕ → Cut → Type 0
+IsCutOf r conn session cut = IsCut (session_commands r conn session) (output_of r conn session) cut
+
 -- in each cut at most this number of the commands before an index are answered
 abbrev pub Counts : Recorded → ℕ → ℕ → ℕ → ℕ → Type 0
-Counts r conn session index before = (cuts : OutputCuts) → AreCuts r cuts → trues (take index (answered_by_cut cuts conn session)) ≤ before
+Counts r conn session index before = (cut : Cut) → IsCutOf r conn session cut → trues (take index (map has_bytes cut.texts)) ≤ before
 
 -- ---- a session
 
 module _ (r : Recorded) (conn session : ℕ) (s : Session) (output : List ℕ) (holds : SessionHolds r.records conn session s) (output_is : output ≡ output_of r conn session) where
   -- the session's own cut
-  own_cut : (cuts : OutputCuts) → AreCuts r cuts → IsCut s.commands.items output (cuts conn session)
-  own_cut cuts cut = subst (λ (o : List ℕ). IsCut s.commands.items o (cuts conn session)) (sym output_is)
-      (subst (λ (cs : List Command). IsCut cs (output_of r conn session) (cuts conn session)) (sym holds.commands) (cut conn session))
+  own_cut : (cut : Cut) → IsCutOf r conn session cut → IsCut s.commands.items output cut
+  own_cut cut c = subst (λ (o : List ℕ). IsCut s.commands.items o cut) (sym output_is) (subst (λ (cs : List Command). IsCut cs (output_of r conn session) cut) (sym holds.commands) c)
 
   -- an output without a cut
   pub uncut_refutes : ((cut : Cut) → IsCut s.commands.items output cut → ⊥) → IsExplained r → ⊥
-  uncut_refutes none explained = let by = explained.1.1 in none (explained.0 conn session) (own_cut explained.0 by.cut)
+  uncut_refutes none explained = let by = explained.1.1 in none (explained.0 conn session) (own_cut (explained.0 conn session) (by.cut conn session))
+
+  -- a mark that does not fit
+  never_refutes : (mark : ℕ) → ((cut : Cut) → IsCutOf r conn session cut → MarksFitIn r.records conn session (map has_bytes cut.texts) mark → ⊥) → IsExplained r → ⊥
+  never_refutes mark never explained = let by = explained.1.1 in never (explained.0 conn session) (by.cut conn session) (by.fit conn session mark)
+
+  mark_refutes : (before m : ℕ) → slice_get s.marks.items before ≡ Some m → ((cut : Cut) → IsCutOf r conn session cut → MarksFitIn r.records conn session (map has_bytes cut.texts) m → ⊥) → (IsExplained r → ⊥) × IsEarlyEnd r (m - 1)
+  mark_refutes before m is_mark never =
+      let rise = mark_rises r.records conn session s.sent.items s.marks.items holds.sent holds.marks before m is_mark in
+      let next : m ≡ m - 1 + 1 = let some = rise.0 in omega (arith, some) in (
+        never_refutes m never,
+        record {
+          conn = conn;
+          session = session;
+          is = subst (λ (n : ℕ). marks_at r.records conn session (m - 1) < marks_at r.records conn session n) next rise.1;
+          early = λ cut c fit. never cut c (subst (MarksFitIn r.records conn session (map has_bytes cut.texts)) (sym next) fit);
+        },
+      )
 
   -- a mark that comes before its command
-  pub early_refutes : (index before own m : ℕ) → Counts r conn session index before → slice_get s.sent.items index ≡ Some own → slice_get s.marks.items before ≡ Some m → m < own → IsExplained r → ⊥
-  early_refutes index before own m counts is_own is_mark early explained =
-      let by = explained.1.1 in
-      early_never r.records conn session s.sent.items s.marks.items holds.sent holds.marks (answered_by_cut explained.0 conn session) index before own m
-      (counts explained.0 by.cut) is_own is_mark early (by.fit conn session m)
+  pub early_refutes : (index before own m : ℕ) → Counts r conn session index before → slice_get s.sent.items index ≡ Some own → slice_get s.marks.items before ≡ Some m → m < own → (IsExplained r → ⊥) × IsEarlyEnd r (m - 1)
+  early_refutes index before own m counts is_own is_mark early = mark_refutes before m is_mark (λ cut c fit.
+      early_never r.records conn session s.sent.items s.marks.items holds.sent holds.marks (map has_bytes cut.texts) index before own m (counts cut c) is_own is_mark early fit)
 
   -- a mark after those of all commands
-  pub late_refutes : (index before m : ℕ) → length s.commands.items ≤ index → Counts r conn session index before → slice_get s.marks.items before ≡ Some m → IsExplained r → ⊥
-  late_refutes index before m past counts is_mark explained =
-      let by = explained.1.1 in
-      let cut = own_cut explained.0 by.cut in
-      let size = cut.size in
-      let long : length (answered_by_cut explained.0 conn session) ≡ length (explained.0 conn session).texts = length-map (explained.0 conn session).texts has_bytes in
-      let whole : take index (answered_by_cut explained.0 conn session) ≡ answered_by_cut explained.0 conn session = take_all index (answered_by_cut explained.0 conn session) (omega (arith, size, long, past)) in
-      last_never r.records conn session s.sent.items s.marks.items holds.sent holds.marks (answered_by_cut explained.0 conn session) before m
-      (subst (λ (flags : List Bool). trues flags ≤ before) whole (counts explained.0 by.cut)) is_mark (by.fit conn session m)
+  pub late_refutes : (index before m : ℕ) → length s.commands.items ≤ index → Counts r conn session index before → slice_get s.marks.items before ≡ Some m → (IsExplained r → ⊥) × IsEarlyEnd r (m - 1)
+  late_refutes index before m past counts is_mark = mark_refutes before m is_mark (λ cut c fit.
+      let own = own_cut cut c in
+      let size = own.size in
+      let long : length (map has_bytes cut.texts) ≡ length cut.texts = length-map cut.texts has_bytes in
+      let whole : take index (map has_bytes cut.texts) ≡ map has_bytes cut.texts = take_all index (map has_bytes cut.texts) (omega (arith, size, long, past)) in
+      last_never r.records conn session s.sent.items s.marks.items holds.sent holds.marks (map has_bytes cut.texts) before m
+      (subst (λ (flags : List Bool). trues flags ≤ before) whole (counts cut c)) is_mark fit)
 
   module _ (texts : List Text) (all : Bool) (stand : AreTexts s.commands.items output texts) (first : AreFirstTexts s.commands.items output texts) (rest : all ≡ true → AreAllTexts s.commands.items output texts) where
     -- a command that is not answered
@@ -86,10 +104,10 @@ module _ (r : Recorded) (conn session : ℕ) (s : Session) (output : List ℕ) (
 
     -- one more command
     pub counts_more : (index before : ℕ) → Counts r conn session index before → Counts r conn session (index + 1) (before + number_if (may_have_bytes texts all index))
-    counts_more index before counts cuts cut =
-        let old = counts cuts cut in
-        let step = flags_more (cuts conn session).texts index (may_have_bytes texts all index) (λ none. unanswered (cuts conn session) (own_cut cuts cut) index (slice_get texts index) refl none) in
-        let on = ap (λ (n : ℕ). trues (take n (answered_by_cut cuts conn session))) (add-one index) in
+    counts_more index before counts cut c =
+        let old = counts cut c in
+        let step = flags_more cut.texts index (may_have_bytes texts all index) (λ none. unanswered cut (own_cut cut c) index (slice_get texts index) refl none) in
+        let on = ap (λ (n : ℕ). trues (take n (map has_bytes cut.texts))) (add-one index) in
         omega (arith, old, step, on)
 
     -- a text with bytes
@@ -107,7 +125,7 @@ module _ (r : Recorded) (conn session : ℕ) (s : Session) (output : List ℕ) (
     before_answer index part sure (inl none) below cuts cut = absurd (omega (arith, none, below))
     before_answer index part sure (inr last) below cuts cut =
         let number = last.last in
-        let has = first (cuts conn session) (own_cut cuts cut) last.index last.text last.is in
+        let has = first (cuts conn session) (own_cut (cuts conn session) (cut conn session)) last.index last.text last.is in
         record { index = last.index; from = omega (arith, number, below); answered = λ none. text_some last.text last.index last.is last.some (sym has.is ∙ none) }
 
     -- what is seen of a command
@@ -123,13 +141,13 @@ module _ (r : Recorded) (conn session : ℕ) (s : Session) (output : List ℕ) (
     seen_command index part before own sure command (Some m) is is_own is_mark counts last = record {
       is = subst (λ (cs : List Command). slice_get cs index ≡ Some command) holds.commands is;
       sure = λ below cuts cut. inl (
-          let few = counts cuts cut in
+          let few = counts (cuts conn session) (cut conn session) in
           let above = mark_in_end r.records conn session s.sent.items s.marks.items holds.sent holds.marks before m (sym is_mark) in
           omega (arith, few, above));
       sent = λ moment come. not_sent_before r.records conn session s.sent.items s.marks.items holds.sent holds.marks index own moment is_own come;
       ended = λ moment there cuts cut.
           let same : m ≡ moment = cc in
-          let few = counts cuts cut in
+          let few = counts (cuts conn session) (cut conn session) in
           let above = mark_above r.records conn session s.sent.items s.marks.items holds.sent holds.marks before m (sym is_mark) in
           subst (λ (n : ℕ). trues (take index (answered_by_cut cuts conn session)) < marks_at r.records conn session n) same (omega (arith, few, above));
     }
@@ -139,7 +157,7 @@ module _ (r : Recorded) (conn session : ℕ) (s : Session) (output : List ℕ) (
         → EachFits r (name_at conn session index part) command (λ (saids : List Said). (bytes_if output text ≡ []) ⊎ IsAnswer command saids (bytes_if output text))
     fits_if index part command is None there cuts cut saids fits = inl refl
     fits_if index part command is (Some text) there cuts cut saids fits =
-        let has = first (cuts conn session) (own_cut cuts cut) index text there in
+        let has = first (cuts conn session) (own_cut (cuts conn session) (cut conn session)) index text there in
         has.whole command saids is fits
 
     pub fits_known : (index part : ℕ) (command : Command) → slice_get s.commands.items index ≡ Some command

@@ -1,5 +1,5 @@
 -- What the times of a session show of its commands, and which marks come too early.
-use Rattle.std.proofs.Common.{◌≡◌, ℕ, zero, suc, ◌+◌, ◌<◌, ◌≤◌, Bool, true, false, List, [], ◌∷◌, length, take, map, Some, refl, arith}
+use Rattle.std.proofs.Common.{◌≡◌, ℕ, zero, suc, ◌+◌, ◌-◌, ◌<◌, ◌≤◌, Bool, true, false, List, [], ◌∷◌, length, take, map, Some, refl, ap, arith}
 use Rattle.std.specs.List.{slice_get, slice_index_or}
 use mathlib.Core.Logic.{dite}
 use native.Mathlib.Decide.{dec_lt}
@@ -55,6 +55,17 @@ module _ (records : List Record) (conn session : ℕ) (sent marks : List ℕ) (a
   -- at the moment of a mark more marks had come than before it
   pub mark_above : (before m : ℕ) → slice_get marks before ≡ Some m → before < marks_at records conn session m
   mark_above before m is = (are_marks.each before m is).1.above
+
+  none_first : (m : ℕ) → m ≡ 0 → marks_at records conn session m ≡ 0
+  none_first m none = ap (marks_at records conn session) none
+
+  -- a mark comes with the last record before its moment
+  pub mark_rises : (before m : ℕ) → slice_get marks before ≡ Some m → (0 < m) × (marks_at records conn session (m - 1) < marks_at records conn session m)
+  mark_rises before m is =
+      let above = mark_above before m is in
+      let some : 0 < m = dite (dec_lt 0 m) (λ some. some) (λ none. let z = none_first m (omega (arith, none)) in absurd (omega (arith, above, z))) in
+      let few = (are_marks.each before m is).1.first (m - 1) (omega (arith, some)) in
+      (some, omega (arith, few, above))
 
   -- all marks had come in the end
   pub mark_in_end : (before m : ℕ) → slice_get marks before ≡ Some m → before < marks_at records conn session (length records)

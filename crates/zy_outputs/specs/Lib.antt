@@ -1,5 +1,6 @@
 pub mod Adding
 pub mod Observing
+pub mod Others
 pub mod Sessions
 pub mod Showing
 pub mod Telling

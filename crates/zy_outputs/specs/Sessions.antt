@@ -1,12 +1,12 @@
 -- What is found of the sessions of a recording, one after another. No public clause cites this module.
-use Rattle.std.specs.Prelude.{◌≡◌, ◌⊎◌, ℕ, zero, suc, ◌+◌, ◌<◌, Bool, true, List, [], ◌++◌, length}
+use Rattle.std.specs.Prelude.{◌≡◌, ◌⊎◌, ℕ, zero, suc, ◌+◌, ◌-◌, ◌<◌, Bool, true, List, [], ◌++◌, length}
 use Rattle.std.specs.Prelude.{Option, None, Some, ⊤}
 use Rattle.std.specs.List.{slice_get}
 use Rattle.mc_allows.specs.declared.call_name.CallName.{CallName}
 use Rattle.mc_kind.specs.declared.text.Text.{Text}
 use Rattle.mc_kind.specs.Cutting.{AreFirstTexts, AreAllTexts}
 use Rattle.zy_capture.specs.Outputs.{AllOutputs}
-use Rattle.zy_capture.specs.Streams.{closes}
+use Rattle.zy_capture.specs.Streams.{closes, sessions_of}
 use Rattle.zy_refute.specs.declared.observed.Observed.{Observed}
 use Rattle.zy_sessions.specs.declared.session.Session.{Session}
 use Rattle.zy_sessions.specs.declared.line.Line.{Line}
@@ -19,7 +19,7 @@ use Rattle.zy_outputs.specs.declared.finding.Finding.TheVariants.{Kind, Surplus,
 use Rattle.zy_outputs.specs.declared.rules.Rules.{Rules}
 use Rattle.zy_outputs.specs.declared.seen.Seen.{Seen}
 use Rattle.zy_outputs.specs.Adding.{Obeys, AddsShown}
-use Rattle.zy_outputs.specs.Observing.{IsRefutedByOutput}
+use Rattle.zy_outputs.specs.Observing.{IsRefutedByOutput, IsSurplus, IsEarlyEnd}
 
 -- ---- findings
 
@@ -27,7 +27,8 @@ use Rattle.zy_outputs.specs.Observing.{IsRefutedByOutput}
 abbrev pub IsRefuting : Recorded → Finding → Type 0
 IsRefuting r (Other conn session index) = ⊤
 IsRefuting r (Kind conn session index) = (IsExplained r → ⊥) × IsRefutedByOutput r conn session index
-IsRefuting r finding = IsExplained r → ⊥
+IsRefuting r (Surplus conn session) = (IsExplained r → ⊥) × IsSurplus r conn session
+IsRefuting r (EarlyEnd mark) = (IsExplained r → ⊥) × IsEarlyEnd r mark
 
 -- something is found, or these calls are added to a list
 abbrev pub IsDone : Recorded → List Observed → List Observed → List NamedCall → Option Finding → Type 0
@@ -49,10 +50,10 @@ abbrev pub IsEarlyMark : ℕ → Option ℕ → Type 0
 IsEarlyMark sent None = ⊥
 IsEarlyMark sent (Some moment) = moment < sent
 
--- a mark that comes too early is found
+-- the mark that had come first at a moment is found, as too early
 abbrev pub IsEarlyAt : Option ℕ → Option Finding → Type 0
 IsEarlyAt None found = found ≡ None
-IsEarlyAt (Some moment) found = found ≡ Some (EarlyEnd moment)
+IsEarlyAt (Some moment) found = found ≡ Some (EarlyEnd (moment - 1))
 
 -- ---- a session
 
@@ -92,11 +93,17 @@ line_calls r conn (suc session) = line_calls r conn session ++ session_calls r c
 abbrev pub HasOutputs : Recorded → AllOutputs → Type 0
 HasOutputs r outputs = r.outputs ≡ outputs.sessions
 
--- a number of outputs of a connection that is there is greater than that of its sessions
-abbrev pub HasSurplus : Type 0 → ℕ → ℕ → Option Finding → Type 0
-HasSurplus IsThere outputs count None = ⊤
-HasSurplus IsThere outputs count (Some (Surplus conn session)) = IsThere × (count < outputs)
-HasSurplus IsThere outputs count (Some finding) = ⊥
+-- the replies have an output of this session
+pub record HasOutput (outputs : AllOutputs) (conn session : ℕ) : Type 0 where
+  pub line : conn < length outputs.sessions
+  pub there : session < length (sessions_of outputs.sessions conn)
+
+-- the output of this session is found, if there is one
+abbrev pub IsOutputFound : AllOutputs → ℕ → ℕ → Option Finding → Type 0
+IsOutputFound outputs conn session None = HasOutput outputs conn session → ⊥
+IsOutputFound outputs conn session (Some (Surplus own_conn own_session)) =
+    (own_conn ≡ conn) × (own_session ≡ session) × HasOutput outputs conn session
+IsOutputFound outputs conn session (Some finding) = ⊥
 
 -- the calls of a connection are added, or something is found of an output
 abbrev pub LineIsDone : Rules → ℕ → Line → AllOutputs → List Observed → List Observed → Option Finding → Type 0

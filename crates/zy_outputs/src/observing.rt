@@ -1,12 +1,12 @@
 //! All calls of a recording, with what its outputs show.
-ghost use Rattle.std.specs.Prelude.{◌≡◌, ◌≤◌, ◌<◌, ◌⊎◌, ℕ, [], List, Bool, Some, length, IfOk};
+ghost use Rattle.std.specs.Prelude.{◌≡◌, ◌≤◌, ◌⊎◌, ℕ, [], List, Bool, Some, IfOk};
 ghost use Rattle.std.specs.List.{slice_index_or};
 ghost use Rattle.zy_capture.specs.Streams.{sessions_of};
 ghost use Rattle.zy_capture.specs.declared.record.Record.{Record};
 ghost use Rattle.zy_sessions.specs.Sessions.{SessionsHold};
 ghost use Rattle.zy_outputs.specs.Observing.{recorded_of, IsObserving, IsFoundBy};
 ghost use Rattle.zy_outputs.specs.Telling.{IsTold};
-ghost use Rattle.zy_outputs.specs.Sessions.{LineIsDone, LinesAreDone, HasSurplus, IsFirstOf, IsOther};
+ghost use Rattle.zy_outputs.specs.Sessions.{LineIsDone, LinesAreDone, IsOutputFound, IsFirstOf, IsOther};
 
 use crate::finding::Finding;
 use crate::rules::Rules;
@@ -126,7 +126,7 @@ fn observe_lines(
         let next = observe_line(alloc, rules, conn as u32, &lines[conn], outputs, calls)?;
         found = first_of(found, next);
     }
-    let next = surplus_line(lines.len(), outputs);
+    let next = surplus_session(lines.len() as u32, 0, outputs);
     Ok(first_of(found, next))
 }
 
@@ -177,30 +177,14 @@ fn output_in(outputs: &Outputs, conn: u32, session: usize) -> &[u8]
     }
 }
 
-// Finds an output of a connection that has no session; the connection has this number of sessions.
-fn surplus_session(conn: u32, count: usize, outputs: &Outputs) -> Option<Finding>
-    ensures value { HasSurplus (conn < length outputs.now.sessions)
-        (length (sessions_of outputs.now.sessions conn)) count result }
+// Finds the output of this session, which the capture does not have.
+fn surplus_session(conn: u32, session: usize, outputs: &Outputs) -> Option<Finding>
+    ensures value { IsOutputFound outputs.now conn session result }
 {
-    if conn < outputs.count() && count < outputs.sessions(conn) as usize {
+    if conn < outputs.count() && session < outputs.sessions(conn) as usize {
         Some(Finding::Surplus {
             conn,
-            session: count as u64,
-        })
-    } else {
-        None
-    }
-}
-
-// Finds an output of a connection that the capture does not have; it has this number of connections.
-fn surplus_line(count: usize, outputs: &Outputs) -> Option<Finding>
-    requires few { count ≤ 4294967295 }
-    ensures value { HasSurplus (1 ≤ 1) (length outputs.now.sessions) count result }
-{
-    if count < outputs.count() as usize {
-        Some(Finding::Surplus {
-            conn: count as u32,
-            session: 0,
+            session: session as u64,
         })
     } else {
         None

@@ -119,13 +119,14 @@ fn add_commands(
     Ok(early_end(moment_at(&session.marks, before)))
 }
 
-// Says that a mark, if there is one, comes too early.
+// Says that the mark that had come first at a moment, if there is one, comes too early.
 fn early_end(mark: Option<u32>) -> Option<Finding>
     ensures value { IsEarlyAt mark result }
 {
     match mark {
-        Some(record) => Some(Finding::EarlyEnd {
-            record: record as u64,
+        // The last record that had come at a moment has a number one lower.
+        Some(moment) => Some(Finding::EarlyEnd {
+            record: moment.saturating_sub(1) as u64,
         }),
         None => None,
     }

@@ -6,7 +6,7 @@ use Rattle.zy_capture.specs.Outputs.{AllOutputs, AreOutputs}
 use Rattle.zy_explain.specs.declared.rules.Rules.{Rules}
 use Rattle.zy_explain.specs.Judged.{judged}
 use Rattle.zy_input.specs.Recording.{IsMadeOfRecording}
-use Rattle.zy_outputs.specs.Observing.{IsRefutedByOutput}
+use Rattle.zy_outputs.specs.Observing.{IsRefutedByOutput, IsSurplus, IsEarlyEnd}
 use Rattle.zy_times.specs.InTime.{total_below}
 use Rattle.zy_verdict.specs.Recorded.{Recorded, session_commands}
 use Rattle.zy_verdict.specs.Entries.{NamedCall, is_at_key}
@@ -16,12 +16,12 @@ use Rattle.zy_verdict.specs.Numbers.{IsExplainedWith}
 use Rattle.zygos_judge.specs.declared.finding.Finding.{Finding}
 use Rattle.zygos_judge.specs.declared.finding.Finding.TheVariants.{Explained, Refuted, Unknown}
 use Rattle.zygos_judge.specs.declared.finding.Reason.{Reason}
-use Rattle.zygos_judge.specs.declared.finding.Reason.TheVariants.{Kind, Unmet, Shared}
+use Rattle.zygos_judge.specs.declared.finding.Reason.TheVariants.{Kind, Surplus, EarlyEnd, Unmet, Shared}
 
 -- ---- what is judged
 
--- the bytes are a capture and a replies file, one after the other, and `Holds` holds of their recording, by a server
--- that may have been so
+-- the bytes are a capture and a replies file, one after the other, and `Holds` holds of their recording, by a server that
+-- may have been so
 pub record OfRecording (rules : Rules) (bytes : List ℕ) (Holds : Recorded → Type 0) : Type 0 where
   pub streams : List (List (List ℕ))
   pub outputs : AllOutputs
@@ -72,9 +72,10 @@ pub record IsRefutedCommand (r : Recorded) (conn command : ℕ) : Type 0 where
 -- what each reason says besides
 abbrev pub HasReason : Recorded → Reason → Type 0
 HasReason r (Kind conn command) = IsRefutedCommand r conn command
+HasReason r (Surplus conn session) = IsSurplus r conn session
+HasReason r (EarlyEnd mark) = IsEarlyEnd r mark
 HasReason r (Unmet conn command part) = IsWithoutCourse r conn command part
 HasReason r (Shared conn command part) = IsWithoutCourse r conn command part
-HasReason r reason = ⊤
 
 -- the definition of each finding
 abbrev pub HasFinding : Recorded → Finding → Type 0

@@ -1,5 +1,5 @@
 -- What the arguments request: the number of shards of the server that was recorded, and what that may have been.
-use Rattle.std.specs.Prelude.{◌≡◌, ℕ, ◌≤◌, ◌&&◌, nat_le, Bool, true, false, List, [], ◌∷◌, length, codes}
+use Rattle.std.specs.Prelude.{ℕ, ◌≤◌, ◌&&◌, nat_le, true, false, List, [], ◌∷◌, length, codes}
 use Rattle.std.specs.Prelude.{Option, None, Some, is_some, if◌then◌else◌, option_and_then, option_map}
 use Rattle.std.specs.Str.{bytes_eq}
 use Rattle.zy_base.specs.Number.{number_of}
@@ -25,8 +25,7 @@ with_shards told word = if is_some told.shards then None
 abbrev pub with_option : Told → List ℕ → Option Told
 with_option told word =
     if bytes_eq word (codes "--warm") then (if told.warm then None else Some (record told { warm = true }))
-    else (if bytes_eq word (codes "--may-forget")
-    then (if told.forget then None else Some (record told { forget = true }))
+    else (if bytes_eq word (codes "--may-forget") then (if told.forget then None else Some (record told { forget = true }))
     else (if bytes_eq word (codes "--shards") then Some (record told { waits = true }) else None))
 
 -- one more word is read
@@ -54,8 +53,8 @@ abbrev pub rules_told : Told → Option Rules
 rules_told told = if told.waits then None
     else Some (record { shards = shards_or told.shards; warm = told.warm; forget = told.forget })
 
--- what the words request: `--warm`, `--may-forget` and `--shards N`, in any order, each at most once; `None` if they
--- are not valid
+-- what the words request: `--warm`, `--may-forget` and `--shards N`, in any order, each at most once; `None` if they are
+-- not valid
 abbrev pub rules_asked : List (List ℕ) → Option Rules
 rules_asked words = option_and_then rules_told (told_after nothing_told words)
 

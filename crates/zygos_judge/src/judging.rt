@@ -14,15 +14,14 @@ ghost use Rattle.zygos_judge.specs.Finding.{HasFinding};
 ghost use Rattle.zygos_judge.specs.Input.{FindsIn};
 
 use crate::finding::{Finding, Open, Reason};
-use crate::naming::{command_number, first_other};
+use crate::naming::{command_number, first_other, name_of};
 use crate::refuting::refute;
-use mc_allows::CallName;
 use std::alloc::Global;
 use zy_base::{Items, NoMemory, Source};
 use zy_capture::Outputs;
 use zy_explain::{First, Numbers, Rules, confirm};
 use zy_find::{Began, Found};
-use zy_input::{Stop, read_recording};
+use zy_input::{Noted, NotedRecording, Stop, read_recording};
 use zy_outputs::{Observing, observe};
 use zy_refute::Observed;
 use zy_sessions::Sessions;
@@ -38,8 +37,15 @@ pub(crate) fn find<S: Source>(alloc: Global, rules: Rules, source: &mut S) -> Re
     ensures ends { FindsIn rules (side S.rest S.faults source.old source.new) result }
 {
     let recording = read_recording::<Sessions, S>(alloc, source)?;
-    let found = judge(alloc, rules, &recording.capture.notes, &recording.outputs);
-    drop(recording);
+    let NotedRecording {
+        capture: Noted { streams, notes },
+        outputs,
+    } = recording;
+    // The notes have all that is judged.
+    drop(streams);
+    let found = judge(alloc, rules, &notes, &outputs);
+    drop(notes);
+    drop(outputs);
     Ok(found?)
 }
 
@@ -92,10 +98,7 @@ fn judge_observed(
         Observing::Surplus { conn, session } => {
             Ok(Finding::Refuted(Reason::Surplus { conn, session }))
         }
-        // It is named by the moment at which it had come: the number of records up to it.
-        Observing::EarlyEnd { record } => Ok(Finding::Refuted(Reason::EarlyEnd {
-            record: record.saturating_sub(1),
-        })),
+        Observing::EarlyEnd { record } => Ok(Finding::Refuted(Reason::EarlyEnd { record })),
         Observing::Other { conn, .. } => Ok(Finding::Unknown(Open::Other { conn, command: 0 })),
     }
 }
@@ -106,13 +109,7 @@ fn kind_found(sessions: &Sessions, conn: u32, session: u64, index: u64) -> Findi
         → (IsExplained r → Prim.⊥) × IsRefutedByOutput r conn session index
         → HasFinding r result }
 {
-    let name = CallName {
-        index,
-        session,
-        conn,
-        part: 0,
-    };
-    match command_number(sessions, name) {
+    match command_number(sessions, name_of(conn, session, index)) {
         Some(command) => Finding::Refuted(Reason::Kind { conn, command }),
         None => Finding::Unknown(Open::Search {
             conn,

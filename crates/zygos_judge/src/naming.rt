@@ -1,6 +1,7 @@
 //! Commands by their numbers in their connections, over all sessions.
 ghost use Rattle.std.specs.Prelude.{◌≡◌, ℕ, length, IfSome};
 ghost use Rattle.zy_sessions.specs.Sessions.{SessionsHold};
+ghost use Rattle.zy_verdict.specs.Entries.{name_at};
 ghost use Rattle.zy_verdict.specs.Recorded.{Recorded, session_commands};
 ghost use Rattle.zygos_judge.specs.Finding.{number_of_command};
 
@@ -40,8 +41,10 @@ fn length_of(sessions: &Sessions, conn: u32, session: u64) -> Option<u64>
     }
 }
 
-// Returns the name of the first call of a command.
-fn name_of(conn: u32, session: u64, index: u64) -> CallName {
+/// Returns the name of the first call of a command.
+pub(crate) fn name_of(conn: u32, session: u64, index: u64) -> CallName
+    ensures value { result ≡ name_at conn session index 0 }
+{
     CallName {
         index,
         session,

@@ -2,16 +2,16 @@
 ghost use Rattle.std.specs.Prelude.{◌≡◌, ◌≤◌, ℕ, None, Ok, Err, ⊤};
 ghost use Rattle.zy_base.specs.Outside.{Rose};
 ghost use Rattle.zy_read.specs.Seen.{side, both_sides, NoneRose, OfGiven, OfTold, WasWritten};
-ghost use Rattle.zy_shell.specs.declared.failure.Failure.TheVariants.{Usage, Refused as Rejected, ReadFault};
-ghost use Rattle.zy_shell.specs.declared.failure.Failure.TheVariants.{WriteFault};
+ghost use Rattle.zy_shell.specs.declared.failure.Failure.TheVariants.{Usage, Refused as Rejected, ReadFault, WriteFault};
 ghost use Rattle.zy_shell.specs.Asked.{IsFaultOf, ReadsInput, IsToldGood, IsToldBad};
 ghost use Rattle.zy_shell.specs.Failure.{LeavesSink, IsThisOr};
 ghost use Rattle.zy_shell.specs.Finish.{FinishesOnce};
 ghost use Rattle.zy_shell.specs.Said.{Said};
+ghost use Rattle.zy_outputs.specs.Observing.{IsSurplus, IsEarlyEnd};
 ghost use Rattle.zy_verdict.specs.Explained.{IsExplained};
 ghost use Rattle.zy_verdict.specs.Numbers.{IsExplainedWith};
 ghost use Rattle.zygos_judge.specs.declared.finding.Finding.TheVariants.{Explained, Refuted, Unknown};
-ghost use Rattle.zygos_judge.specs.declared.finding.Reason.TheVariants.{Kind, Unmet, Shared};
+ghost use Rattle.zygos_judge.specs.declared.finding.Reason.TheVariants.{Kind, Surplus, EarlyEnd, Unmet, Shared};
 ghost use Rattle.zygos_judge.specs.Words.{rules_asked};
 ghost use Rattle.zygos_judge.specs.Ends.{recording_with, Finds, JudgesAs, JudgesPart, IsJudgedOr};
 ghost use Rattle.zygos_judge.specs.Finding.{IsRefutedCommand, IsWithoutCourse};
@@ -51,6 +51,14 @@ pub fn serve_judge<S: Source, K: Sink, E: Sink>(
         → Finds (rules_asked words.now) (OfGiven (side S.rest S.faults source.old source.new))
         (λ r. IsRefutedCommand r conn command)
         (WasWritten (side K.holds K.faults sink.old sink.new) (finding_line (Refuted (Kind conn command)))) }
+    ensures surplus { (conn session : ℕ) → result ≡ Ok (Refuted (Surplus conn session))
+        → Finds (rules_asked words.now) (OfGiven (side S.rest S.faults source.old source.new))
+        (λ r. IsSurplus r conn session)
+        (WasWritten (side K.holds K.faults sink.old sink.new) (finding_line (Refuted (Surplus conn session)))) }
+    ensures early_end { (mark : ℕ) → result ≡ Ok (Refuted (EarlyEnd mark))
+        → Finds (rules_asked words.now) (OfGiven (side S.rest S.faults source.old source.new))
+        (λ r. IsEarlyEnd r mark)
+        (WasWritten (side K.holds K.faults sink.old sink.new) (finding_line (Refuted (EarlyEnd mark)))) }
     ensures unmet { (conn command part : ℕ) → result ≡ Ok (Refuted (Unmet conn command part))
         → Finds (rules_asked words.now) (OfGiven (side S.rest S.faults source.old source.new))
         (λ r. IsWithoutCourse r conn command part)

@@ -1,7 +1,6 @@
 //! What the arguments request.
 ghost use Rattle.std.specs.Prelude.{◌≡◌, IfSome};
-ghost use Rattle.zygos_judge.specs.Words.{IsShardCount, IsToldWithin, rules_asked, rules_told, shards_in, with_option};
-ghost use Rattle.zygos_judge.specs.Words.{with_shards, with_word};
+ghost use Rattle.zygos_judge.specs.Words.{IsShardCount, IsToldWithin, rules_asked, rules_told, shards_in, with_option, with_shards, with_word};
 
 use zy_base::{Blob, SHARD_LIMIT, read_number};
 use zy_explain::Rules;

@@ -1,9 +1,9 @@
-use Rattle.std.proofs.Common.{◌≡◌, ℕ, List, drop, length, true, false, sym, ◌∙◌, subst, arith}
+use Rattle.std.proofs.Common.{◌≡◌, inl, inr, ℕ, List, drop, length, true, false, true≢false, sym, ◌∙◌, subst, arith}
 use Rattle.mc_answers.specs.Kinds.{IsErrorLine}
 use Rattle.mc_kind.specs.Cutting.{AreTexts, AreFirstTexts, AreAllTexts}
 use Rattle.mc_kind.specs.declared.text.Text.{Text}
 use Rattle.mc_kind.specs.First.{IsWhole, IsRefused}
-use Rattle.mc_kind.proofs.CutLemmas.{knows_more, refused_no_cut, refused_here, texts_found, front_found, all_at_end, all_of_all, surplus_no_cut}
+use Rattle.mc_kind.proofs.CutLemmas.{knows_more, refused_no_cut, refused_here, texts_found, front_found, all_at_end, all_of_all, goes_on_here}
 use Rattle.mc_kind.proofs.cutting.cut_session.Goals as goal
 
 pub returns-then-at-output : goal.returns-then-at-output
@@ -64,4 +64,15 @@ returns-then-is_over c =
     record {
       value = subst (λ (ts : List Text). AreTexts commands output ts × AreFirstTexts commands output ts × AreAllTexts commands output ts) (sym c.from_vec-then-is_over.ensures.value)
           (texts_found commands output c.loop-index.index c.loop-index.at texts k, front_found commands output c.loop-index.index c.loop-index.at texts k, all_of_all commands output c.loop-index.index c.loop-index.at texts k last);
+    }
+
+pub returns-else-is_over : goal.returns-else-is_over
+returns-else-is_over c =
+    let commands = c.args.commands.now in
+    let output = c.args.output.now in
+    let past = c.loop-index-test.false in
+    let end = c.loop-index.auto.index-end in
+    record {
+      value = goes_on_here commands output c.loop-index.index c.loop-index.at c.loop-index.texts.items c.loop-index.invariant (omega (arith, past, end))
+          (λ none. true≢false (sym (c.is_over.ensures.over (inl none)) ∙ c.if-is_over.false)) (λ line. true≢false (sym (c.is_over.ensures.over (inr line)) ∙ c.if-is_over.false));
     }

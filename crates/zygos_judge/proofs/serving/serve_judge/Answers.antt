@@ -1,9 +1,10 @@
-use Rattle.std.proofs.Common.{ℕ, subst}
+use Rattle.std.proofs.Common.{subst}
+use Rattle.zy_outputs.specs.Observing.{IsSurplus, IsEarlyEnd}
 use Rattle.zygos_judge.specs.Words.{rules_asked}
 use Rattle.zy_read.specs.Seen.{Seen, side, both_sides, WasWritten}
 use Rattle.zy_verdict.specs.Explained.{IsExplained}
 use Rattle.zygos_judge.specs.declared.finding.Finding.TheVariants.{Refuted}
-use Rattle.zygos_judge.specs.declared.finding.Reason.TheVariants.{Kind, Unmet, Shared}
+use Rattle.zygos_judge.specs.declared.finding.Reason.TheVariants.{Kind, Surplus, EarlyEnd, Unmet, Shared}
 use Rattle.zygos_judge.specs.Ends.{HasCause}
 use Rattle.zygos_judge.specs.Finding.{HasFinding, IsRefutedCommand, IsWithoutCourse}
 use Rattle.zygos_judge.specs.Lines.{finding_line}
@@ -39,6 +40,16 @@ pub returns-clause-kind : goal.returns-clause-kind
 returns-clause-kind g c = λ conn command is.
     let call : Seen = both_sides (side g.S.Source.rest g.S.Source.faults c.args.source.now c.carry_out-answer.new.source) (side g.K.Sink.holds g.K.Sink.faults c.args.sink.now c.carry_out-answer.new.sink) in
     finds_so (rules_asked c.args.words.now) call.source (λ r. HasFinding r (Refuted (Kind conn command))) (λ r. IsRefutedCommand r conn command) (WasWritten call.sink (finding_line (Refuted (Kind conn command)))) (λ r has. has.1) (subst (HasCause (rules_asked c.args.words.now) call) is c.carry_out-answer.ensures.ends)
+
+pub returns-clause-surplus : goal.returns-clause-surplus
+returns-clause-surplus g c = λ conn session is.
+    let call : Seen = both_sides (side g.S.Source.rest g.S.Source.faults c.args.source.now c.carry_out-answer.new.source) (side g.K.Sink.holds g.K.Sink.faults c.args.sink.now c.carry_out-answer.new.sink) in
+    finds_so (rules_asked c.args.words.now) call.source (λ r. HasFinding r (Refuted (Surplus conn session))) (λ r. IsSurplus r conn session) (WasWritten call.sink (finding_line (Refuted (Surplus conn session)))) (λ r has. has.1) (subst (HasCause (rules_asked c.args.words.now) call) is c.carry_out-answer.ensures.ends)
+
+pub returns-clause-early_end : goal.returns-clause-early_end
+returns-clause-early_end g c = λ mark is.
+    let call : Seen = both_sides (side g.S.Source.rest g.S.Source.faults c.args.source.now c.carry_out-answer.new.source) (side g.K.Sink.holds g.K.Sink.faults c.args.sink.now c.carry_out-answer.new.sink) in
+    finds_so (rules_asked c.args.words.now) call.source (λ r. HasFinding r (Refuted (EarlyEnd mark))) (λ r. IsEarlyEnd r mark) (WasWritten call.sink (finding_line (Refuted (EarlyEnd mark)))) (λ r has. has.1) (subst (HasCause (rules_asked c.args.words.now) call) is c.carry_out-answer.ensures.ends)
 
 pub returns-clause-unmet : goal.returns-clause-unmet
 returns-clause-unmet g c = λ conn command part is.
