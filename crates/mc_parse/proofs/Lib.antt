@@ -10,5 +10,6 @@ pub mod AskLemmas
 pub mod NeedLemmas
 pub mod GetLemmas
 pub mod OneKeyLemmas
+pub mod OneSetLemmas
 mod StoringLemmas
 mod ParsedLemmas

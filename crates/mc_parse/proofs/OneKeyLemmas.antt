@@ -1,7 +1,7 @@
 -- Which lines are retrievals of one key.
-use Rattle.std.proofs.Common.{◌≡◌, ◌≢◌, ℕ, Bool, true, false, List, [], ◌∷◌, refl, sym, ap, ◌∙◌, subst}
+use Rattle.std.proofs.Common.{◌≡◌, ◌≢◌, ℕ, Bool, true, false, List, [], ◌∷◌, refl, sym, subst}
 use Rattle.std.specs.List.{list_all}
-use Rattle.std.specs.Prelude.{Option, None, Some, IfSome, IfNone, MatchOption, Result, IfOk, drop}
+use Rattle.std.specs.Prelude.{Option, None, Some, IfSome, MatchOption}
 use Rattle.mc_meta.specs.Meta.{meta_line}
 use Rattle.mc_meta.specs.declared.meta_line.MetaLine.{MetaLine}
 use Rattle.mc_meta.specs.declared.meta_line.MetaLine.TheVariants as Metas
@@ -13,7 +13,6 @@ use Rattle.mc_parse.specs.declared.name.Name.TheVariants.{Get}
 use Rattle.mc_parse.specs.declared.need.Need.{Need}
 use Rattle.mc_parse.specs.declared.need.Need.TheVariants.{Nothing}
 use Rattle.mc_parse.specs.declared.parsed.Parsed.{Parsed}
-use Rattle.mc_parse.specs.Words.{words}
 use Rattle.mc_parse.specs.Need.{need}
 use Rattle.mc_parse.specs.Parsed.{IsUnnamed, IsNamed, IsParsedBy, IsParsed}
 use Rattle.mc_parse.specs.MetaAsk.{MetaAsk, noops, meta_gets, meta_stores, meta_exchanges, meta_deletes}
@@ -119,19 +118,9 @@ other_long = λ key unique same. cc
 
 -- ---- what was read of a line
 
--- a line that was read with this name says what the name says
-pub named_says : (line : List ℕ) (parsed : Parsed) (name : Name) → parsed.name ≡ Some name → need line ≡ Nothing → IsParsed line parsed → line_form line ≡ form_after name (words (drop parsed.from line))
-unfolding IsParsed
-named_says line parsed name named alone is =
-    (subst (λ (n : Option Name). MatchOption n (IsUnnamed line) (IsNamed line parsed)) named (subst (λ (n : Need). IsParsedBy n line parsed) alone is)).says
-
 -- a line that was read without a name
-pub unnamed_says : (line : List ℕ) (parsed : Parsed) → parsed.name ≡ None → need line ≡ Nothing → IsParsed line parsed → IsOther (line_command line)
+pub unnamed_other : (line : List ℕ) (parsed : Parsed) → parsed.name ≡ None → need line ≡ Nothing → IsParsed line parsed → IsOther (line_command line)
 unfolding IsParsed line_command
-unnamed_says line parsed none alone is =
+unnamed_other line parsed none alone is =
     let says : IsUnnamed line = subst (λ (n : Option Name). MatchOption n (IsUnnamed line) (IsNamed line parsed)) none (subst (λ (n : Need). IsParsedBy n line parsed) alone is) in
     subst (λ (f : Form). IsOther (command_for f)) (sym says) (other_meta line (meta_line line))
-
--- no answer means another command, with each command that is the same
-pub none_by : {A E : Type 0} (result : Result (Option A) E) (command same : Command) → same ≡ command → IfOk result (λ found. IfNone found (IsOther command)) → IfOk result (λ found. IfNone found (IsOther same))
-none_by result command same is none = subst (λ (c : Command). IfOk result (λ found. IfNone found (IsOther c))) (sym is) none

@@ -15,3 +15,4 @@ pub mod Calls
 pub mod Saying
 pub mod Bounds
 pub mod Plain
+pub mod OneSet

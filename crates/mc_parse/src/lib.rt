@@ -20,6 +20,7 @@ mod parse;
 mod parsed;
 mod reading;
 mod retrieval;
+mod setting;
 mod shard_call;
 mod sizes;
 mod storing;
@@ -38,5 +39,6 @@ pub use parse::{
 };
 pub use parsed::Parsed;
 pub use retrieval::{OneKey, got_keys, one_key};
+pub use setting::{NoSet, OneSet, one_set, set_command};
 pub use shard_call::{Calls, ShardCall};
 pub use verb::Verb;

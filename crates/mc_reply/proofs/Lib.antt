@@ -2,3 +2,4 @@ pub mod TextLemmas
 pub mod ItemLemmas
 pub mod ToldLemmas
 pub mod SizeLemmas
+mod SetLemmas

@@ -12,4 +12,4 @@ mod stats;
 mod writing;
 
 pub use stats::Stat;
-pub use writing::{got_text, reply_text};
+pub use writing::{got_text, reply_text, set_text};

@@ -1,6 +1,10 @@
 //! The text that answers a command.
-ghost use Rattle.std.specs.Prelude.{◌≡◌, ◌≤◌, ◌+◌, [], ◌∷◌, ◌++◌, length, codes, decimal, OnOk, OnErr};
-ghost use Rattle.mc_parse.specs.declared.command.Command.TheVariants.{Get};
+ghost use Rattle.std.specs.Prelude.{◌≡◌, ◌≤◌, ◌+◌, ℕ, List, [], ◌∷◌, ◌++◌, length, codes, decimal, OnOk, OnErr};
+ghost use Rattle.mc_calls.specs.declared.call.Call.TheVariants.{Set as SetCall};
+ghost use Rattle.mc_calls.specs.declared.call_reply.CallReply.{CallReply};
+ghost use Rattle.mc_calls.specs.Kind.{MayAnswer};
+ghost use Rattle.mc_parse.specs.declared.command.Command.TheVariants.{Get, Store};
+ghost use Rattle.mc_parse.specs.declared.verb.Verb.TheVariants.{Set};
 ghost use Rattle.mc_reply.specs.Text.{text, line, item_text, items_text};
 ghost use Rattle.mc_reply.specs.Answers.{AnswerCommand};
 ghost use Rattle.mc_reply.specs.Shape.{answer_text};
@@ -37,6 +41,15 @@ pub fn reply_text(out: &mut Blob, command: &Command, replies: &Replies) -> Resul
         Command::Fault { line, quiet } => append_answer(out, unless(*quiet, fault_answer(*line))),
         _ => append_answer(out, unless(command.is_quiet(), only_answer(replies))),
     }
+}
+
+/// Returns the text that answers a `set`: nothing if it is quiet.
+#[tactic(auto, using(crate::proofs::SetLemmas::set_said))]
+pub fn set_text(quiet: bool) -> &'static [u8]
+    ensures value { (key value : List ℕ) (flags : ℕ) (reply : CallReply) → MayAnswer (SetCall key flags value) reply
+        → result.now ≡ text (Store Set key flags value quiet) (reply ∷ []) }
+{
+    if quiet { b"".as_slice() } else { lines::STORED }
 }
 
 /// Appends the text that answers a retrieval of one key with this reply. May answer `NoMemory`.

@@ -1,9 +1,9 @@
 -- Texts one after another in one row of bytes: all of them joined, the first of them, and more of them.
 use Rattle.std.proofs.Common.{◌≡◌, ℕ, zero, suc, ◌+◌, ◌-◌, ◌<◌, ◌≤◌, List, [], ◌∷◌, ◌++◌, length, take, drop, get_or, refl, sym, ap, ◌∙◌, subst, arith, length-append}
 use Rattle.std.specs.List.{concat}
-use Rattle.std.proofs.lemmas.List.{append-nil, take-append-drop, take-append-le, drop-append-le, drop-drop, drop_all, take_all, length-drop}
-use Rattle.std.proofs.Math.Seq.{drop-append-add, take-add}
-use Rattle.zy_calls.specs.Texts.{texts_from, Rise, further}
+use Rattle.std.proofs.lemmas.List.{append-nil, take-append-drop, length-take-le, take-append-le, drop-append-le, drop-drop, drop_all, take_all, length-drop}
+use Rattle.std.proofs.Math.Seq.{drop-append-add, take-add, take-append_seam}
+use Rattle.zy_calls.specs.Texts.{texts_from, end_of, Rise, further}
 
 -- ---- places
 
@@ -122,3 +122,40 @@ pushed_as front text fronts all places last one is at end =
     let whole : texts_from text 0 (length text ∷ []) ≡ text ∷ [] = ap (λ (t : List ℕ). t ∷ []) (take_all (length text - 0) text (omega arith)) in
     let h = joined_as front text fronts (length text ∷ []) all places one (omega arith, refl) is (at ∙ ap (λ n. fronts ++ n ∷ []) sum) in
     record { rise = h.rise; texts_are = h.texts_are ∙ ap (λ (more : List (List ℕ)). texts_from front 0 fronts ++ more) whole }
+
+-- ---- one text fewer
+
+pub end_of_get : (start : ℕ) (ends : List ℕ) (at d : ℕ) → at + 1 ≡ length ends → get_or ends at d ≡ end_of start ends
+end_of_get start [] at d is = absurd (omega (arith, is))
+end_of_get start (end ∷ []) at d is = let first : at ≡ 0 = omega (arith, is) in ap (λ n. get_or (end ∷ []) n d) first
+end_of_get start (end ∷ next ∷ ends) zero d is = absurd (omega (arith, is))
+end_of_get start (end ∷ next ∷ ends) (suc at) d is = end_of_get end (next ∷ ends) at d (omega (arith, is))
+
+Rise-front : (start : ℕ) (ends : List ℕ) (last total : ℕ) → Rise start (ends ++ last ∷ []) total → Rise start ends (end_of start ends) × (end_of start ends ≤ last) × (last ≤ total)
+Rise-front start [] last total rise = (refl, rise.0, omega (arith, rise.1))
+Rise-front start (end ∷ ends) last total rise = let more = Rise-front end ends last total rise.1 in ((rise.0, more.0), more.1, more.2)
+
+front_of : {A : Type 0} (xs ys : List A) (x y : A) → xs ++ x ∷ [] ≡ ys ++ y ∷ [] → xs ≡ ys
+front_of xs ys x y same =
+    let size : length xs ≡ length ys = omega (arith, ap length same, length-append xs (x ∷ []), length-append ys (y ∷ [])) in
+    sym (take-append_seam xs (x ∷ [])) ∙ ap (λ l. take (length xs) l) same ∙ ap (λ n. take n (ys ++ y ∷ [])) size ∙ take-append_seam ys (y ∷ [])
+
+-- without the last text there are those before it
+pub popped_as : (bytes ends front : List ℕ) (last cut : ℕ) → Rise 0 ends (length bytes) → ends ≡ front ++ last ∷ [] → cut ≡ end_of 0 front
+    → (Rise 0 front (length (take cut bytes))) × ((texts : List (List ℕ)) (text : List ℕ) → texts_from bytes 0 ends ≡ texts ++ text ∷ [] → texts_from (take cut bytes) 0 front ≡ texts)
+popped_as bytes ends front last cut rise is at =
+    let places = Rise-front 0 front last (length bytes) (subst (λ (l : List ℕ). Rise 0 l (length bytes)) is rise) in
+    let size : length (take cut bytes) ≡ cut = length-take-le cut bytes (omega (arith, at, places.1, places.2)) in
+    let same : end_of 0 front ≡ length (take cut bytes) = sym (size ∙ at) in
+    let rises : Rise 0 front (length (take cut bytes)) = subst (λ n. Rise 0 front n) same places.0 in
+    let rest : List ℕ = drop cut bytes in
+    let moved : front ++ last ∷ [] ≡ front ++ further (length (take cut bytes)) ((last - cut) ∷ []) =
+    ap (λ n. front ++ n ∷ []) (omega (arith, size, at, places.1)) in
+    let whole : texts_from bytes 0 ends ≡ texts_from (take cut bytes) 0 front ++ texts_from rest 0 ((last - cut) ∷ []) =
+    ap (λ l. texts_from bytes 0 l) (is ∙ moved) ∙ ap (λ b. texts_from b 0 (front ++ further (length (take cut bytes)) ((last - cut) ∷ []))) (sym (take-append-drop cut bytes))
+    ∙ texts_from-append (take cut bytes) rest 0 front ((last - cut) ∷ []) rises in
+    (rises, λ texts text held. front_of _ texts _ text (sym whole ∙ held))
+
+pub popped : (bytes bytes' ends front : List ℕ) (last cut : ℕ) → Rise 0 ends (length bytes) → ends ≡ front ++ last ∷ [] → cut ≡ end_of 0 front → bytes' ≡ take cut bytes
+    → (Rise 0 front (length bytes')) × ((texts : List (List ℕ)) (text : List ℕ) → texts_from bytes 0 ends ≡ texts ++ text ∷ [] → texts_from bytes' 0 front ≡ texts)
+popped bytes bytes' ends front last cut rise is at cuts = rw cuts (popped_as bytes ends front last cut rise is at)

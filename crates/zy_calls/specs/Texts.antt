@@ -7,6 +7,11 @@ texts_from bytes start [] = []
 texts_from bytes start (end ∷ ends) =
     take (end - start) (drop start bytes) ∷ texts_from bytes end ends
 
+-- the last of these places, or `start`
+abbrev pub end_of : ℕ → List ℕ → ℕ
+end_of start [] = start
+end_of start (end ∷ ends) = end_of end ends
+
 -- the places never fall, from `start` on, and the last is `last`
 abbrev pub Rise : ℕ → List ℕ → ℕ → Type 0
 Rise start [] last = start ≡ last

@@ -1,6 +1,6 @@
 //! Batches: the reply texts of one hold.
-ghost use Rattle.std.specs.Prelude.{◌≡◌, length, OnOk, OnErr, IfErr};
-ghost use Rattle.zy_calls.specs.Batch.{no_text, with_text, with_finished};
+ghost use Rattle.std.specs.Prelude.{◌≡◌, ℕ, List, length, OnOk, OnErr, IfErr};
+ghost use Rattle.zy_calls.specs.Batch.{Batch, no_text, with_text, with_finished};
 
 use crate::room::Room;
 use crate::texts::Texts;
@@ -66,6 +66,13 @@ impl Batch {
         ensures err { OnErr result (self.new ≡ self.old) }
     {
         self.texts.push_by(writer)
+    }
+
+    /// Takes the last text back, if there is one.
+    pub fn take_back(&mut self)
+        ensures value { (batch : Batch) (text : List ℕ) → self.old ≡ with_text batch text → self.new ≡ batch }
+    {
+        self.texts.pop();
     }
 
     /// Sets the number of finished commands.

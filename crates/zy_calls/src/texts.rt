@@ -1,8 +1,8 @@
 //! Texts one after another in one row of bytes.
-ghost use Rattle.std.specs.Prelude.{◌≡◌, ◌≤◌, ◌++◌, [], ◌∷◌, length, take, OnOk, OnErr, IfErr};
+ghost use Rattle.std.specs.Prelude.{◌≡◌, ◌≤◌, ℕ, List, ◌++◌, [], ◌∷◌, length, take, OnOk, OnErr, IfErr};
 ghost use Rattle.std.specs.Prelude.{◌+◌, vec_len, vec_capacity};
 ghost use Rattle.std.specs.List.{concat};
-ghost use Rattle.zy_calls.specs.Texts.{further, AreWithin};
+ghost use Rattle.zy_calls.specs.Texts.{further, end_of, AreWithin};
 
 use crate::writes::Writes;
 use std::alloc::Global;
@@ -74,6 +74,17 @@ impl Texts {
         writer.write(&mut self.bytes)?;
         self.ends.push_reserved(self.bytes.bytes().len());
         Ok(())
+    }
+
+    /// Takes the last text off, if there is one.
+    pub(crate) fn pop(&mut self)
+        ensures value { (texts : List (List ℕ)) (text : List ℕ) → self.old ≡ texts ++ text ∷ [] → self.new ≡ texts }
+    {
+        let Some(_last) = self.ends.pop() else {
+            return;
+        };
+        let end = last_end(self.ends.as_slice());
+        self.bytes.truncate(end);
     }
 
     /// Appends the texts of another list; if allocation fails it is handed back.
@@ -180,6 +191,17 @@ impl Texts {
         ensures value { result ≡ concat self }
     {
         self.bytes
+    }
+}
+
+// Returns where the last of the texts that end at these places ends, or 0.
+#[tactic(auto, using(crate::proofs::TextLemmas::end_of_get))]
+fn last_end(ends: &[usize]) -> usize
+    ensures value { result ≡ end_of 0 ends.now }
+{
+    match ends {
+        [.., last] => *last,
+        [] => 0,
     }
 }
 

@@ -1,11 +1,16 @@
 //! The command of a frame.
-ghost use Rattle.std.specs.Prelude.{◌≡◌, ◌≢◌, ℕ, Bool, List, [], ◌∷◌, IfOk, IfErr, IfSome, IfNone};
+ghost use Rattle.std.specs.Prelude.{◌≡◌, ◌≢◌, ◌≤◌, ℕ, Bool, false, List, [], ◌∷◌, IfOk, IfErr, IfSome, IfNone};
+ghost use Rattle.mc_parse.specs.Calls.{IsOnShard};
+ghost use Rattle.mc_parse.specs.OneSet.{is_set, IsSetBy};
 ghost use Rattle.mc_parse.specs.declared.command.Command.TheVariants.{Get};
 ghost use Rattle.zy_frame.specs.Frame.{command_of};
 
 use crate::frame::Frame;
 use crate::frame_kind::FrameKind;
-use mc_parse::{Command, ErrorLine, OneKey, one_key, parse_large, parse_read_block, parse_read_in};
+use mc_parse::{
+    Command, ErrorLine, NoSet, OneKey, OneSet, one_key, one_set, parse_large, parse_read_block,
+    parse_read_in,
+};
 use std::alloc::Global;
 use zy_base::{Blob, NoMemory};
 
@@ -84,5 +89,33 @@ pub fn one_key_of(frame: &Frame) -> Result<Option<OneKey>, NoMemory>
     match &frame.kind {
         FrameKind::Line { line } => one_key(line, &frame.parsed),
         _ => Ok(None),
+    }
+}
+
+/// Makes the call of a frame that is a `set`, on one of `shards` shards; key and value are parts of
+/// the frame. If it is another command, or allocation fails, the frame is handed back.
+pub fn one_set_of(frame: Frame, shards: u32) -> Result<OneSet, (Frame, NoSet)>
+    requires some { 1 ≤ shards }
+    ensures value { IfOk result (λ one. IsSetBy shards (command_of frame) one.next one.quiet) }
+    ensures within { IfOk result (λ one. IsOnShard shards one.next) }
+    ensures returned { IfErr result (λ e. e.0 ≡ frame) }
+    ensures other { IfErr result (λ e. e.1 ≡ NoSet.Other → is_set (command_of frame) ≡ false) }
+{
+    let Frame { kind, parsed } = frame;
+    match kind {
+        FrameKind::Block { line, block } => match one_set(&line, &parsed, block, shards) {
+            Ok(one) => {
+                drop(line);
+                Ok(one)
+            }
+            Err((block, why)) => Err((
+                Frame {
+                    kind: FrameKind::Block { line, block },
+                    parsed,
+                },
+                why,
+            )),
+        },
+        kind => Err((Frame { kind, parsed }, NoSet::Other)),
     }
 }

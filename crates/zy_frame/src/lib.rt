@@ -15,7 +15,7 @@ mod stepping;
 mod wanted;
 
 pub use frame::Frame;
-pub use frame_command::{meaning, meaning_in, one_key_of};
+pub use frame_command::{meaning, meaning_in, one_key_of, one_set_of};
 pub use frame_kind::FrameKind;
 pub use framer::Framer;
 pub use frames::Frames;
