@@ -40,9 +40,9 @@ answer-requires-clause-next c =
     let conn_is : conn ≡ e.tag.conn = ap (λ (t : Tag). t.conn) c.tag.ensures.value in
     let tracks = c.is_next.new.tracks in
     let next = c.in_ok-is_next.ensures.there c.if-not-branch.false in
-    let t = get_or tracks conn c.index-tracks-entry.result in
+    let t = get_or tracks conn c.index-tracks-tag.result in
     let within = next.within in
-    due_at_call t.begun t.commands e (next.due t (subst (λ n. slice_get tracks n ≡ Some t) conn_is (slice_get-get_or tracks conn c.index-tracks-entry.result (omega (arith, within, conn_is)))))
+    due_at_call t.begun t.commands e (next.due t (subst (λ n. slice_get tracks n ≡ Some t) conn_is (slice_get-get_or tracks conn c.index-tracks-tag.result (omega (arith, within, conn_is)))))
 
 pub answer-requires-clause-kind : goal.answer-requires-clause-kind
 answer-requires-clause-kind c b call begun there =
@@ -51,9 +51,9 @@ answer-requires-clause-kind c b call begun there =
     let conn_is : conn ≡ e.tag.conn = ap (λ (t : Tag). t.conn) c.tag.ensures.value in
     let tracks = c.is_next.new.tracks in
     let next = c.in_ok-is_next.ensures.there c.if-not-branch.false in
-    let t = get_or tracks conn c.index-tracks-entry.result in
+    let t = get_or tracks conn c.index-tracks-tag.result in
     let within = next.within in
-    let due = next.due t (subst (λ n. slice_get tracks n ≡ Some t) conn_is (slice_get-get_or tracks conn c.index-tracks-entry.result (omega (arith, within, conn_is)))) in
+    let due = next.due t (subst (λ n. slice_get tracks n ≡ Some t) conn_is (slice_get-get_or tracks conn c.index-tracks-tag.result (omega (arith, within, conn_is)))) in
     due_kind t.commands e c.index_mut.result.now.state c.in_ok-reply.reply b call (subst (λ o. IsDueIn o t.commands e) begun due)
     c.in_ok-reply.ensures.reply there
 
@@ -76,9 +76,9 @@ returns c =
     let conn = c.tag.result.conn in
     let conn_is : conn ≡ e.tag.conn = ap (λ (t : Tag). t.conn) c.tag.ensures.value in
     let tracks = c.is_next.new.tracks in
-    let t = get_or tracks conn c.index-tracks-entry.result in
+    let t = get_or tracks conn c.index-tracks-tag.result in
     let within = in_tracks.within in
-    let t_is = subst (λ n. slice_get tracks n ≡ Some t) conn_is (slice_get-get_or tracks conn c.index-tracks-entry.result (omega (arith, within, conn_is))) in
+    let t_is = subst (λ n. slice_get tracks n ≡ Some t) conn_is (slice_get-get_or tracks conn c.index-tracks-tag.result (omega (arith, within, conn_is))) in
     let has = taken g c.args.at e t c.in_ok-reply.reply (tracked.each e.tag.conn t t_is) (in_tracks.due t t_is) is (sym same) in record {
       found = record {
         some = here.some;
