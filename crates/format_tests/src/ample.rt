@@ -1,18 +1,18 @@
 //! Calls that may answer `NoMemory` and that no run of the program makes, with ample memory.
-use mc_calls::{Entries, Histories};
+use mc_history::{Histories, Ledger};
 use std::alloc::Global;
 use zy_capture::RepliesReader;
 use zy_journal_reader::JournalReader;
 
 fn adds(alloc: Global) -> bool {
     let mut histories = Histories::new(alloc);
-    match histories.add(Entries::new(alloc)) {
+    match histories.add(Ledger::new(alloc, 0).into_history()) {
         Ok(()) => {
             drop(histories);
             true
         }
-        Err((entries, _)) => {
-            drop(entries);
+        Err((history, _)) => {
+            drop(history);
             drop(histories);
             false
         }

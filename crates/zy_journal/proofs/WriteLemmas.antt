@@ -8,15 +8,16 @@ use Rattle.std.proofs.lemmas.Grind.{flat_map-append}
 pub text_3 : (x : ℕ) (a b c p q r : List ℕ) → a ≡ p → b ≡ q → c ≡ r → (x ∷ []) ++ (a ++ (b ++ (c ++ []))) ≡ x ∷ (p ++ (q ++ r))
 text_3 x a b c p q r one two three = rw (one, two, three, append-nil r) refl
 
--- fields that were appended one after the other
-pub gathered_5 : (x : ℕ) (none one two three four five six a b c d e p q r s t : List ℕ) → none ≡ [] → one ≡ none ++ x ∷ [] → two ≡ one ++ a → three ≡ two ++ b → four ≡ three ++ c → five ≡ four ++ d → six ≡ five ++ e
-    → a ≡ p → b ≡ q → c ≡ r → d ≡ s → e ≡ t → six ≡ x ∷ (p ++ (q ++ (r ++ (s ++ t))))
-gathered_5 x none one two three four five six a b c d e p q r s t n h i j k l m f1 f2 f3 f4 f5 =
-    (rw (m, l, k, j, i, h, n, f1, f2, f3, f4, f5) refl)
-    ∙ ap (λ (text : List ℕ). x ∷ text) (append_assoc ((p ++ q) ++ r) s t ∙ append_assoc (p ++ q) r (s ++ t) ∙ append_assoc p q (r ++ (s ++ t)))
+-- five fields that were appended one after the other
+pub appended_5 : (text one two three four five a b c d e p q r s t : List ℕ) → one ≡ text ++ a → two ≡ one ++ b → three ≡ two ++ c → four ≡ three ++ d → five ≡ four ++ e
+    → a ≡ p → b ≡ q → c ≡ r → d ≡ s → e ≡ t → five ≡ text ++ (p ++ (q ++ (r ++ (s ++ t))))
+appended_5 text one two three four five a b c d e p q r s t h i j k l f1 f2 f3 f4 f5 =
+    (rw (l, k, j, i, h, f1, f2, f3, f4, f5) refl)
+    ∙ append_assoc (((text ++ p) ++ q) ++ r) s t ∙ append_assoc ((text ++ p) ++ q) r (s ++ t) ∙ append_assoc (text ++ p) q (r ++ (s ++ t)) ∙ append_assoc text p (q ++ (r ++ (s ++ t)))
 
-pub numbers_5 : (a b c d e p q r s t : List ℕ) → a ≡ p → b ≡ q → c ≡ r → d ≡ s → e ≡ t → a ++ (b ++ (c ++ (d ++ (e ++ [])))) ≡ p ++ (q ++ (r ++ (s ++ t)))
-numbers_5 a b c d e p q r s t one two three four five = rw (one, two, three, four, five, append-nil t) refl
+-- and then a code and what stands before a key
+pub gathered_key : (text six seven eight : List ℕ) (code own : ℕ) (head key : List ℕ) → six ≡ text → seven ≡ six ++ code ∷ [] → code ≡ own → eight ≡ seven ++ head → head ≡ key → eight ≡ text ++ own ∷ key
+gathered_key text six seven eight code own head key s v c e h = (rw (e, v, s, c, h) refl) ∙ append_assoc text (own ∷ []) key
 
 -- ---- what is taken one by one
 

@@ -2,4 +2,5 @@ pub mod Journal
 pub mod Kept
 pub mod Lists
 pub mod Merged
+pub mod Pieces
 pub mod Walk

@@ -6,6 +6,7 @@ mod heads;
 mod journal;
 mod laws;
 mod merging;
+mod pieces;
 mod rests;
 mod walk;
 mod writing;

@@ -1,23 +1,17 @@
-use Rattle.zy_base.proofs.WritingLemmas.{writes_then, writes_cut}
-use Rattle.zy_journal.specs.Journal.{entry_text}
+use Rattle.std.proofs.Common.{◌∙◌, ap}
+use Rattle.zy_base.proofs.WritingLemmas.{writes_as}
+use Rattle.zy_journal.specs.Pieces.{bytes_in}
+use Rattle.zy_journal.proofs.PieceLemmas.{pieces_are}
 use Rattle.zy_journal.proofs.writing.write_entry.Goals as goal
 
-pub returns-in_err-write_head : goal.returns-in_err-write_head
-unfolding entry_text
-returns-in_err-write_head g c = record {
-  writes = writes_cut _ c.from_residual.ensures.0 c.in_err-write_head.ensures.writes;
-}
-
-pub returns-in_err-write_call : goal.returns-in_err-write_call
-unfolding entry_text
-returns-in_err-write_call g c = record {
-  writes = writes_then c.in_ok-write_head.ensures.writes
-      (writes_cut _ c.from_residual-in_err-write_call.ensures.0 c.in_err-write_call.ensures.writes);
-}
-
 pub returns : goal.returns
-unfolding entry_text
-returns g c = record {
-  writes = writes_then c.in_ok-write_head.ensures.writes
-      (writes_then c.in_ok-write_call.ensures.writes c.write_reply.ensures.writes);
-}
+returns g c =
+    let e = c.args.entry.now in
+    record {
+      writes = writes_as
+          (pieces_are e c.as_slice.result.now c.bytes_of.result.now c.as_slice-2.result.now c.bytes_of-2.result.now c.as_slice-3.result.now c.bytes_of-3.result.now
+          (c.as_slice.ensures.value ∙ c.before_key-head.ensures.value) (c.bytes_of.ensures.value ∙ ap bytes_in c.key.ensures.value)
+          (c.as_slice-2.ensures.value ∙ c.before_value-fields.ensures.value) (c.bytes_of-2.ensures.value ∙ ap bytes_in c.value.ensures.value)
+          (c.as_slice-3.ensures.value ∙ c.before_reply_value-reply.ensures.value) (c.bytes_of-3.ensures.value ∙ ap bytes_in c.reply_value.ensures.value))
+          c.write_pieces.ensures.writes;
+    }

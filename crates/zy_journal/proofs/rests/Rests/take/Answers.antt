@@ -34,9 +34,9 @@ invariant_of-self c =
     let at = slice_index_or c.self.inside.at c.args.shard 0 in
     let new = rests_of hs (slice_set c.self.inside.at c.args.shard (at + 1)) in
     let heads : AreHeads new (slice_set c.self.inside.heads c.args.shard c.stamp_at.result) =
-        heads_taken hs c.self.inside.at c.args.shard at c.self.inside.heads h c.stamp_at.result c.self.invariant.1 (search rules) (search rules) there.0 c.stamp_at.ensures.value in
+    heads_taken hs c.self.inside.at c.args.shard at c.self.inside.heads h c.stamp_at.result c.self.invariant.1 (search rules) (search rules) there.0 c.stamp_at.ensures.value in
     let taken : IsTakenAt c.args.shard (rests_of hs c.self.inside.at) new c.entry.result =
-        taken_at hs c.self.inside.at c.args.shard at c.entry.result refl (search rules) (ap (λ (l : List Entry). slice_get l at) there.0 ∙ c.entry.ensures.value) in
+    taken_at hs c.self.inside.at c.args.shard at c.entry.result refl (search rules) (ap (λ (l : List Entry). slice_get l at) there.0 ∙ c.entry.ensures.value) in
     let group = group_of c.args.shard in
     let within = c.requires.within in
     let few : c.args.shard / 16 < 16 = omega (arith, group.0, within) in
