@@ -19,6 +19,7 @@ pub record Recorded : Type 0 where
   -- the items that were ever stored, with their keys
   pub stored : List StoredItem
 
+-- the history with these parts
 abbrev pub recorded : ℕ → List Entry → List StoredItem → Recorded
 recorded shard entries stored = record { shard = shard; entries = entries; stored = stored }
 

@@ -27,13 +27,13 @@ pub struct Ledger {
 
 impl Model for Ledger {
     ghost use Rattle.mc_history.specs.Recorded.{Recorded};
-    ghost use Rattle.mc_history.specs.Compact.{lists, view_of, AreWithin};
+    ghost use Rattle.mc_history.specs.Compact.{lists, view_of, AreSpelled};
 
     ghost Value = { Recorded };
 
     ghost view = { λ l. view_of l.shard (lists l.stored.items l.missed.items l.others.items) l.compact.items };
 
-    ghost invariant = { λ l. AreWithin (lists l.stored.items l.missed.items l.others.items) l.compact.items };
+    ghost invariant = { λ l. AreSpelled (lists l.stored.items l.missed.items l.others.items) l.compact.items };
 }
 
 impl Ledger {

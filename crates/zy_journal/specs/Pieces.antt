@@ -5,9 +5,9 @@ use Rattle.std.specs.Int.{to_be_bytes, w32, w64}
 use Rattle.zy_journal.specs.Journal.{field_text}
 
 -- the bytes of a field; none if it is not there
-abbrev pub bytes_in : Option (List ℕ) → List ℕ
-bytes_in None = []
-bytes_in (Some bytes) = bytes
+abbrev pub lent_bytes : Option (List ℕ) → List ℕ
+lent_bytes None = []
+lent_bytes (Some bytes) = bytes
 
 -- what stands before the bytes of a key, if it is there
 abbrev pub key_head : Option (List ℕ) → List ℕ

@@ -5,7 +5,7 @@ ghost use Rattle.mc_calls.specs.Call.{key_of};
 ghost use Rattle.mc_calls.specs.Code.{call_code, call_flags, call_number, call_value};
 ghost use Rattle.mc_calls.specs.Code.{reply_code, reply_flags, reply_number, reply_value, reply_counts};
 ghost use Rattle.zy_journal.specs.Journal.{entry_head, field_text, counts_text};
-ghost use Rattle.zy_journal.specs.Pieces.{bytes_in, key_head, fields_head};
+ghost use Rattle.zy_journal.specs.Pieces.{lent_bytes, key_head, fields_head};
 
 use crate::gathered::{put, put_counts, put_fields, put_key_head};
 use arrayvec::ArrayVec;
@@ -62,7 +62,7 @@ pub(crate) fn before_reply_value(entry: &EntryRef<'_>) -> ArrayVec<u8, 57>
 
 // Returns the bytes of a field, if it is there.
 pub(crate) fn bytes_of<'a>(field: Option<&'a Blob>) -> &'a [u8]
-    ensures value { result.now ≡ bytes_in (option_copied field.entry) }
+    ensures value { result.now ≡ lent_bytes (option_copied field.entry) }
 {
     match field {
         Some(field) => field.bytes(),
