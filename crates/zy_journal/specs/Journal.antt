@@ -1,5 +1,5 @@
 -- The journal format, docs/FORMATS.md, "Journal": its values, their one encoding, and which values have one.
-use Rattle.std.specs.Prelude.{ℕ, ◌<◌, ◌≤◌, List, [], ◌∷◌, ◌++◌, length, flat_map, codes, Option, None, Some}
+use Rattle.std.specs.Prelude.{ℕ, ◌<◌, ◌≤◌, List, [], ◌∷◌, ◌++◌, length, flat_map, codes, Option, None, Some, ⊤}
 use Rattle.std.specs.List.{AllByRecursion}
 use Rattle.std.specs.Int.{to_be_bytes, w32, w64}
 use Rattle.mc_calls.specs.declared.call.Call.{Call}
@@ -97,7 +97,7 @@ pub record IsHold (h : Hold) : Type 0 where
 
 -- the holds are in the order of connections, from this one on
 abbrev pub AreByConnection : ℕ → List Hold → Type 0
-AreByConnection connection [] = Unit {0}
+AreByConnection connection [] = ⊤
 AreByConnection connection (h ∷ hs) = (connection ≤ h.conn) × AreByConnection h.conn hs
 
 -- a journal that has an encoding

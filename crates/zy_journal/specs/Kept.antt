@@ -1,5 +1,5 @@
 -- The entries of a journal by how they are kept. No public clause cites this module.
-use Rattle.std.specs.Prelude.{◌≤◌, List, length}
+use Rattle.std.specs.Prelude.{◌≤◌, List, length, ⊤}
 use Rattle.mc_calls.specs.declared.entry.Entry.{Entry}
 use Rattle.zy_journal.specs.declared.journal.Kept.{Kept}
 use Rattle.zy_journal.specs.declared.journal.Kept.TheVariants.{Listed, Apart}
@@ -12,5 +12,5 @@ entries_of (Apart histories) = merged histories.items
 
 -- histories can be merged
 abbrev pub IsKept : Kept → Type 0
-IsKept (Listed entries) = Unit {0}
+IsKept (Listed entries) = ⊤
 IsKept (Apart histories) = (length histories.items ≤ 256) × AreInOrder histories.items
