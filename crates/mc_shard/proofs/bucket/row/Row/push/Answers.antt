@@ -8,4 +8,4 @@ invariant_of-self c =
     let row = c.self.inside.entries.items in
     let room : length row < 16 = subst (λ (entries : Keyed). length entries < 16) (sym c.self.view_is) c.requires.room in
     rw (c.in-Ok.ensures.items, c.fingerprint-fingerprint.ensures.value, c.len-at.ensures, c.self.inside.entries.ok.0)
-    (prints_pushed c.self.inside.fingerprints row (c.args.key, c.args.item) c.self.invariant (omega (arith, room, c.self.told)))
+    (prints_pushed c.self.inside.fingerprints row (c.args.key.now, c.args.place) c.self.invariant (omega (arith, room, c.self.told)))

@@ -4,8 +4,8 @@ use Rattle.mc_shard.specs.Buckets.{Keyed, NoneBefore}
 use Rattle.mc_shard.proofs.BucketLemmas.{got_at}
 use Rattle.mc_shard.proofs.RowLemmas.{before_next, first_found, none_found}
 use Rattle.mc_shard.proofs.FingerprintLemmas.{prints_cover, print_differs}
-use Rattle.mc_shard.proofs.bucket.row.Row.place_of.Goals as goal
-use Rattle.mc_shard.proofs.bucket.row.Row.place_of.Goals.{else-fingerprints-at-via-then-fingerprints-at+else-eq, else-fingerprints-at-via-else-fingerprints-at}
+use Rattle.mc_shard.proofs.bucket.row.Row.index_of.Goals as goal
+use Rattle.mc_shard.proofs.bucket.row.Row.index_of.Goals.{else-fingerprints-at-via-then-fingerprints-at+else-eq, else-fingerprints-at-via-else-fingerprints-at}
 
 pub bounds-fingerprints-at : goal.bounds-fingerprints-at
 bounds-fingerprints-at c =
