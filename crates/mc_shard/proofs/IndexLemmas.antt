@@ -1,5 +1,5 @@
 -- The items at the places of their keys: what a change of the places, and of what was stored, changes.
-use Rattle.std.proofs.Common.{◌≡◌, ◌≢◌, ℕ, zero, suc, ◌+◌, ◌-◌, ◌<◌, ◌≤◌, ◌^◌, Bool, true, false, cond, List, [], ◌∷◌, ◌++◌, length, set, get_or, refl, sym, ap, subst, ◌∙◌, arith, length-append}
+use Rattle.std.proofs.Common.{◌≡◌, ◌≢◌, ℕ, zero, suc, ◌+◌, ◌-◌, ◌<◌, ◌≤◌, ◌^◌, Bool, true, false, cond, List, [], ◌∷◌, ◌++◌, length, set, get_or, refl, sym, ap, subst, ◌∙◌, arith, length-append, length-set, get_or-set_same, slice_get}
 use Rattle.std.specs.Prelude.{Option, Some, None, IfSome, is_some, option_map}
 use Rattle.std.specs.BTreeMap.{is_at}
 use Rattle.std.specs.FinMap.{get, insert, remove, contains_key, empty}
@@ -269,3 +269,89 @@ within_by stored key (Some place) is = is.below
 pub places_within : (stored : List StoredItem) (places : Keyed) (key : Option (List ℕ)) (place : Option ℕ) → place ≡ place_at places key → ArePlaces stored places → IfSome place (λ p. p < length stored)
 places_within stored places None place is are = subst (λ (p : Option ℕ). IfSome p (λ n. n < length stored)) (sym is) tt
 places_within stored places (Some key) place is are = within_by stored key place (is_for stored places key place is are)
+
+-- ---- another item takes the place of a key's
+
+other_at : (xs : List StoredItem) (n m : ℕ) (x : StoredItem) → m ≢ n → item_at (set xs n x) m ≡ item_at xs m
+other_at [] n m x differ = refl
+other_at (y ∷ xs) zero zero x differ = absurd (differ refl)
+other_at (y ∷ xs) zero (suc m) x differ = refl
+other_at (y ∷ xs) (suc n) zero x differ = refl
+other_at (y ∷ xs) (suc n) (suc m) x differ = other_at xs n m x (λ e. differ (ap suc e))
+
+-- keys that differ have other places
+other_place : (stored : List StoredItem) (key q : List ℕ) (place p : ℕ) → IsFor stored key place → IsFor stored q p → is_at (hashed_cmp key) q ≡ false → p ≢ place
+other_place stored key q place p here there other same =
+    let equal : q ≡ key = sym there.key_is ∙ ap (λ (n : ℕ). (item_at stored n).key) same ∙ here.key_is in
+    let alike : true ≡ false = sym (at_itself key) ∙ ap (λ (k : List ℕ). is_at (hashed_cmp key) k) (sym equal) ∙ other in
+    cc
+
+set_at : (stored : List StoredItem) (key q : List ℕ) (place : ℕ) (x : StoredItem) (p : Option ℕ) → IsFor stored key place → IfSome p (IsFor stored q) → is_at (hashed_cmp key) q ≡ false
+    → found_at (set stored place x) p ≡ found_at stored p
+set_at stored key q place x None here there other = refl
+set_at stored key q place x (Some p) here there other = ap (λ (y : StoredItem). Some y.item) (other_at stored place p x (other_place stored key q place p here there other))
+
+set_for : (stored : List StoredItem) (key q : List ℕ) (place : ℕ) (x : StoredItem) (p : Option ℕ) → IsFor stored key place → IfSome p (IsFor stored q) → is_at (hashed_cmp key) q ≡ false
+    → IfSome p (IsFor (set stored place x) q)
+set_for stored key q place x None here there other = tt
+set_for stored key q place x (Some p) here there other = record {
+  below = (let below = there.below in omega (arith, below, length-set stored place x));
+  key_is = ap (λ (y : StoredItem). y.key) (other_at stored place p x (other_place stored key q place p here there other)) ∙ there.key_is;
+}
+
+module _ (stored stored' : List StoredItem) (c c' : Contents) (key : List ℕ) (place : ℕ) (x : StoredItem) (item : Item)
+    (index : IsIndex stored c) (found : Some place ≡ place_in c.places key) (there : x ≡ get_or stored place x)
+    (stored_is : stored' ≡ set stored place (keyed x.key item))
+    (counted : c' ≡ record c { count = c.count + 1; counts = c.counts }) where
+  now : StoredItem
+  now = keyed x.key item
+
+  here : IsFor stored key place
+  here = is_for stored c.places key (Some place) found index.places
+
+  key_of_x : x.key ≡ key
+  key_of_x = ap (λ (y : StoredItem). y.key) (there ∙ same_default stored place here.below) ∙ here.key_is
+    where
+      same_default : (xs : List StoredItem) (n : ℕ) → n < length xs → get_or xs n x ≡ get_or xs n nothing
+      same_default [] n below = absurd (omega (arith, below))
+      same_default (y ∷ xs) zero below = refl
+      same_default (y ∷ xs) (suc n) below = same_default xs n (omega (arith, below))
+
+  set_on : GoesOn stored (set stored place now) c.places key
+  set_on = record {
+    same = λ q other. set_at stored key q place now (place_in c.places q) here (index.places q) other;
+    are = λ q other. set_for stored key q place now (place_in c.places q) here (index.places q) other;
+  }
+
+  at_place : item_at (set stored place now) place ≡ now
+  at_place = get_or-set_same stored place now nothing here.below
+
+  set_here : IsFor (set stored place now) key place
+  set_here = record {
+    below = (let below = here.below in omega (arith, below, length-set stored place now));
+    key_is = ap (λ (y : StoredItem). y.key) at_place ∙ key_of_x;
+  }
+
+  kept_by : (b : Bool) (p : Option ℕ) → (b ≡ true → p ≡ Some place) → p ≡ cond b (Some place) p
+  kept_by true p is = is refl
+  kept_by false p is = refl
+
+  set_changed : IsWith c.places key (Some place) c'.places
+  set_changed q = ap (λ (d : Contents). place_in d.places q) counted
+      ∙ kept_by (is_at (hashed_cmp key) q) (place_in c.places q) (λ same. ap (place_in c.places) (sym (same_at key q same)) ∙ sym found)
+
+  set_count : c'.count ≡ c.count + 1
+  set_count = ap (λ (d : Contents). d.count) counted
+
+  set_counts : c'.counts ≡ cond (is_some (Some place)) c.counts (stats.with_item c.counts)
+  set_counts = ap (λ (d : Contents). d.counts) counted
+
+  pub replaced_index : IsIndex stored' c'
+  replaced_index =
+      subst (λ (s : List StoredItem). IsIndex s c') (sym stored_is)
+      (index_put stored (set stored place now) c c' key place item (Some place) set_on index set_here (ap (λ (y : StoredItem). y.item) at_place) set_changed set_count set_counts found)
+
+  pub replaced_contents : contents_in stored' c' ≡ with_item (contents_in stored c) (Some key) item
+  replaced_contents =
+      ap (λ (s : List StoredItem). contents_in s c') stored_is
+      ∙ contents_put stored (set stored place now) c c' key place item (Some place) set_on index set_here (ap (λ (y : StoredItem). y.item) at_place) set_changed set_count set_counts found

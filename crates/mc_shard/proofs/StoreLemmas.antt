@@ -26,8 +26,8 @@ use Rattle.mc_shard.specs.declared.contents.Noted.TheVariants as Noting
 use Rattle.mc_shard.specs.Contents.{AreCounts, IsSound, call_counts_in, with_item}
 use Rattle.mc_shard.specs.Buckets.{Keyed, place_in, IsWith}
 use Rattle.mc_shard.specs.Shard.{Kept, kept, entry_of, with_entry}
-use Rattle.mc_shard.specs.Index.{items_at, IsFor, found_at, place_at, contents_in, noted_by, tallied_by, IsIndex, HasEntry, IsIndexed}
-use Rattle.mc_shard.proofs.IndexLemmas.{item_got}
+use Rattle.mc_shard.specs.Index.{items_at, IsFor, found_at, place_at, contents_in, no_contents, noted_by, tallied_by, IsIndex, HasEntry, IsIndexed}
+use Rattle.mc_shard.proofs.IndexLemmas.{item_got, index_none}
 use Rattle.mc_shard.proofs.SoundLemmas.{IsSound-applied, calls-made}
 
 -- ---- counts
@@ -104,3 +104,18 @@ module _ (number shards last stamp : ℕ) (contents middle contents' : Contents)
 pub has_set : (old new : Recorded) (tag : Tag) (stamp : ℕ) (key : List ℕ) (item : Item) → new ≡ ledgers.with_set old tag stamp key item
     → HasEntry old tag stamp (record { call = Set key item.flags item.value; reply = Stored }) new
 has_set old new tag stamp key item is = record { shard = ap (λ (l : Recorded). l.shard) is; entries = ap (λ (l : Recorded). l.entries) is }
+
+-- ---- a shard without calls
+
+pub indexed_none : (number shards : ℕ) → number < shards → shards ≤ 256 → IsIndexed number shards 0 no_contents (ledgers.recorded number [] [])
+indexed_none number shards within few = record {
+  here = refl;
+  index = index_none;
+  sound = record {
+    within = within;
+    few = few;
+    history_is = record { replay = tt; place = tt; stamps = tt; fits = tt };
+    contents_are = refl;
+    last_is = refl;
+  };
+}

@@ -39,6 +39,7 @@ impl Shard {
         ensures err { OnErr result (self.new ≡ self.old) }
         ensures sound { IsHistory self.new.shards self.new.number self.new.history }
     {
+        let _ = &self.number;
         let key = match shared(&mut call) {
             Ok(key) => key,
             Err(refused) => return Err((call, refused)),

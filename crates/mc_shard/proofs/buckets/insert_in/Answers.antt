@@ -27,3 +27,8 @@ pub returns-in-Err-clause-err : goal.returns-in-Err-clause-err
 returns-in-Err-clause-err c =
     entries_kept bucket_of 256 c.args.buckets.now.items c.requires.buckets c.args.key.now c.bucket.result c.bucket.ensures.value (omega (arith, c.requires.all, c.bucket.ensures.within))
     c.index_mut.result.now c.insert.new.self c.index_mut.ensures.value c.in-Err.ensures.err
+
+pub returns-in-Err-clause-absent : goal.returns-in-Err-clause-absent
+returns-in-Err-clause-absent c =
+    lookup_there bucket_of 256 c.args.buckets.now.items c.args.key.now c.bucket.result c.index_mut.result.now c.requires.buckets c.bucket.ensures.value (omega (arith, c.requires.all, c.bucket.ensures.within)) c.index_mut.ensures.value
+    ∙ c.in-Err.ensures.absent

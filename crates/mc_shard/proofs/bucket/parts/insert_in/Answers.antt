@@ -27,3 +27,8 @@ pub returns-in-Err-clause-err : goal.returns-in-Err-clause-err
 returns-in-Err-clause-err c =
     entries_kept part_of 32 c.args.parts.now.items c.requires.parts c.args.key.now c.part.result c.part.ensures.value (omega (arith, c.requires.all, c.part.ensures.within))
     c.index_mut.result.now c.insert.new.self c.index_mut.ensures.value c.in-Err.ensures.err
+
+pub returns-in-Err-clause-absent : goal.returns-in-Err-clause-absent
+returns-in-Err-clause-absent c =
+    lookup_there part_of 32 c.args.parts.now.items c.args.key.now c.part.result c.index_mut.result.now c.requires.parts c.part.ensures.value (omega (arith, c.requires.all, c.part.ensures.within)) c.index_mut.ensures.value
+    ∙ c.in-Err.ensures.absent

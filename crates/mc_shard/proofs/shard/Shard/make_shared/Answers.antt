@@ -17,11 +17,11 @@ use Rattle.mc_shard.proofs.SoundLemmas.{calls-made, tally_counts}
 use Rattle.mc_shard.proofs.StoreLemmas.{tallied_is, found_is, indexed_made, view_made}
 use Rattle.mc_shard.proofs.shard.Shard.make_shared.Goals as goal
 
-pub item_at-requires : goal.item_at-requires
-item_at-requires c = record { within = places_within c.self.inside.ledger.stored c.self.inside.contents.places c.args.key c.place_at-place.result c.place_at-place.ensures.value c.self.invariant.index.places }
+pub item_at-found-requires : goal.item_at-found-requires
+item_at-found-requires c = record { within = places_within c.self.inside.ledger.stored c.self.inside.contents.places c.args.key c.place_at-place.result c.place_at-place.ensures.value c.self.invariant.index.places }
 
 -- the outcome is that of the table
-outcome_is : (c : goal.After-reply) → outcome_in c.args.key c.in-Ok.step
+outcome_is : (c : goal.In-Ok) → outcome_in c.args.key c.in-Ok.step
     ≡ outcome_of (tallied (contents_in c.self.inside.ledger.stored c.self.inside.contents)) c.args.call (item_at (items_at c.self.inside.ledger.stored c.self.inside.contents.places) (key_of c.args.call))
 outcome_is c =
     let stored = c.self.inside.ledger.stored in
@@ -33,8 +33,8 @@ outcome_is c =
         ∙ ap (item_at (items_at stored contents.places)) c.requires.key)
 
 -- the reply is of the table
-pub note_of-requires : goal.note_of-requires
-note_of-requires c = record {
+pub note_of-noted-requires : goal.note_of-noted-requires
+note_of-noted-requires c = record {
   answers = subst (MayAnswer c.args.call) (sym (ap (λ (o : Outcome). o.reply) c.in-Ok.ensures.value)) (outcome_answers c.tallied.result c.args.call (option_copied c.item_at-found.result));
 }
 
@@ -64,8 +64,8 @@ note-requires-clause-hits c = c.in-Ok-carry_out.ensures.index.counts_are.few_hit
 pub note-requires-clause-misses : goal.note-requires-clause-misses
 note-requires-clause-misses c = c.in-Ok-carry_out.ensures.index.counts_are.few_misses
 
-pub invariant_of-self-in-Ok-carry_out : goal.invariant_of-self-in-Ok-carry_out
-invariant_of-self-in-Ok-carry_out c =
+pub invariant_of-self : goal.invariant_of-self
+invariant_of-self c =
     indexed_made c.self.inside.number c.self.inside.shards c.self.inside.last (c.max-stamp.result + 1) c.self.inside.contents c.carry_out.new.contents c.note.new.self c.self.inside.ledger c.carry_out.new.ledger
     c.args.tag c.args.call c.in-Ok.step.reply c.note_of-noted.result (outcome_in c.args.key c.in-Ok.step) c.self.invariant (outcome_is c) refl
     c.in-Ok-carry_out.ensures.ok c.in-Ok-carry_out.ensures.index c.in-Ok-carry_out.ensures.entries c.note.ensures.value
@@ -73,7 +73,7 @@ invariant_of-self-in-Ok-carry_out c =
     (record { part = c.numbers_fit.ensures.part; call = c.numbers_fit.ensures.call; reply = c.numbers_fit.ensures.reply })
 
 pub returns-in-Ok-carry_out-clause-sound : goal.returns-in-Ok-carry_out-clause-sound
-returns-in-Ok-carry_out-clause-sound c = (invariant_of-self-in-Ok-carry_out c).sound.history_is
+returns-in-Ok-carry_out-clause-sound c = (invariant_of-self c).sound.history_is
 
 pub returns-in-Ok-carry_out-clause-reply : goal.returns-in-Ok-carry_out-clause-reply
 returns-in-Ok-carry_out-clause-reply c =

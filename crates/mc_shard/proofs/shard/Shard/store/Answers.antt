@@ -29,8 +29,8 @@ note-requires-clause-hits c = c.in-Ok.ensures.index.counts_are.few_hits
 pub note-requires-clause-misses : goal.note-requires-clause-misses
 note-requires-clause-misses c = c.in-Ok.ensures.index.counts_are.few_misses
 
-pub invariant_of-self-in-Ok : goal.invariant_of-self-in-Ok
-invariant_of-self-in-Ok c =
+pub invariant_of-self : goal.invariant_of-self
+invariant_of-self c =
     let key = c.share.new.self in
     let value = c.share-else-is_err.new.self in
     let old = c.self.inside.contents in
@@ -60,7 +60,7 @@ returns-in-Ok-clause-ok c =
     ∙ ap (λ (v : List ℕ). with_entry c.args.self.now (entry_of c.args.tag c.args.self.now.number (Set c.args.key c.args.flags v) Stored stamp)) c.share-else-is_err.ensures.value
 
 pub returns-in-Ok-clause-sound : goal.returns-in-Ok-clause-sound
-returns-in-Ok-clause-sound c = (invariant_of-self-in-Ok c).sound.history_is
+returns-in-Ok-clause-sound c = (invariant_of-self c).sound.history_is
 
 pub returns-in-Ok-clause-state : goal.returns-in-Ok-clause-state
 returns-in-Ok-clause-state c =

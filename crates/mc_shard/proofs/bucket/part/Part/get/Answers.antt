@@ -11,6 +11,6 @@ returns-in-Some c =
 pub returns-in-None : goal.returns-in-None
 returns-in-None c =
     rw (← c.self.view_is) (record {
-      value = c.get-in-None.ensures.value
+      value = c.copied.ensures ∙ c.get-in-None.ensures.value
           ∙ sym (item_after c.self.inside.row c.self.inside.tree.entries c.args.key.now (sym c.in-None.ensures.value));
     })

@@ -1,5 +1,5 @@
-use Rattle.std.proofs.Common.{◌≡◌, subst, sym}
-use Rattle.std.specs.Prelude.{Option, IfOk}
+use Rattle.std.proofs.Common.{◌≡◌, ℕ, subst, sym}
+use Rattle.std.specs.Prelude.{Option, None, IfOk, OnErr}
 use Rattle.mc_shard.proofs.RowLemmas.{within_row, item_before, item_after, row_changed}
 use Rattle.mc_shard.proofs.bucket.part.Part.insert.Goals as goal
 
@@ -18,3 +18,8 @@ pub returns-in-None-clause-old : goal.returns-in-None-clause-old
 returns-in-None-clause-old c =
     rw (← c.self.view_is) (subst (λ (o : Option ℕ). IfOk c.add.result (λ old. old ≡ o))
     (sym (item_after c.self.inside.row c.self.inside.tree.entries c.args.key.now c.in-None.ensures.none)) c.add.ensures.old)
+
+pub returns-in-None-clause-absent : goal.returns-in-None-clause-absent
+returns-in-None-clause-absent c =
+    rw (← c.self.view_is) (subst (λ (o : Option ℕ). OnErr c.add.result (o ≡ None))
+    (sym (item_after c.self.inside.row c.self.inside.tree.entries c.args.key.now c.in-None.ensures.none)) c.add.ensures.absent)

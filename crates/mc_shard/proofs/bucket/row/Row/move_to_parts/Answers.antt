@@ -1,5 +1,6 @@
-use Rattle.std.proofs.Common.{ap, subst, sym, ◌∙◌, ◌++◌}
-use Rattle.mc_shard.specs.Buckets.{Keyed, AreFingerprints, place_in}
+use Rattle.std.proofs.Common.{List, ℕ, ap, subst, sym, ◌∙◌, ◌++◌}
+use Rattle.std.specs.Prelude.{Some}
+use Rattle.mc_shard.specs.Buckets.{Keyed, AreFingerprints, IsWith, place_in}
 use Rattle.mc_shard.proofs.RowLemmas.{entry_moved}
 use Rattle.mc_shard.proofs.FingerprintLemmas.{prints_popped}
 use Rattle.mc_shard.proofs.bucket.row.Row.move_to_parts.Goals as goal
@@ -13,6 +14,7 @@ pub returns-in-Ok : goal.returns-in-Ok
 returns-in-Ok c = rw (← c.self.view_is) (record {
   same = λ q.
       ap (λ (row : Keyed). place_in (row ++ c.insert.new.self) q) c.give_room.ensures.value
-      ∙ entry_moved c.pop.new.self.items c.args.parts.now c.insert.new.self c.in-Some.key c.in-Some.place c.in-Ok.ensures.ok q
+      ∙ entry_moved c.pop.new.self.items c.args.parts.now c.insert.new.self c.in-Some.key c.in-Some.place
+          (subst (λ (k : List ℕ). IsWith c.args.parts.now k (Some c.in-Some.place) c.insert.new.self) c.sought.ensures.value c.in-Ok.ensures.ok) q
       ∙ ap (λ (row : Keyed). place_in (row ++ c.args.parts.now) q) (sym c.in-Some.ensures.items);
 })
