@@ -1,2 +1,2 @@
-mod CompactLemmas
-mod WalkLemmas
+pub mod CompactLemmas
+pub mod WalkLemmas

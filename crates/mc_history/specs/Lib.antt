@@ -1,3 +1,3 @@
 pub mod Recorded
 pub mod Compact
-pub mod LentCall
+pub mod Lent

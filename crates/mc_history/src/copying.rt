@@ -30,7 +30,7 @@ impl<'a> EntryRef<'a> {
     }
 
     // Copies the call with its reply.
-    fn copied(&self) -> Result<Exchange, NoMemory>
+    pub(crate) fn copied(&self) -> Result<Exchange, NoMemory>
         ensures call { IfOk result (λ copy. copy.call ≡ self.now.call) }
         ensures reply { IfOk result (λ copy. copy.reply ≡ self.now.reply) }
     {
@@ -53,7 +53,7 @@ fn copied_set(stored: &StoredItem) -> Result<Exchange, NoMemory>
 }
 
 // Makes the `set` that stored an item.
-pub(crate) fn set_call(stored: &StoredItem) -> Result<Call, NoMemory>
+fn set_call(stored: &StoredItem) -> Result<Call, NoMemory>
     ensures value { IfOk result (λ call. call ≡ Set stored.now.key stored.now.item.flags stored.now.item.value) }
 {
     let key = stored.key.copy()?;
@@ -68,7 +68,7 @@ pub(crate) fn set_call(stored: &StoredItem) -> Result<Call, NoMemory>
 }
 
 // Makes the `get` of a key.
-pub(crate) fn get_call(key: &Blob) -> Result<Call, NoMemory>
+fn get_call(key: &Blob) -> Result<Call, NoMemory>
     ensures value { IfOk result (λ call. call ≡ Get key.now) }
 {
     Ok(Call::Get { key: key.copy()? })

@@ -81,7 +81,14 @@ impl<'a> EntryRef<'a> {
         }
     }
 
-    /// Returns the key of the call.
+    /// Returns the code of the call.
+    pub fn code(&self) -> u8
+        ensures value { result ≡ call_code self.now.call }
+    {
+        self.kind().code()
+    }
+
+    /// Returns the key of the call, if it has one.
     pub fn key(&self) -> Option<&'a Blob>
         ensures value { option_copied result ≡ key_of self.now.call }
     {

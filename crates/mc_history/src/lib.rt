@@ -10,7 +10,7 @@ mod histories;
 mod history;
 mod history_walk;
 mod ledger;
-mod lent_call;
+mod lent_exchange;
 mod stored_item;
 
 pub use entry_ref::EntryRef;
@@ -19,5 +19,5 @@ pub use histories::Histories;
 pub use history::History;
 pub use history_walk::HistoryWalk;
 pub use ledger::Ledger;
-pub use lent_call::LentCall;
+pub use lent_exchange::LentExchange;
 pub use stored_item::StoredItem;

@@ -7,7 +7,8 @@ ghost use Rattle.mc_parse.specs.Calls.{due_at, due_of, tag_of};
 ghost use Rattle.mc_reply.specs.Text.{text};
 ghost use Rattle.zy_check.specs.Begun.{asked_in};
 
-use mc_calls::{CallReply, Entry, Replies};
+use mc_calls::{CallReply, Replies};
+use mc_history::EntryRef;
 use mc_parse::{Calls, Command, ShardCall, calls};
 use mc_reply::reply_text;
 use std::alloc::Global;
@@ -64,7 +65,7 @@ impl Begun {
     }
 
     /// Checks whether an entry is its next call, as the command with this index of a connection.
-    pub fn is_due(&self, entry: &Entry, conn: u32, index: u64) -> bool
+    pub fn is_due(&self, entry: &EntryRef<'_>, conn: u32, index: u64) -> bool
         ensures exact { result ≡ true ↔ slice_get (due_at self.now.shards conn index self.now.command)
             (length self.now.replies) ≡ Some (due_of entry.now) }
     {
@@ -112,13 +113,14 @@ impl Begun {
 }
 
 // Checks whether an entry is this part of a command.
-fn is_call(entry: &Entry, conn: u32, index: u64, part: usize, call: &ShardCall) -> bool
+fn is_call(entry: &EntryRef<'_>, conn: u32, index: u64, part: usize, call: &ShardCall) -> bool
     ensures exact { result ≡ true
         ↔ due_of entry.now ≡ record { tag = tag_of conn index part; call = call.now } }
 {
-    entry.tag.conn == conn
-        && entry.tag.index == index
-        && entry.tag.part as usize == part
-        && entry.shard == call.shard
-        && entry.call == call.call
+    let tag = entry.tag();
+    tag.conn == conn
+        && tag.index == index
+        && tag.part as usize == part
+        && entry.shard() == call.shard
+        && entry.call_is(&call.call)
 }

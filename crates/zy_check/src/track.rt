@@ -17,7 +17,8 @@ use crate::begun::Begun;
 use crate::compared::{Compared, Differing};
 use crate::cursor::Cursor;
 use crate::files::Files;
-use mc_calls::{CallReply, Entry};
+use mc_calls::CallReply;
+use mc_history::EntryRef;
 use std::alloc::Global;
 use std::mem;
 use zy_base::NoMemory;
@@ -98,7 +99,7 @@ impl Track {
     }
 
     /// Checks whether an entry is the call that is next.
-    pub fn is_due(&self, entry: &Entry, conn: u32) -> bool
+    pub fn is_due(&self, entry: &EntryRef<'_>, conn: u32) -> bool
         ensures exact { (b : Begun) → self.now.begun ≡ Some b → (result ≡ true
             ↔ slice_get (due_at b.shards conn self.now.commands b.command) (length b.replies)
             ≡ Some (due_of entry.now)) }

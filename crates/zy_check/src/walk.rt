@@ -1,13 +1,16 @@
 //! Walking through the entries of a journal.
 ghost use Rattle.std.specs.Prelude.{◌≡◌, ◌↔◌, ◌≤◌, ℕ, true, [], length, take, Some, IfOk, OnOk};
 ghost use Rattle.std.specs.List.{slice_get};
+ghost use Rattle.mc_calls.specs.Shard.{reply_to};
+ghost use Rattle.mc_shard.specs.Replay.{state_replayed};
 ghost use Rattle.zy_check.specs.Given.{IsNextCall};
 ghost use Rattle.zy_check.specs.Walk.{AreBeforeEntry, AreReplayed, AreTracked, FoundAt, FoundWrong, IsNextIn};
 
 use crate::files::Files;
 use crate::track::Track;
 use crate::verdict::Cause;
-use mc_calls::{CallReply, Entry};
+use mc_calls::CallReply;
+use mc_history::EntryRef;
 use mc_shard::Replay;
 use std::alloc::Global;
 use zy_base::NoMemory;
@@ -28,7 +31,7 @@ pub fn first_wrong(
         let Some(entry) = entries.next() else {
             return Ok(None);
         };
-        if let Some(cause) = wrong_at(files, at, entry, tracks, &mut states)? {
+        if let Some(cause) = wrong_at(files, at, &entry, tracks, &mut states)? {
             return Ok(Some(cause));
         }
     }
@@ -40,7 +43,7 @@ pub fn first_wrong(
 fn wrong_at(
     files: &Files,
     at: u64,
-    entry: &Entry,
+    entry: &EntryRef<'_>,
     tracks: &mut [Track],
     states: &mut Vec<Replay>,
 ) -> Result<Option<Cause>, NoMemory>
@@ -52,17 +55,28 @@ fn wrong_at(
         return Ok(Some(Cause::NotNext { entry: at }));
     }
     // The shard's reply is kept, which shares its value with the shard's item; a copy of the entry's would not.
-    let reply = states[entry.shard as usize].answer(&entry.call)?;
-    if !are_same(&entry.reply, &reply) {
+    let reply = answer_again(entry, &mut states[entry.shard() as usize])?;
+    if !entry.is_reply(&reply) {
         drop(reply);
         return Ok(Some(Cause::WrongReply { entry: at }));
     }
-    tracks[entry.tag.conn as usize].answer(reply)?;
+    tracks[entry.tag().conn as usize].answer(reply)?;
     Ok(None)
 }
 
+// Makes the call of an entry again on its shard, and returns the reply.
+fn answer_again(entry: &EntryRef<'_>, state: &mut Replay) -> Result<CallReply, NoMemory>
+    ensures reply { IfOk result (λ reply. reply ≡ reply_to state.old.state entry.now.call) }
+    ensures ok { OnOk result (state.new ≡ state_replayed state.old entry.now.call) }
+{
+    let exchange = entry.exchange()?;
+    let reply = state.answer(exchange.call());
+    drop(exchange);
+    reply
+}
+
 // Checks whether an entry is the next call of its connection. The connection goes on to that call.
-fn is_next(files: &Files, tracks: &mut [Track], entry: &Entry) -> Result<bool, NoMemory>
+fn is_next(files: &Files, tracks: &mut [Track], entry: &EntryRef<'_>) -> Result<bool, NoMemory>
     requires same { length tracks.old ≡ length files.now.streams }
     ensures kept { OnOk result ((at : ℕ) → AreTracked files.now at tracks.old
         → AreTracked files.now at tracks.new) }
@@ -70,7 +84,7 @@ fn is_next(files: &Files, tracks: &mut [Track], entry: &Entry) -> Result<bool, N
         → next ≡ true ↔ IsNextCall files.now (take at files.now.entries) entry.now) }
     ensures there { IfOk result (λ next. next ≡ true → IsNextIn tracks.new entry.now) }
 {
-    let conn = entry.tag.conn;
+    let conn = entry.tag().conn;
     if tracks.len() <= conn as usize {
         return Ok(false);
     }
@@ -79,13 +93,6 @@ fn is_next(files: &Files, tracks: &mut [Track], entry: &Entry) -> Result<bool, N
         return Ok(false);
     }
     Ok(track.is_due(entry, conn))
-}
-
-// Checks whether two replies are the same.
-fn are_same(one: &CallReply, other: &CallReply) -> bool
-    ensures same { result ≡ true ↔ one.now ≡ other.now }
-{
-    one == other
 }
 
 // Makes `shards` shards on which no call was made.

@@ -1,5 +1,5 @@
 -- The merged list as a function: it is the merge of the histories, and the least of their first entries is its first.
-use Rattle.std.proofs.Common.{Bor, ◌++◌, ◌≡◌, ◌≢◌, inl, inr, ℕ, zero, suc, ◌+◌, ◌<◌, true, false, List, [], ◌∷◌, length, refl, sym, ◌∙◌, ap, subst, arith}
+use Rattle.std.proofs.Common.{◌++◌, ◌≡◌, ◌≢◌, inl, inr, ℕ, zero, suc, ◌+◌, ◌<◌, true, false, List, [], ◌∷◌, length, refl, sym, ◌∙◌, ap, subst, arith}
 use Rattle.std.specs.Prelude.{Option, None, Some, IfSome, IfNone}
 use Rattle.std.specs.List.{sum_by}
 use Rattle.std.proofs.lemmas.Bool.{cases_Bool}
@@ -242,18 +242,18 @@ module _ (listed all : List Entry) (old new : List (List Entry)) (none : listed 
   new_is : (es : List Entry) → merged new ≡ es → listed ++ merged new ≡ es
   new_is es is = ap (λ l. l ++ merged new) none ∙ is
 
-  pub step_keeps : (found : Option (Bor Entry)) → IfSome found (λ e. IsNext old new e.now) → IfNone found (new ≡ old) → AreInOrder new
-  step_keeps (Some e) next same = in_order_taken old new next.at e.now are next.taken
+  pub step_keeps : (found : Option Entry) → IfSome found (λ e. IsNext old new e) → IfNone found (new ≡ old) → AreInOrder new
+  step_keeps (Some e) next same = in_order_taken old new next.at e are next.taken
   step_keeps None next same = subst AreInOrder (sym same) are
 
-  pub step_gives : (found : Option (Bor Entry)) → IfSome found (λ e. IsNext old new e.now) → IfSome found (λ e. all ≡ e.now ∷ (listed ++ merged new))
-  step_gives (Some e) next = sym old_is ∙ next_first old new e.now are next ∙ ap (λ l. e.now ∷ l) (sym (new_is (merged new) refl))
+  pub step_gives : (found : Option Entry) → IfSome found (λ e. IsNext old new e) → IfSome found (λ e. all ≡ e ∷ (listed ++ merged new))
+  step_gives (Some e) next = sym old_is ∙ next_first old new e are next ∙ ap (λ l. e ∷ l) (sym (new_is (merged new) refl))
   step_gives None next = tt
 
-  pub step_ends : (found : Option (Bor Entry)) → IfNone found ((shard : ℕ) → head_of old shard ≡ None) → IfNone found (all ≡ [])
+  pub step_ends : (found : Option Entry) → IfNone found ((shard : ℕ) → head_of old shard ≡ None) → IfNone found (all ≡ [])
   step_ends (Some e) heads = tt
   step_ends None heads = sym old_is ∙ none_merged old heads
 
-  pub step_stays : (found : Option (Bor Entry)) → IfNone found ((shard : ℕ) → head_of old shard ≡ None) → IfNone found (new ≡ old) → IfNone found (listed ++ merged new ≡ [])
+  pub step_stays : (found : Option Entry) → IfNone found ((shard : ℕ) → head_of old shard ≡ None) → IfNone found (new ≡ old) → IfNone found (listed ++ merged new ≡ [])
   step_stays (Some e) heads same = tt
   step_stays None heads same = new_is [] (ap merged same ∙ none_merged old heads)

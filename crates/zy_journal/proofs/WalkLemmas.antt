@@ -1,11 +1,13 @@
 -- What is left of histories that are walked.
 use Rattle.std.proofs.Common.{◌≡◌, ◌⊎◌, inl, inr, ℕ, zero, suc, ◌+◌, ◌*◌, ◌/◌, ◌%◌, ◌<◌, ◌≤◌, true, List, [], ◌∷◌, drop, length, get_or, set, add-one, replicate, refl, sym, ◌∙◌, ap, subst, arith}
-use Rattle.std.specs.Prelude.{if◌then◌else◌, Bool, false, Option, None, Some}
+use Rattle.std.specs.Prelude.{if◌then◌else◌, Bool, false, Option, None, Some, IfSome}
+use Rattle.std.specs.List.{slice_get}
 use Rattle.std.proofs.Math.Nat.{div-add-mod, mod-lt}
 use Rattle.std.proofs.lemmas.List.{get_or-set_same, get_or-set_other}
 use Rattle.std.proofs.lemmas.Bool.Decides.{nat_tests, eqb_tells}
 use Rattle.mc_calls.specs.declared.entry.Entry.{Entry}
 use Rattle.mc_calls.specs.Order.{history_of}
+use Rattle.mc_history.proofs.WalkLemmas.{next_is}
 use Rattle.zy_journal.specs.Merged.{is_earlier}
 use Rattle.zy_journal.specs.declared.heads.Head.{Head}
 use Rattle.zy_journal.specs.declared.heads.Least.{Least}
@@ -25,6 +27,12 @@ rest_is (h ∷ hs) (n ∷ ns) zero = refl
 rest_is (h ∷ hs) (n ∷ ns) (suc i) = rest_is hs ns i
 
 -- ---- the first entries
+
+-- the stamp of the entry at a place is that of the first entry from there on
+pub stamp_there : (h : List Entry) (at stamp : ℕ) → at < length h → IfSome (slice_get h at) (λ e. e.stamp ≡ stamp) → Some stamp ≡ first_stamp (drop at h)
+stamp_there [] at stamp less is = absurd (omega (arith, less))
+stamp_there (e ∷ es) zero stamp less is = ap (λ (n : ℕ). Some n) (sym is)
+stamp_there (e ∷ es) (suc at) stamp less is = stamp_there es at stamp (omega (arith, less)) is
 
 pub first_over : (h : List Entry) (n : ℕ) → length h ≤ n → first_stamp (drop n h) ≡ None
 first_over [] zero over = refl
@@ -104,11 +112,12 @@ pub list_there : (hs : List (List Entry)) (ns : List ℕ) (i stamp : ℕ) → he
 list_there hs ns i stamp is =
     elim (sides i (length hs)) [ inl inside ↦ inside | inr over ↦ absurd (let o : Some stamp ≡ None = sym is ∙ rest_over hs ns i over in cc) ]
 
--- and has one at its place
-pub entry_there : (hs : List (List Entry)) (ns : List ℕ) (i stamp : ℕ) (h : List Entry) → head_of (rests_of hs ns) i ≡ Some stamp → get_or hs i h ≡ h
-    → (history_of hs i ≡ h) × (get_or ns i 0 < length h)
-entry_there hs ns i stamp h is at =
-    let own : history_of hs i ≡ h = own_inside hs i h (list_there hs ns i stamp is) ∙ at in (
+-- and has one at its place, whatever is read if there is no list
+pub entry_there : (hs : List (List Entry)) (ns : List ℕ) (i stamp : ℕ) (none : List Entry) → head_of (rests_of hs ns) i ≡ Some stamp
+    → (history_of hs i ≡ get_or hs i none) × (get_or ns i 0 < length (get_or hs i none))
+entry_there hs ns i stamp none is =
+    let h : List Entry = get_or hs i none in
+    let own : history_of hs i ≡ h = own_inside hs i none (list_there hs ns i stamp is) in (
       own,
       elim (sides (get_or ns i 0) (length h)) [
         | inl inside ↦ inside
@@ -116,20 +125,11 @@ entry_there hs ns i stamp h is at =
       ],
     )
 
-drop_next : (h : List Entry) (n : ℕ) (e : Entry) → n < length h → drop n h ≡ get_or h n e ∷ drop (suc n) h
-drop_next [] n e inside = absurd (omega (arith, inside))
-drop_next (x ∷ h) zero e inside = refl
-drop_next (x ∷ h) (suc n) e inside = drop_next h n e (omega (arith, inside))
-
-drop_first : (h : List Entry) (n : ℕ) (e : Entry) → n < length h → drop n h ≡ get_or h n e ∷ drop (n + 1) h
-drop_first h n e inside = drop_next h n e inside ∙ ap (λ (m : ℕ). get_or h n e ∷ drop m h) (sym (add-one n))
-
 -- one place further on, a list has lost its first entry
-pub taken_at : (hs : List (List Entry)) (ns : List ℕ) (i n : ℕ) (e : Entry) → get_or ns i 0 ≡ n → i < length ns → n < length (history_of hs i) → get_or (history_of hs i) n e ≡ e
+pub taken_at : (hs : List (List Entry)) (ns : List ℕ) (i n : ℕ) (e : Entry) → get_or ns i 0 ≡ n → i < length ns → slice_get (history_of hs i) n ≡ Some e
     → IsTakenAt i (rests_of hs ns) (rests_of hs (set ns i (n + 1))) e
-taken_at hs ns i n e place room inside is = record {
-  own = rest_is hs ns i ∙ ap (λ (m : ℕ). drop m (history_of hs i)) place ∙ drop_first (history_of hs i) n e inside
-      ∙ ap (λ (x : Entry). x ∷ drop (n + 1) (history_of hs i)) is
+taken_at hs ns i n e place room is = record {
+  own = rest_is hs ns i ∙ ap (λ (m : ℕ). drop m (history_of hs i)) place ∙ next_is (history_of hs i) n e is
       ∙ ap (λ (l : List Entry). e ∷ l) (sym (rest_is hs (set ns i (n + 1)) i ∙ ap (λ (m : ℕ). drop m (history_of hs i)) (get_or-set_same ns i (n + 1) 0 room)));
   others = λ shard not. rest_is hs ns shard ∙ ap (λ (m : ℕ). drop m (history_of hs shard)) (sym (get_or-set_other ns i shard (n + 1) 0 (λ same. not (sym same)))) ∙ sym (rest_is hs (set ns i (n + 1)) shard);
 }

@@ -2,7 +2,7 @@
 ghost use Rattle.std.specs.Prelude.{◌≡◌, ◌+◌, ◌*◌, ◌<◌, ◌≤◌, ℕ, None, length, drop};
 ghost use Rattle.zy_journal.specs.Walk.{first_stamp, head_of, AreHeads, AreBests, IsBest, IsLeastIn};
 
-use mc_calls::{Entries, Entry};
+use mc_history::History;
 
 /// The first entry of a history: its shard and its stamp.
 #[derive(Clone, Copy)]
@@ -27,24 +27,24 @@ const NONE: Least = Least {
 };
 
 /// Returns the stamp of the entry at a place, if there is one.
-pub(crate) fn stamp_at(history: &[Entry], at: usize) -> Option<u64>
+pub(crate) fn stamp_at(history: &History, at: usize) -> Option<u64>
     ensures value { result ≡ first_stamp (drop at history.now) }
 {
     if at >= history.len() {
         return None;
     }
-    Some(history[at].stamp)
+    Some(history.stamp(at))
 }
 
 /// Returns the stamps of the first entries of all histories.
-pub(crate) fn heads_of(histories: &[Entries]) -> [Option<u64>; 256]
+pub(crate) fn heads_of(histories: &[History]) -> [Option<u64>; 256]
     requires few { length histories.now ≤ 256 }
     ensures value { AreHeads histories.now result }
 {
     let mut heads: [Option<u64>; 256] = [None; 256];
     let mut shard = 0;
     while shard < histories.len() {
-        heads[shard] = stamp_at(histories[shard].items(), 0);
+        heads[shard] = stamp_at(&histories[shard], 0);
         shard += 1;
     }
     heads

@@ -4,6 +4,7 @@ ghost use Rattle.zy_journal.specs.Merged.{AreInOrder, merged};
 
 use crate::walk::Walk;
 use mc_calls::{Entries, Hold, Holds};
+use mc_history::History;
 use std::marker::Model;
 
 /// The calls of all connections in one order, and the holds. Contracts see the
@@ -21,7 +22,7 @@ enum Kept {
     // As their list.
     Listed(Entries),
     // As the histories of all shards, which a walk merges.
-    Apart(Vec<Entries>),
+    Apart(Vec<History>),
 }
 
 impl Model for Journal {
@@ -49,7 +50,7 @@ impl Journal {
     }
 
     // Makes the journal of the merged list of histories, and of these holds.
-    pub(crate) fn apart(histories: Vec<Entries>, holds: Holds) -> Journal
+    pub(crate) fn apart(histories: Vec<History>, holds: Holds) -> Journal
         requires few { length histories.items ≤ 256 }
         requires ordered { AreInOrder histories.items }
         ensures entries { result.entries ≡ merged histories.items }
@@ -90,12 +91,12 @@ impl Journal {
 }
 
 // Returns the number of entries of all histories.
-fn count_of(histories: &[Entries]) -> Option<u64>
+fn count_of(histories: &[History]) -> Option<u64>
     ensures value { IfSome result (λ n. n ≡ length (merged histories.now)) }
 {
     let mut count: u64 = 0;
     for history in histories {
-        count = match count.checked_add(history.items().len() as u64) {
+        count = match count.checked_add(history.len() as u64) {
             Some(count) => count,
             None => return None,
         };

@@ -3,7 +3,8 @@ ghost use Rattle.std.specs.Prelude.{◌≡◌, None, IfOk, IfErr};
 ghost use Rattle.mc_calls.specs.Order.{IsOrdered, IsMergeOf, history_of};
 
 use crate::journal::Journal;
-use mc_calls::{Histories, Holds};
+use mc_calls::Holds;
+use mc_history::Histories;
 
 /// Makes the journal of the entries of all histories, by stamp and then by shard, and of the holds.
 /// No entry is moved: the journal keeps the histories, and a walk through its entries merges them

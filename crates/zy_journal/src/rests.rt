@@ -3,13 +3,13 @@ ghost use Rattle.std.specs.Prelude.{◌≡◌, ◌<◌, ◌≤◌, None, IfSome,
 ghost use Rattle.zy_journal.specs.Walk.{head_of, IsLeast, IsNext, IsTakenAt};
 
 use crate::heads::{Head, best_of, bests_of, first_of, heads_of, stamp_at};
-use mc_calls::{Entries, Entry};
+use mc_history::{EntryRef, History};
 use std::marker::Model;
 
 /// The entries of each history that were not taken yet. Contracts see these lists.
 #[derive(Drop)]
 pub(crate) struct Rests<'h> {
-    histories: &'h [Entries],
+    histories: &'h [History],
     // How many entries of each were taken.
     at: [usize; 256],
     // The stamp of the first entry left of each history, and for every 16 histories the first entry
@@ -34,7 +34,7 @@ impl<'h> Model for Rests<'h> {
 
 impl<'h> Rests<'h> {
     // Begins before the first entry of each history.
-    pub(crate) fn new(histories: &'h [Entries]) -> Rests<'h>
+    pub(crate) fn new(histories: &'h [History]) -> Rests<'h>
         requires few { length histories.now ≤ 256 }
         ensures value { result ≡ histories.now }
     {
@@ -48,8 +48,8 @@ impl<'h> Rests<'h> {
     }
 
     // Takes the next entry: the first of all that are left.
-    pub(crate) fn next(&mut self) -> Option<&'h Entry>
-        ensures some { IfSome result (λ e. IsNext self.old self.new e.now) }
+    pub(crate) fn next(&mut self) -> Option<EntryRef<'h>>
+        ensures some { IfSome result (λ e. IsNext self.old self.new e) }
         ensures none { IfNone result ((shard : _) → head_of self.old shard ≡ None) }
         ensures kept { IfNone result (self.new ≡ self.old) }
     {
@@ -79,17 +79,19 @@ impl<'h> Rests<'h> {
     }
 
     // Takes the first entry of a history.
-    fn take(&mut self, shard: usize) -> &'h Entry
+    fn take(&mut self, shard: usize) -> EntryRef<'h>
         requires within { shard < 256 }
         requires some { IsLeast self.old shard }
-        ensures value { IsTakenAt shard self.old self.new result.now }
+        ensures value { IsTakenAt shard self.old self.new result }
     {
         let at = self.at[shard];
-        let history = self.histories[shard].items();
+        let history = &self.histories[shard];
+        // The number of entries fits its type, and so does the place after this one.
+        let _count = history.len();
         let group = shard / 16;
         self.at[shard] = at + 1;
         self.heads[shard] = stamp_at(history, at + 1);
         self.bests[group] = best_of(&self.heads, group);
-        &history[at]
+        history.entry(at)
     }
 }

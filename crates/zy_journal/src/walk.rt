@@ -3,7 +3,8 @@ ghost use Rattle.std.specs.Prelude.{◌≡◌, ◌∷◌, ◌≤◌, [], length,
 ghost use Rattle.zy_journal.specs.Merged.{AreInOrder, merged};
 
 use crate::rests::Rests;
-use mc_calls::{Entries, Entry};
+use mc_calls::Entry;
+use mc_history::{EntryRef, History};
 use std::marker::Model;
 
 /// The entries of a journal that were not read yet. Contracts see it as their list.
@@ -39,7 +40,7 @@ impl<'j> Walk<'j> {
     }
 
     // Begins with all entries of histories, merged.
-    pub(crate) fn apart(histories: &'j [Entries]) -> Walk<'j>
+    pub(crate) fn apart(histories: &'j [History]) -> Walk<'j>
         requires few { length histories.now ≤ 256 }
         requires ordered { AreInOrder histories.now }
         ensures value { result ≡ merged histories.now }
@@ -51,14 +52,14 @@ impl<'j> Walk<'j> {
     }
 
     /// Returns the next entry; `None` if and only if none is left. Takes no memory.
-    pub fn next(&mut self) -> Option<&'j Entry>
-        ensures some { IfSome result (λ e. self.old ≡ e.now ∷ self.new) }
+    pub fn next(&mut self) -> Option<EntryRef<'j>>
+        ensures some { IfSome result (λ e. self.old ≡ e ∷ self.new) }
         ensures none { IfNone result (self.old ≡ []) }
         ensures kept { IfNone result (self.new ≡ []) }
     {
         if let Some((first, others)) = self.listed.split_first() {
             self.listed = others;
-            return Some(first);
+            return Some(EntryRef::of(first));
         }
         self.rests.next()
     }

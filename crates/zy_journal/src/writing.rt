@@ -12,7 +12,8 @@ use crate::gathered::{put, put_flags, put_number};
 use crate::journal::Journal;
 use crate::walk::Walk;
 use arrayvec::ArrayVec;
-use mc_calls::{Call, CallReply, Entry, Hold, Tallied};
+use mc_calls::{Hold, Tallied};
+use mc_history::EntryRef;
 use zy_base::{Blob, Failed, Sink, write_pieces, write_whole};
 
 /// Writes a journal whose numbers, keys and values are within the format's bounds. Takes no memory.
@@ -35,7 +36,7 @@ fn write_entries<K: Sink>(sink: &mut K, entries: Walk<'_>) -> Result<(), Failed>
 {
     let mut left = entries;
     while let Some(entry) = left.next() {
-        write_entry(sink, entry)?;
+        write_entry(sink, &entry)?;
     }
     Ok(())
 }
@@ -59,43 +60,49 @@ fn write_hold<K: Sink>(sink: &mut K, hold: &Hold) -> Result<(), Failed>
     write_pieces(sink, &[b"H", &conn, &core, &count])
 }
 
-fn write_entry<K: Sink>(sink: &mut K, entry: &Entry) -> Result<(), Failed>
+fn write_entry<K: Sink>(sink: &mut K, entry: &EntryRef<'_>) -> Result<(), Failed>
     requires fits { IsEntry entry.now }
     ensures writes { Writes K.holds K.faults K.finishes sink.old sink.new result (entry_text entry.now) }
 {
     write_head(sink, entry)?;
-    write_call(sink, &entry.call)?;
-    write_reply(sink, &entry.reply)
+    write_call(sink, entry)?;
+    write_reply(sink, entry)
 }
 
-fn write_head<K: Sink>(sink: &mut K, entry: &Entry) -> Result<(), Failed>
+fn write_head<K: Sink>(sink: &mut K, entry: &EntryRef<'_>) -> Result<(), Failed>
     ensures writes { Writes K.holds K.faults K.finishes sink.old sink.new result (entry_head entry.now) }
 {
     let mut head: ArrayVec<u8, 29> = ArrayVec::new();
     put(&mut head, b"J");
-    put(&mut head, &entry.stamp.to_be_bytes());
-    put(&mut head, &entry.shard.to_be_bytes());
-    put(&mut head, &entry.tag.conn.to_be_bytes());
-    put(&mut head, &entry.tag.index.to_be_bytes());
-    put(&mut head, &entry.tag.part.to_be_bytes());
+    let tag = entry.tag();
+    put(&mut head, &entry.stamp().to_be_bytes());
+    put(&mut head, &entry.shard().to_be_bytes());
+    put(&mut head, &tag.conn.to_be_bytes());
+    put(&mut head, &tag.index.to_be_bytes());
+    put(&mut head, &tag.part.to_be_bytes());
     write_whole(sink, head.as_slice())
 }
 
-fn write_call<K: Sink>(sink: &mut K, call: &Call) -> Result<(), Failed>
-    requires fits { IsCall call.now }
-    ensures writes { Writes K.holds K.faults K.finishes sink.old sink.new result (call_text call.now) }
+fn write_call<K: Sink>(sink: &mut K, entry: &EntryRef<'_>) -> Result<(), Failed>
+    requires fits { IsCall entry.now.call }
+    ensures writes { Writes K.holds K.faults K.finishes sink.old sink.new result (call_text entry.now.call) }
 {
-    write_start(sink, call.code(), call.key())?;
-    write_fields(sink, call.flags(), call.number(), call.value())
+    write_start(sink, entry.code(), entry.key())?;
+    write_fields(sink, entry.flags(), entry.number(), entry.value())
 }
 
-fn write_reply<K: Sink>(sink: &mut K, reply: &CallReply) -> Result<(), Failed>
-    requires fits { IsReply reply.now }
-    ensures writes { Writes K.holds K.faults K.finishes sink.old sink.new result (reply_text reply.now) }
+fn write_reply<K: Sink>(sink: &mut K, entry: &EntryRef<'_>) -> Result<(), Failed>
+    requires fits { IsReply entry.now.reply }
+    ensures writes { Writes K.holds K.faults K.finishes sink.old sink.new result (reply_text entry.now.reply) }
 {
-    write_whole(sink, &[reply.code()])?;
-    write_counts(sink, reply.counts())?;
-    write_fields(sink, reply.flags(), reply.number(), reply.value())
+    write_whole(sink, &[entry.reply_code()])?;
+    write_counts(sink, entry.reply_counts())?;
+    write_fields(
+        sink,
+        entry.reply_flags(),
+        entry.reply_number(),
+        entry.reply_value(),
+    )
 }
 
 // Writes the five numbers of a tally, if they are there.

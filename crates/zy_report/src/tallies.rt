@@ -5,7 +5,8 @@ ghost use Rattle.zy_report.specs.Report.{counts_by_shard};
 ghost use Rattle.zy_report.specs.Tally.{CanCount, CountsAll, kept_at};
 
 use crate::tally::Tally;
-use mc_calls::{Entry, Tallied};
+use mc_calls::Tallied;
+use mc_history::EntryRef;
 use std::alloc::Global;
 use zy_base::NoMemory;
 use zy_journal::{Journal, Walk};
@@ -50,18 +51,22 @@ fn add_all<'j>(
 {
     let mut left = entries;
     while let Some(entry) = left.next() {
-        add(alloc, tallies, entry)?;
+        add(alloc, tallies, &entry)?;
     }
     Ok(())
 }
 
 // Counts one more entry, at its shard.
-fn add<'j>(alloc: Global, tallies: &mut Vec<Tally<'j>>, entry: &'j Entry) -> Result<(), NoMemory>
+fn add<'j>(
+    alloc: Global,
+    tallies: &mut Vec<Tally<'j>>,
+    entry: &EntryRef<'j>,
+) -> Result<(), NoMemory>
     requires room { CanCount (kept_at tallies.old.items entry.now.shard) }
     ensures ok { OnOk result ((es : List Entry) → CountsAll tallies.old.items es
         → CountsAll tallies.new.items (es ++ entry.now ∷ [])) }
 {
-    let shard = entry.shard as usize;
+    let shard = entry.shard() as usize;
     make_up_to(alloc, tallies, shard)?;
     tallies[shard].add(entry)
 }

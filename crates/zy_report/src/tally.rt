@@ -1,11 +1,15 @@
 //! What is counted of the entries of one shard.
-ghost use Rattle.std.specs.Prelude.{◌≡◌, true, ◌++◌, ◌∷◌, [], List, OnOk};
+ghost use Rattle.std.specs.Prelude.{◌≡◌, ℕ, true, ◌++◌, ◌∷◌, [], List, OnOk, option_copied};
 ghost use Rattle.mc_calls.specs.declared.entry.Entry.{Entry};
+ghost use Rattle.mc_calls.specs.declared.entry.Tag.{Tag};
 ghost use Rattle.std.specs.FinMap.{insert, remove};
+ghost use Rattle.mc_calls.specs.Call.{key_of};
 ghost use Rattle.mc_calls.specs.Counted.{KeySet, is_get, calls_with, keys_with, counted};
+ghost use Rattle.mc_history.specs.Recorded.{entry_of};
 ghost use Rattle.zy_report.specs.Tally.{CanCount, CountsEntries, AreKeysOf, calls_kept, none_kept};
 
-use mc_calls::{Call, CallReply, Entry, Tallied};
+use mc_calls::{Call, CallReply, Tallied};
+use mc_history::EntryRef;
 use mc_stats::Counts;
 use std::alloc::Global;
 use std::collections::BTreeSet;
@@ -42,13 +46,31 @@ impl<'j> Tally<'j> {
     }
 
     /// Counts one more entry.
-    pub(crate) fn add(&mut self, entry: &'j Entry) -> Result<(), NoMemory>
+    pub(crate) fn add(&mut self, entry: &EntryRef<'j>) -> Result<(), NoMemory>
         requires room { CanCount self.old }
         ensures ok { OnOk result ((es : List Entry) → CountsEntries self.old es
             → CountsEntries self.new (es ++ entry.now ∷ [])) }
     {
-        self.count_call(&entry.call, &entry.reply);
-        self.keep_key(entry)
+        let exchange = entry.exchange()?;
+        let added = self.add_call(entry.key(), exchange.call(), exchange.reply());
+        drop(exchange);
+        added
+    }
+
+    // Counts a call on a key, or a call without one, with its reply.
+    fn add_call(
+        &mut self,
+        key: Option<&'j Blob>,
+        call: &Call,
+        reply: &CallReply,
+    ) -> Result<(), NoMemory>
+        requires room { CanCount self.old }
+        requires key { option_copied key ≡ key_of call.now }
+        ensures ok { OnOk result ((es : List Entry) (tag : Tag) (shard stamp : ℕ) → CountsEntries self.old es
+            → CountsEntries self.new (es ++ entry_of tag shard call.now reply.now stamp ∷ [])) }
+    {
+        self.count_call(call, reply);
+        self.keep_key(key, call, reply)
     }
 
     // Counts the call.
@@ -79,17 +101,23 @@ impl<'j> Tally<'j> {
         }
     }
 
-    // Keeps the keys that have an item after the entry.
-    fn keep_key(&mut self, entry: &'j Entry) -> Result<(), NoMemory>
+    // Keeps the keys that have an item after a call on a key, or a call without one.
+    fn keep_key(
+        &mut self,
+        key: Option<&'j Blob>,
+        call: &Call,
+        reply: &CallReply,
+    ) -> Result<(), NoMemory>
+        requires key { option_copied key ≡ key_of call.now }
         ensures calls { self.new.calls ≡ self.old.calls }
         ensures ok { OnOk result ((keys : KeySet) → AreKeysOf keys self.old.keys
-            → AreKeysOf (keys_with keys entry.now.call entry.now.reply) self.new.keys) }
+            → AreKeysOf (keys_with keys call.now reply.now) self.new.keys) }
     {
-        if let Call::Flush = &entry.call {
+        if let Call::Flush = call {
             self.keys.clear();
             return Ok(());
         }
-        match (entry.call.key(), &entry.reply) {
+        match (key, reply) {
             (Some(key), CallReply::Stored | CallReply::Number { .. }) => self.add_key(key),
             (Some(key), CallReply::Deleted) => {
                 self.remove_key(key);

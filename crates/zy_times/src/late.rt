@@ -8,7 +8,7 @@ ghost use Rattle.zy_times.specs.Recorded.{IsOfRun, FoundLate, IsFirstUnsent};
 
 use crate::span::Span;
 use crate::spans::Spans;
-use mc_calls::Entry;
+use mc_history::EntryRef;
 use zy_base::NoMemory;
 use zy_journal::Journal;
 
@@ -33,7 +33,7 @@ pub(crate) fn first_late(spans: &Spans, journal: &Journal) -> Result<Option<Late
         let Some(entry) = entries.next() else {
             return Ok(None);
         };
-        let span = span_of(spans, entry);
+        let span = span_of(spans, &entry);
         if let Some(moment) = end_before(span.end, latest) {
             return Ok(Some(Late { entry: at, moment }));
         }
@@ -44,14 +44,15 @@ pub(crate) fn first_late(spans: &Spans, journal: &Journal) -> Result<Option<Late
 }
 
 // Returns the span of an entry's command.
-fn span_of(spans: &Spans, entry: &Entry) -> Span
+fn span_of(spans: &Spans, entry: &EntryRef<'_>) -> Span
     requires holds { (r : Recording) × (count : ℕ) × (p : ℕ) × IsOfRun r count × AreSpans r count spans.now
         × (slice_get r.entries p ≡ Some entry.now) }
     ensures span { (r : Recording) (count p : ℕ) → IsOfRun r count → AreSpans r count spans.now
         → slice_get r.entries p ≡ Some entry.now
         → SpanHolds r entry.now.tag.conn (numbered_entry r entry.now) result }
 {
-    spans.lines[entry.tag.conn as usize][entry.tag.index as usize]
+    let tag = entry.tag();
+    spans.lines[tag.conn as usize][tag.index as usize]
 }
 
 // Returns the end, if it is before a moment.
@@ -84,7 +85,7 @@ pub(crate) fn first_unsent(spans: &Spans, journal: &Journal, moment: u32) -> Res
         let Some(entry) = entries.next() else {
             return Err(NoMemory);
         };
-        if moment < span_of(spans, entry).sent {
+        if moment < span_of(spans, &entry).sent {
             return Ok(at);
         }
     }

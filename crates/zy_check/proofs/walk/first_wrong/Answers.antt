@@ -14,12 +14,12 @@ returns-in_default c =
 
 pub wrong_at-requires-clause-is : goal.wrong_at-requires-clause-is
 wrong_at-requires-clause-is c =
-    (left_first c.args.files.now.entries c.loop-at.at c.in-Some.entry.now c.next.new.self (sym c.loop-at.invariant.left ∙ c.in-Some.ensures.some)).0
+    (left_first c.args.files.now.entries c.loop-at.at c.in-Some.entry c.next.new.self (sym c.loop-at.invariant.left ∙ c.in-Some.ensures.some)).0
 
 pub loop-at-preserved : goal.loop-at-preserved
 loop-at-preserved c =
     let g = c.args.files.now in
-    let first = left_first g.entries c.loop-at.at c.in-Some.entry.now c.next.new.self (sym c.loop-at.invariant.left ∙ c.in-Some.ensures.some) in
+    let first = left_first g.entries c.loop-at.at c.in-Some.entry c.next.new.self (sym c.loop-at.invariant.left ∙ c.in-Some.ensures.some) in
     record {
       here = subst (FoundAt g c.loop-at.at c.wrong_at.new.tracks c.wrong_at.new.states.items) c.in_default-2.is c.in_ok-cause.ensures.found;
       left = first.1;

@@ -18,9 +18,9 @@ loop-shard-preserved c =
     let within = c.loop-shard-test.true in
     let few = c.requires.few in
     let room : c.loop-shard.shard < length c.loop-shard.heads = omega (arith, size, within, few) in
-    let own : history_of hs c.loop-shard.shard ≡ c.items.result.now = own_inside hs c.loop-shard.shard c.items.result.now c.loop-shard-test.true ∙ search rules in
+    let own : history_of hs c.loop-shard.shard ≡ c.index-histories-shard.result = own_inside hs c.loop-shard.shard c.index-histories-shard.result c.loop-shard-test.true ∙ search rules in
     record {
-      heads = one_more hs c.loop-shard.shard c.loop-shard.heads c.items.result.now c.stamp_at.result c.loop-shard.invariant.heads room own c.stamp_at.ensures.value;
+      heads = one_more hs c.loop-shard.shard c.loop-shard.heads c.index-histories-shard.result c.stamp_at.result c.loop-shard.invariant.heads room own c.stamp_at.ensures.value;
       size = length-set c.loop-shard.heads c.loop-shard.shard c.stamp_at.result ∙ size;
       within = search rules;
     }

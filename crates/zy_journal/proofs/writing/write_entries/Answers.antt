@@ -21,7 +21,7 @@ returns-in_err-write_entry g c = record {
 
 pub loop-entry-preserved : goal.loop-entry-preserved
 loop-entry-preserved g c = record {
-  text = c.loop-entry.invariant.text ++ entry_text c.in-Some.entry.now;
+  text = c.loop-entry.invariant.text ++ entry_text c.in-Some.entry;
   written = written_on c.loop-entry.invariant.written c.in_ok-write_entry.ensures.writes;
   taken = one_taken c.loop-entry.invariant.taken c.in-Some.ensures.some;
   fits = (subst (AllByRecursion IsEntry) c.in-Some.ensures.some c.loop-entry.invariant.fits).1;

@@ -1,5 +1,6 @@
-use Rattle.std.proofs.Common.{◌∙◌}
+use Rattle.std.proofs.Common.{◌∙◌, ap}
 use Rattle.std.specs.Int.{to_be_bytes, w32, w64}
+use Rattle.mc_calls.specs.declared.entry.Tag.{Tag}
 use Rattle.zy_base.proofs.WritingLemmas.{writes_as}
 use Rattle.zy_journal.specs.Journal.{entry_head}
 use Rattle.zy_journal.proofs.WriteLemmas.{gathered_5}
@@ -13,7 +14,9 @@ returns g c =
     c.to_be_bytes.result c.to_be_bytes-2.result c.to_be_bytes-3.result c.to_be_bytes-4.result c.to_be_bytes-5.result
     (to_be_bytes w64 e.stamp) (to_be_bytes w32 e.shard) (to_be_bytes w32 e.tag.conn) (to_be_bytes w64 e.tag.index) (to_be_bytes w32 e.tag.part)
     c.new-head.ensures c.put.ensures.value c.put-2.ensures.value c.put-3.ensures.value c.put-4.ensures.value c.put-5.ensures.value c.put-6.ensures.value
-    c.to_be_bytes.ensures c.to_be_bytes-2.ensures c.to_be_bytes-3.ensures c.to_be_bytes-4.ensures c.to_be_bytes-5.ensures in
+    (c.to_be_bytes.ensures ∙ ap (to_be_bytes w64) c.stamp.ensures.value) (c.to_be_bytes-2.ensures ∙ ap (to_be_bytes w32) c.shard.ensures.value)
+    (c.to_be_bytes-3.ensures ∙ ap (λ (t : Tag). to_be_bytes w32 t.conn) c.tag-tag.ensures.value) (c.to_be_bytes-4.ensures ∙ ap (λ (t : Tag). to_be_bytes w64 t.index) c.tag-tag.ensures.value)
+    (c.to_be_bytes-5.ensures ∙ ap (λ (t : Tag). to_be_bytes w32 t.part) c.tag-tag.ensures.value) in
     record {
       writes = writes_as
           (c.as_slice.ensures.value ∙ text)

@@ -6,5 +6,5 @@ loop-entry-init c = none_read c.args.tallies.now.items c.args.entries c.requires
 
 pub add-requires : goal.add-requires
 add-requires c = record {
-  room = room_at c.loop-entry.tallies.items c.args.entries c.loop-entry.left c.next.new.self c.in-Some.entry.now c.loop-entry.invariant c.in-Some.ensures.some c.requires.few;
+  room = room_at c.loop-entry.tallies.items c.args.entries c.loop-entry.left c.next.new.self c.in-Some.entry c.loop-entry.invariant c.in-Some.ensures.some c.requires.few;
 }

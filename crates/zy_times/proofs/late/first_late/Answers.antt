@@ -23,13 +23,13 @@ returns-in_default c = record {
 pub span_of-span-requires : goal.span_of-span-requires
 span_of-span-requires c =
     let h = c.requires.holds in
-    record { holds = (h.0, h.1, c.loop-at.at, h.2, h.4, entry_there h.0 c.args.journal.now.entries c.loop-at.at c.in-Some.entry.now c.next.new.self h.3 (sym c.loop-at.invariant.left ∙ c.in-Some.ensures.some)) }
+    record { holds = (h.0, h.1, c.loop-at.at, h.2, h.4, entry_there h.0 c.args.journal.now.entries c.loop-at.at c.in-Some.entry c.next.new.self h.3 (sym c.loop-at.invariant.left ∙ c.in-Some.ensures.some)) }
 
 pub returns-in-Some-end_before : goal.returns-in-Some-end_before
 returns-in-Some-end_before c = record {
   found = λ r count h is spans.
       let at = c.loop-at.at in
-      let e = c.in-Some.entry.now in
+      let e = c.in-Some.entry in
       let here : slice_get r.entries at ≡ Some e = entry_there r c.args.journal.now.entries at e c.next.new.self is (sym c.loop-at.invariant.left ∙ c.in-Some.ensures.some) in
       let some = c.end_before.ensures.some c.in-Some-end_before.moment c.in-Some-end_before.is in
       late_here r at c.loop-at.latest e c.span_of-span.result.end here (c.span_of-span.ensures.span r count at h spans here).ended (c.loop-at.invariant.before r count h is spans) c.in-Some-end_before.moment some.0 some.1;
@@ -38,7 +38,7 @@ returns-in-Some-end_before c = record {
 pub loop-at-preserved : goal.loop-at-preserved
 loop-at-preserved c =
     let at = c.loop-at.at in
-    let e = c.in-Some.entry.now in
+    let e = c.in-Some.entry in
     let first = left_first c.args.journal.now.entries at e c.next.new.self (sym c.loop-at.invariant.left ∙ c.in-Some.ensures.some) in record {
       left = first.1;
       within = first.2;

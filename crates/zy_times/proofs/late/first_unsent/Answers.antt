@@ -11,13 +11,13 @@ use Rattle.zy_times.proofs.late.first_unsent.Goals as goal
 pub span_of-requires : goal.span_of-requires
 span_of-requires c =
     let h = c.requires.holds in
-    record { holds = (h.0, h.1, c.loop-at.at, h.2, h.4, entry_there h.0 c.args.journal.now.entries c.loop-at.at c.in-Some.entry.now c.next.new.self h.3 (sym c.loop-at.invariant.left ∙ c.in-Some.ensures.some)) }
+    record { holds = (h.0, h.1, c.loop-at.at, h.2, h.4, entry_there h.0 c.args.journal.now.entries c.loop-at.at c.in-Some.entry c.next.new.self h.3 (sym c.loop-at.invariant.left ∙ c.in-Some.ensures.some)) }
 
 pub returns-then-moment-span_of : goal.returns-then-moment-span_of
 returns-then-moment-span_of c = record {
   found = λ r count h is spans.
       let at = c.loop-at.at in
-      let e = c.in-Some.entry.now in
+      let e = c.in-Some.entry in
       let here : slice_get r.entries at ≡ Some e = entry_there r c.args.journal.now.entries at e c.next.new.self is (sym c.loop-at.invariant.left ∙ c.in-Some.ensures.some) in
       let low = c.if-moment-span_of.true in
       record {
@@ -31,7 +31,7 @@ returns-then-moment-span_of c = record {
 pub loop-at-preserved : goal.loop-at-preserved
 loop-at-preserved c =
     let at = c.loop-at.at in
-    let e = c.in-Some.entry.now in
+    let e = c.in-Some.entry in
     let first = left_first c.args.journal.now.entries at e c.next.new.self (sym c.loop-at.invariant.left ∙ c.in-Some.ensures.some) in record {
       left = first.1;
       within = first.2;
