@@ -82,7 +82,7 @@ items_put old new places places' key place on changed =
     ∙ ap (found_at new) (changed q)
     ∙ found_by new (is_at (hashed_cmp key) q) place (place_in places q)
     ∙ by_key (is_at (hashed_cmp key) q) (Some (item_at new place).item) (found_at new (place_in places q)) (item_in (seen old places) q)
-        (λ other. on.same q other ∙ sym (item_seen old places q)))
+    (λ other. on.same q other ∙ sym (item_seen old places q)))
 
 are_by : (stored : List StoredItem) (q : List ℕ) (b : Bool) (place : ℕ) (other : Option ℕ) → (b ≡ true → IsFor stored q place) → (b ≡ false → IfSome other (IsFor stored q))
     → IfSome (cond b (Some place) other) (IsFor stored q)
@@ -303,7 +303,7 @@ module _ (stored stored' : List StoredItem) (c c' : Contents) (key : List ℕ) (
     (index : IsIndex stored c) (found : Some place ≡ place_in c.places key) (there : x ≡ get_or stored place x)
     (stored_is : stored' ≡ set stored place (keyed x.key item))
     (counted : c' ≡ record c { count = c.count + 1; counts = c.counts }) where
-  now : StoredItem
+  abbrev now : StoredItem
   now = keyed x.key item
 
   here : IsFor stored key place

@@ -4,6 +4,7 @@ ghost use Rattle.mc_calls.specs.History.{IsHistory};
 ghost use Rattle.mc_shard.specs.Shard.{kept, state_of, last_of, TallyCounts, entry_of, reply_of, with_entry, state_past};
 
 mod calling;
+mod changing;
 mod fetching;
 mod storing;
 

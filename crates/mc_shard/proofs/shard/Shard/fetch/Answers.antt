@@ -43,7 +43,7 @@ returns-clause-reply c =
     ∙ ap (λ (r : CallReply). c.args.replies.now.items ++ r ∷ [])
     (c.in-Ok.ensures.reply
     ∙ reply_got c.self.inside.number c.self.inside.shards c.self.inside.last (c.max-stamp.result + 1) c.self.inside.contents c.note.new.self c.self.inside.ledger c.note_get.new.ledger
-        c.args.tag c.args.key.now c.place_of-found.result c.self.invariant (c.place_of-found.ensures.value ∙ ap (place_in c.self.inside.contents.places) c.with_hash.ensures.value) c.in-Ok.ensures.ok c.args.self.now c.self.view_is)
+    c.args.tag c.args.key.now c.place_of-found.result c.self.invariant (c.place_of-found.ensures.value ∙ ap (place_in c.self.inside.contents.places) c.with_hash.ensures.value) c.in-Ok.ensures.ok c.args.self.now c.self.view_is)
 
 pub returns-clause-ok : goal.returns-clause-ok
 returns-clause-ok c =

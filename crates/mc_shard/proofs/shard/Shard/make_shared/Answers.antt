@@ -16,12 +16,13 @@ use Rattle.mc_shard.proofs.GetLemmas.{gets_fit, sets_fit}
 use Rattle.mc_shard.proofs.SoundLemmas.{calls-made, tally_counts}
 use Rattle.mc_shard.proofs.StoreLemmas.{tallied_is, found_is, indexed_made, view_made}
 use Rattle.mc_shard.proofs.shard.Shard.make_shared.Goals as goal
+use Rattle.mc_shard.proofs.shard.Shard.make_shared.Goals.{In-Ok}
 
 pub item_at-found-requires : goal.item_at-found-requires
 item_at-found-requires c = record { within = places_within c.self.inside.ledger.stored c.self.inside.contents.places c.args.key c.place_at-place.result c.place_at-place.ensures.value c.self.invariant.index.places }
 
 -- the outcome is that of the table
-outcome_is : (c : goal.In-Ok) → outcome_in c.args.key c.in-Ok.step
+outcome_is : (c : In-Ok) → outcome_in c.args.key c.in-Ok.step
     ≡ outcome_of (tallied (contents_in c.self.inside.ledger.stored c.self.inside.contents)) c.args.call (item_at (items_at c.self.inside.ledger.stored c.self.inside.contents.places) (key_of c.args.call))
 outcome_is c =
     let stored = c.self.inside.ledger.stored in
@@ -29,8 +30,8 @@ outcome_is c =
     ap (λ key. outcome_in key c.in-Ok.step) c.requires.key ∙ c.in-Ok.ensures.value
     ∙ ap (λ (counts : Tallied). outcome_of counts c.args.call (option_copied c.item_at-found.result)) (c.tallied.ensures.value ∙ tallied_is stored contents c.self.invariant.index)
     ∙ ap (λ (found : Option Item). outcome_of (tallied (contents_in stored contents)) c.args.call found)
-        (c.item_at-found.ensures.value ∙ found_is stored contents c.args.key c.place_at-place.result c.place_at-place.ensures.value
-        ∙ ap (item_at (items_at stored contents.places)) c.requires.key)
+    (c.item_at-found.ensures.value ∙ found_is stored contents c.args.key c.place_at-place.result c.place_at-place.ensures.value
+    ∙ ap (item_at (items_at stored contents.places)) c.requires.key)
 
 -- the reply is of the table
 pub note_of-noted-requires : goal.note_of-noted-requires
@@ -49,13 +50,13 @@ carry_out-requires c = record {
 pub note-requires-clause-gets : goal.note-requires-clause-gets
 note-requires-clause-gets c =
     subst (λ calls. calls.gets < 2 ^ 60) (sym (calls-made c.self.inside.shards c.self.inside.number (contents_in c.self.inside.ledger.stored c.self.inside.contents) (contents_in c.carry_out.new.ledger.stored c.carry_out.new.contents)
-        (effect_in c.args.key c.in-Ok.step.change) c.in-Ok-carry_out.ensures.ok))
+    (effect_in c.args.key c.in-Ok.step.change) c.in-Ok-carry_out.ensures.ok))
     (gets_fit c.self.inside.number c.self.inside.shards c.self.inside.last c.self.inside.contents c.self.inside.ledger c.args.self.now c.self.view_is c.self.invariant c.requires.last)
 
 pub note-requires-clause-sets : goal.note-requires-clause-sets
 note-requires-clause-sets c =
     subst (λ calls. calls.sets < 2 ^ 60) (sym (calls-made c.self.inside.shards c.self.inside.number (contents_in c.self.inside.ledger.stored c.self.inside.contents) (contents_in c.carry_out.new.ledger.stored c.carry_out.new.contents)
-        (effect_in c.args.key c.in-Ok.step.change) c.in-Ok-carry_out.ensures.ok))
+    (effect_in c.args.key c.in-Ok.step.change) c.in-Ok-carry_out.ensures.ok))
     (sets_fit c.self.inside.number c.self.inside.shards c.self.inside.last c.self.inside.contents c.self.inside.ledger c.args.self.now c.self.view_is c.self.invariant c.requires.last)
 
 pub note-requires-clause-hits : goal.note-requires-clause-hits

@@ -28,14 +28,14 @@ returns-in-Ok-push_set-clause-index c =
 -- the key that is handed back is the one that was put
 pub put_back-requires : goal.put_back-requires
 put_back-requires c = record {
-  some = ap (λ (k : List ℕ). is_some (place_in c.put.new.self.places k)) (c.with_hash-2.ensures.value ∙ c.in-Err-push_set.ensures.key ∙ sym c.with_hash.ensures.value)
+  some = ap (λ (k : List ℕ). is_some (place_in c.put.new.self.places k)) (c.with_hash-in-Err-push_set.ensures.value ∙ c.in-Err-push_set.ensures.key ∙ sym c.with_hash.ensures.value)
       ∙ put_has c.args.contents.now.places c.put.new.self.places c.with_hash.result c.in-Ok.place c.in-Ok-put.ensures.ok;
 }
 
 same_place : (c : goal.After-put_back) → (q : List ℕ) → place_in c.put_back.new.self.places q ≡ place_in c.args.contents.now.places q
 same_place c =
     put_back c.args.contents.now.places c.put.new.self.places c.put_back.new.self.places c.with_hash.result c.in-Ok.place c.in-Ok-put.before c.in-Ok-put.ensures.old c.in-Ok-put.ensures.ok
-    (subst (λ (k : List ℕ). IsWith c.put.new.self.places k c.in-Ok-put.before c.put_back.new.self.places) (c.with_hash-2.ensures.value ∙ c.in-Err-push_set.ensures.key ∙ sym c.with_hash.ensures.value) c.put_back.ensures.value)
+    (subst (λ (k : List ℕ). IsWith c.put.new.self.places k c.in-Ok-put.before c.put_back.new.self.places) (c.with_hash-in-Err-push_set.ensures.value ∙ c.in-Err-push_set.ensures.key ∙ sym c.with_hash.ensures.value) c.put_back.ensures.value)
 
 pub returns-in-Err-push_set-clause-same : goal.returns-in-Err-push_set-clause-same
 returns-in-Err-push_set-clause-same c =

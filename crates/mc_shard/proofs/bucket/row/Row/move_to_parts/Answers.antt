@@ -15,6 +15,6 @@ returns-in-Ok c = rw (← c.self.view_is) (record {
   same = λ q.
       ap (λ (row : Keyed). place_in (row ++ c.insert.new.self) q) c.give_room.ensures.value
       ∙ entry_moved c.pop.new.self.items c.args.parts.now c.insert.new.self c.in-Some.key c.in-Some.place
-          (subst (λ (k : List ℕ). IsWith c.args.parts.now k (Some c.in-Some.place) c.insert.new.self) c.sought.ensures.value c.in-Ok.ensures.ok) q
+      (subst (λ (k : List ℕ). IsWith c.args.parts.now k (Some c.in-Some.place) c.insert.new.self) c.sought.ensures.value c.in-Ok.ensures.ok) q
       ∙ ap (λ (row : Keyed). place_in (row ++ c.args.parts.now) q) (sym c.in-Some.ensures.items);
 })

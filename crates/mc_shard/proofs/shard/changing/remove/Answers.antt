@@ -4,7 +4,7 @@ use Rattle.std.proofs.Common.{◌≡◌, List, ℕ, ap, sym, subst, ◌∙◌}
 use Rattle.mc_history.specs.declared.stored_item.StoredItem.{StoredItem}
 use Rattle.mc_shard.specs.Index.{IsIndex, contents_in}
 use Rattle.mc_shard.proofs.IndexLemmas.{index_out, contents_out, some_counted}
-use Rattle.mc_shard.proofs.shard.calling.remove.Goals as goal
+use Rattle.mc_shard.proofs.shard.changing.remove.Goals as goal
 
 pub remove-requires : goal.remove-requires
 remove-requires c = record { some = some_counted c.args.ledger.now.stored c.args.contents.now c.sought.result c.requires.index }

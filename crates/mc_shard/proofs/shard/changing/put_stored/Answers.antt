@@ -4,7 +4,7 @@ use Rattle.mc_history.specs.Recorded.{Recorded}
 use Rattle.mc_shard.specs.Buckets.{place_in}
 use Rattle.mc_shard.specs.Index.{IsIndex, contents_in}
 use Rattle.mc_shard.proofs.IndexLemmas.{placed_index, placed_contents, index_same, contents_same, put_back, put_has}
-use Rattle.mc_shard.proofs.shard.calling.put_stored.Goals as goal
+use Rattle.mc_shard.proofs.shard.changing.put_stored.Goals as goal
 
 pub count_put-requires-clause-items : goal.count_put-requires-clause-items
 count_put-requires-clause-items c =
