@@ -11,10 +11,9 @@ use Rattle.mc_shard.specs.Replay.{Replayed, replaying, state_replayed}
 use Rattle.mc_shard.specs.Index.{contents_in, items_at, place_at}
 use Rattle.mc_shard.proofs.StoreLemmas.{tallied_is, found_is, contents_noted}
 use Rattle.mc_shard.proofs.replay.Replay.answer.Goals as goal
-use Rattle.mc_shard.proofs.replay.Replay.answer.Goals.{In-Ok}
 
 -- the outcome is that of the table
-outcome_is : (c : In-Ok) → outcome_in (key_of c.args.call.now) c.in-Ok.step ≡ outcome_on (contents_in c.self.inside.stored.items c.self.inside.contents) c.args.call.now
+outcome_is : (c : goal.After-note) → outcome_in (key_of c.args.call.now) c.in-Ok.step ≡ outcome_on (contents_in c.self.inside.stored.items c.self.inside.contents) c.args.call.now
 outcome_is c =
     let stored = c.self.inside.stored.items in
     let contents = c.self.inside.contents in

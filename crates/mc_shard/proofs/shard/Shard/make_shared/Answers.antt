@@ -16,13 +16,12 @@ use Rattle.mc_shard.proofs.GetLemmas.{gets_fit, sets_fit}
 use Rattle.mc_shard.proofs.SoundLemmas.{calls-made, tally_counts}
 use Rattle.mc_shard.proofs.StoreLemmas.{tallied_is, found_is, indexed_made, view_made}
 use Rattle.mc_shard.proofs.shard.Shard.make_shared.Goals as goal
-use Rattle.mc_shard.proofs.shard.Shard.make_shared.Goals.{In-Ok}
 
 pub item_at-found-requires : goal.item_at-found-requires
 item_at-found-requires c = record { within = places_within c.self.inside.ledger.stored c.self.inside.contents.places c.args.key c.place_at-place.result c.place_at-place.ensures.value c.self.invariant.index.places }
 
 -- the outcome is that of the table
-outcome_is : (c : In-Ok) → outcome_in c.args.key c.in-Ok.step
+outcome_is : (c : goal.After-self-1) → outcome_in c.args.key c.in-Ok.step
     ≡ outcome_of (tallied (contents_in c.self.inside.ledger.stored c.self.inside.contents)) c.args.call (item_at (items_at c.self.inside.ledger.stored c.self.inside.contents.places) (key_of c.args.call))
 outcome_is c =
     let stored = c.self.inside.ledger.stored in
