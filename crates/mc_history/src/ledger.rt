@@ -201,6 +201,17 @@ impl Ledger {
         self.compact[at].stamp
     }
 
+    /// Returns the place that the next stored item gets. There are at most 2^32 places.
+    #[inline(always)]
+    pub fn next_place(&self) -> Result<u32, NoMemory>
+        ensures value { IfOk result (λ place. place ≡ length self.now.stored) }
+    {
+        match u32::try_from(self.stored.len()) {
+            Ok(place) => Ok(place),
+            Err(_) => Err(NoMemory),
+        }
+    }
+
     /// Returns the key and the item at a place.
     pub fn stored(&self, place: u32) -> &StoredItem
         requires within { place < length self.now.stored }
