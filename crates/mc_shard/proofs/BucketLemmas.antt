@@ -1,17 +1,15 @@
--- A key's item among all buckets is the one in its own bucket, and what a change of one bucket changes; the same
+-- A key's place among all buckets is the one in its own bucket, and what a change of one bucket changes; the same
 -- of the parts of a bucket.
 use Rattle.std.proofs.Common.{◌≡◌, ◌≢◌, ◌⊎◌, inl, inr, ℕ, zero, suc, ◌+◌, ◌<◌, ◌≤◌, Bool, true, false, eqb, cond, List, [], ◌∷◌, ◌++◌, length, get_or, set, slice_get, refl, sym, ap, subst, ◌∙◌, arith}
 use Rattle.std.specs.Prelude.{Option, Some, None}
 use Rattle.std.proofs.lemmas.Bool.Decides.{eqb_tells}
 use Rattle.std.proofs.lemmas.Option.{none-some, same_Some}
 use Rattle.std.proofs.lemmas.List.{length-set}
-use Rattle.std.specs.FinMap.{get, insert, remove}
 use Rattle.std.specs.Map.{lookup}
 use Rattle.std.specs.BTreeMap.{is_at}
-use Rattle.mc_calls.specs.declared.item.Item.{Item}
-use Rattle.mc_shard.specs.Contents.{hashed_cmp, items_in}
-use Rattle.mc_shard.specs.Buckets.{Keyed, item_in, entries_among, items_among, HasOwnKeys, HaveOwnKeys, AreBuckets, IsWith}
-use Rattle.mc_shard.proofs.MapLemmas.{get-items_in, items_in-stored, items_in-removed, same_at}
+use Rattle.mc_shard.specs.Contents.{hashed_cmp}
+use Rattle.mc_shard.specs.Buckets.{Keyed, place_in, entries_among, HasOwnKeys, HaveOwnKeys, AreBuckets, IsWith}
+use Rattle.mc_shard.proofs.MapLemmas.{same_at}
 
 -- ---- numbers and lists
 
@@ -22,33 +20,33 @@ same_of (inr differ) = inr differ.1
 same_or_not : (a b : ℕ) → (a ≡ b) ⊎ (a ≢ b)
 same_or_not a b = same_of (eqb_tells a b)
 
-append_none : (xs ys : List (List ℕ × Item)) → xs ++ ys ≡ [] → (xs ≡ []) × (ys ≡ [])
+append_none : (xs ys : List (List ℕ × ℕ)) → xs ++ ys ≡ [] → (xs ≡ []) × (ys ≡ [])
 append_none [] ys none = (refl, none)
 append_none (x ∷ xs) ys none = cc
 
 -- ---- lookups in joined lists
 
 -- the first that is there
-abbrev pub first_of : Option Item → Option Item → Option Item
+abbrev pub first_of : Option ℕ → Option ℕ → Option ℕ
 first_of None other = other
-first_of (Some item) other = Some item
+first_of (Some place) other = Some place
 
-first_of-none : (one : Option Item) → first_of one None ≡ one
+first_of-none : (one : Option ℕ) → first_of one None ≡ one
 first_of-none None = refl
-first_of-none (Some item) = refl
+first_of-none (Some place) = refl
 
-push : (found : Bool) (item : Item) (one two three : Option Item) → one ≡ first_of two three → cond found (Some item) one ≡ first_of (cond found (Some item) two) three
-push true item one two three is = refl
-push false item one two three is = is
+push : (found : Bool) (place : ℕ) (one two three : Option ℕ) → one ≡ first_of two three → cond found (Some place) one ≡ first_of (cond found (Some place) two) three
+push true place one two three is = refl
+push false place one two three is = is
 
-pub lookup-append : (test : List ℕ → Bool) (xs ys : List (List ℕ × Item)) → lookup test (xs ++ ys) ≡ first_of (lookup test xs) (lookup test ys)
+pub lookup-append : (test : List ℕ → Bool) (xs ys : List (List ℕ × ℕ)) → lookup test (xs ++ ys) ≡ first_of (lookup test xs) (lookup test ys)
 lookup-append test [] ys = refl
 lookup-append test (x ∷ xs) ys = push (test x.0) x.1 (lookup test (xs ++ ys)) (lookup test xs) (lookup test ys) (lookup-append test xs ys)
 
 -- ---- the entries of one bucket
 
 -- the entries of the bucket with this number
-abbrev pub entries_at : List Keyed → ℕ → List (List ℕ × Item)
+abbrev pub entries_at : List Keyed → ℕ → List (List ℕ × ℕ)
 entries_at [] n = []
 entries_at (bucket ∷ buckets) zero = bucket
 entries_at (bucket ∷ buckets) (suc n) = entries_at buckets n
@@ -102,10 +100,10 @@ none_more (t ∷ buckets) bucket all none =
 -- ---- without buckets
 
 -- where there is no bucket, removing a key changes nothing
-abbrev no_item : Option Item
-no_item = None
+abbrev no_place : Option ℕ
+no_place = None
 
-cond_none : (found : Bool) → no_item ≡ cond found no_item no_item
+cond_none : (found : Bool) → no_place ≡ cond found no_place no_place
 cond_none true = refl
 cond_none false = refl
 
@@ -113,41 +111,35 @@ pub none_without : (buckets : List Keyed) (key : List ℕ) → buckets ≡ [] �
 none_without buckets key none =
     subst (λ ts. IsWith (entries_among ts) key None (entries_among ts)) (sym none) (λ q. cond_none (is_at (hashed_cmp key) q))
 
-pub removed_none : (buckets : List Keyed) (key : List ℕ) → buckets ≡ [] → items_among buckets ≡ remove (items_among buckets) key
-removed_none buckets key none = items_in-removed (entries_among buckets) (entries_among buckets) key (none_without buckets key none)
-
--- there is no item
-pub lookup_nowhere : (buckets : List Keyed) (key : List ℕ) → buckets ≡ [] → item_in (entries_among buckets) key ≡ None
-lookup_nowhere buckets key none = ap (λ ts. item_in (entries_among ts) key) none
-
-pub item_nowhere : (buckets : List Keyed) (key : List ℕ) → buckets ≡ [] → get (items_among buckets) key ≡ None
-item_nowhere buckets key none = get-items_in (entries_among buckets) key ∙ lookup_nowhere buckets key none
+-- there is no place
+pub lookup_nowhere : (buckets : List Keyed) (key : List ℕ) → buckets ≡ [] → place_in (entries_among buckets) key ≡ None
+lookup_nowhere buckets key none = ap (λ ts. place_in (entries_among ts) key) none
 
 -- ---- `count` buckets, each with the keys of its number
 module _ (number : List ℕ → ℕ) (count : ℕ) where
-  -- ---- the item of a key
+  -- ---- the place of a key
 
-  -- buckets after a key's own have no item of it
-  none_after : (at : ℕ) (buckets : List Keyed) (key : List ℕ) → HaveOwnKeys number at buckets → number key < at → item_in (entries_among buckets) key ≡ None
+  -- buckets after a key's own have no place of it
+  none_after : (at : ℕ) (buckets : List Keyed) (key : List ℕ) → HaveOwnKeys number at buckets → number key < at → place_in (entries_among buckets) key ≡ None
   none_after at [] key own below = refl
   none_after at (bucket ∷ buckets) key own below =
       lookup-append (is_at (hashed_cmp key)) bucket (entries_among buckets)
-      ∙ ap (λ o. first_of o (item_in (entries_among buckets) key)) (own.0 key (λ e. absurd (omega (arith, e))))
+      ∙ ap (λ o. first_of o (place_in (entries_among buckets) key)) (own.0 key (λ e. absurd (omega (arith, e))))
       ∙ none_after (suc at) buckets key own.1 (omega arith)
 
-  found_from : (at : ℕ) (buckets : List Keyed) (key : List ℕ) (n : ℕ) → HaveOwnKeys number at buckets → number key ≡ at + n → item_in (entries_among buckets) key ≡ item_in (entries_at buckets n) key
+  found_from : (at : ℕ) (buckets : List Keyed) (key : List ℕ) (n : ℕ) → HaveOwnKeys number at buckets → number key ≡ at + n → place_in (entries_among buckets) key ≡ place_in (entries_at buckets n) key
   found_from at [] key n own is = refl
   found_from at (bucket ∷ buckets) key zero own is =
       lookup-append (is_at (hashed_cmp key)) bucket (entries_among buckets)
-      ∙ ap (first_of (item_in bucket key)) (none_after (suc at) buckets key own.1 (omega (arith, is)))
-      ∙ first_of-none (item_in bucket key)
+      ∙ ap (first_of (place_in bucket key)) (none_after (suc at) buckets key own.1 (omega (arith, is)))
+      ∙ first_of-none (place_in bucket key)
   found_from at (bucket ∷ buckets) key (suc n) own is =
       lookup-append (is_at (hashed_cmp key)) bucket (entries_among buckets)
-      ∙ ap (λ o. first_of o (item_in (entries_among buckets) key)) (own.0 key (λ e. absurd (omega (arith, e, is))))
+      ∙ ap (λ o. first_of o (place_in (entries_among buckets) key)) (own.0 key (λ e. absurd (omega (arith, e, is))))
       ∙ found_from (suc at) buckets key n own.1 (omega (arith, is))
 
-  -- the item of a key among all buckets is the one in its own
-  pub found_in : (buckets : List Keyed) (key : List ℕ) → AreBuckets number count buckets → item_in (entries_among buckets) key ≡ item_in (entries_at buckets (number key)) key
+  -- the place of a key among all buckets is the one in its own
+  pub found_in : (buckets : List Keyed) (key : List ℕ) → AreBuckets number count buckets → place_in (entries_among buckets) key ≡ place_in (entries_at buckets (number key)) key
   found_in buckets key are = found_from 0 buckets key (number key) are.own (omega arith)
 
   -- ---- a change of one bucket
@@ -171,11 +163,11 @@ module _ (number : List ℕ → ℕ) (count : ℕ) where
   count_set buckets n old bucket is (inr all) = inr (length-set buckets n bucket ∙ all)
 
   -- the bucket of a key was changed at that key
-  module _ (buckets : List Keyed) (key : List ℕ) (bucket bucket' : Keyed) (item : Option Item) (are : AreBuckets number count buckets) (there : slice_get buckets (number key) ≡ Some bucket)
-      (changed : (q : List ℕ) → item_in bucket' q ≡ cond (is_at (hashed_cmp key) q) item (item_in bucket q)) where
+  module _ (buckets : List Keyed) (key : List ℕ) (bucket bucket' : Keyed) (place : Option ℕ) (are : AreBuckets number count buckets) (there : slice_get buckets (number key) ≡ Some bucket)
+      (changed : (q : List ℕ) → place_in bucket' q ≡ cond (is_at (hashed_cmp key) q) place (place_in bucket q)) where
     own_changed : HasOwnKeys number (number key) bucket'
     own_changed q differ =
-        changed q ∙ ap (λ b. cond b item (item_in bucket q)) (apart number key q differ) ∙ own_there buckets (number key) bucket are.own there q differ
+        changed q ∙ ap (λ b. cond b place (place_in bucket q)) (apart number key q differ) ∙ own_there buckets (number key) bucket are.own there q differ
 
     pub are_changed : AreBuckets number count (set buckets (number key) bucket')
     are_changed = record {
@@ -184,26 +176,26 @@ module _ (number : List ℕ → ℕ) (count : ℕ) where
     }
 
     at_changed : (q : List ℕ) → (number q ≡ number key) ⊎ (number q ≢ number key)
-        → item_in (entries_at (set buckets (number key) bucket') (number q)) q ≡ cond (is_at (hashed_cmp key) q) item (item_in (entries_at buckets (number q)) q)
+        → place_in (entries_at (set buckets (number key) bucket') (number q)) q ≡ cond (is_at (hashed_cmp key) q) place (place_in (entries_at buckets (number q)) q)
     at_changed q (inl same) =
-        ap (λ n. item_in (entries_at (set buckets (number key) bucket') n) q) same
-        ∙ ap (λ es. item_in es q) (set_same buckets (number key) bucket bucket' there)
+        ap (λ n. place_in (entries_at (set buckets (number key) bucket') n) q) same
+        ∙ ap (λ es. place_in es q) (set_same buckets (number key) bucket bucket' there)
         ∙ changed q
-        ∙ ap (λ es. cond (is_at (hashed_cmp key) q) item (item_in es q)) (sym (entries_some buckets (number key) bucket there) ∙ ap (entries_at buckets) (sym same))
+        ∙ ap (λ es. cond (is_at (hashed_cmp key) q) place (place_in es q)) (sym (entries_some buckets (number key) bucket there) ∙ ap (entries_at buckets) (sym same))
     at_changed q (inr differ) =
-        ap (λ es. item_in es q) (set_other buckets (number key) (number q) bucket' differ)
-        ∙ ap (λ b. cond b item (item_in (entries_at buckets (number q)) q)) (sym (apart number key q differ))
+        ap (λ es. place_in es q) (set_other buckets (number key) (number q) bucket' differ)
+        ∙ ap (λ b. cond b place (place_in (entries_at buckets (number q)) q)) (sym (apart number key q differ))
 
-    pub among_changed : IsWith (entries_among buckets) key item (entries_among (set buckets (number key) bucket'))
+    pub among_changed : IsWith (entries_among buckets) key place (entries_among (set buckets (number key) bucket'))
     among_changed q =
         found_in (set buckets (number key) bucket') q are_changed
         ∙ at_changed q (same_or_not (number q) (number key))
-        ∙ ap (λ o. cond (is_at (hashed_cmp key) q) item o) (sym (found_in buckets q are))
+        ∙ ap (λ o. cond (is_at (hashed_cmp key) q) place o) (sym (found_in buckets q are))
 
-  -- ---- buckets without an item
+  -- ---- buckets without an place
 
   pub own_more : (at : ℕ) (buckets : List Keyed) (bucket : Keyed) → HaveOwnKeys number at buckets → bucket ≡ [] → HaveOwnKeys number at (buckets ++ bucket ∷ [])
-  own_more at [] bucket own none = ((λ key differ. ap (λ es. item_in es key) none), tt)
+  own_more at [] bucket own none = ((λ key differ. ap (λ es. place_in es key) none), tt)
   own_more at (t ∷ buckets) bucket own none = (own.0, own_more (suc at) buckets bucket own.1 none)
 
   -- ---- what the calls on one bucket give
@@ -217,19 +209,13 @@ module _ (number : List ℕ → ℕ) (count : ℕ) where
     there_at : slice_get buckets (number key) ≡ Some bucket
     there_at = subst (λ m. slice_get buckets m ≡ Some bucket) at (got_at buckets n bucket within here)
 
-    module _ (item : Option Item) (changed : (q : List ℕ) → item_in bucket' q ≡ cond (is_at (hashed_cmp key) q) item (item_in bucket q)) where
+    module _ (place : Option ℕ) (changed : (q : List ℕ) → place_in bucket' q ≡ cond (is_at (hashed_cmp key) q) place (place_in bucket q)) where
       pub are_after : AreBuckets number count (set buckets n bucket')
-      are_after = subst (λ m. AreBuckets number count (set buckets m bucket')) (sym at) (are_changed buckets key bucket bucket' item are there_at changed)
+      are_after = subst (λ m. AreBuckets number count (set buckets m bucket')) (sym at) (are_changed buckets key bucket bucket' place are there_at changed)
 
-      pub among_after : IsWith (entries_among buckets) key item (entries_among (set buckets n bucket'))
+      pub among_after : IsWith (entries_among buckets) key place (entries_among (set buckets n bucket'))
       among_after =
-          subst (λ m. IsWith (entries_among buckets) key item (entries_among (set buckets m bucket'))) (sym at) (among_changed buckets key bucket bucket' item are there_at changed)
-
-    pub after_removal : IsWith bucket key None bucket' → items_among (set buckets n bucket') ≡ remove (items_among buckets) key
-    after_removal changed = items_in-removed (entries_among buckets) (entries_among (set buckets n bucket')) key (among_after None changed)
-
-    pub after_insertion : (item : Item) → IsWith bucket key (Some item) bucket' → items_among (set buckets n bucket') ≡ insert (items_among buckets) key item
-    after_insertion item changed = items_in-stored (entries_among buckets) (entries_among (set buckets n bucket')) key item (among_after (Some item) changed)
+          subst (λ m. IsWith (entries_among buckets) key place (entries_among (set buckets m bucket'))) (sym at) (among_changed buckets key bucket bucket' place are there_at changed)
 
     -- a bucket with the same entries takes its place
     pub are_same : bucket' ≡ bucket → AreBuckets number count (set buckets n bucket')
@@ -237,22 +223,15 @@ module _ (number : List ℕ → ℕ) (count : ℕ) where
         let got = got_at buckets n bucket within here in
         record {
           all = count_set buckets n bucket bucket' got are.all;
-          own = own_set 0 buckets n bucket' are.own (subst (λ m. HasOwnKeys number m bucket') (from_zero n) (λ q differ. ap (λ es. item_in es q) same ∙ own_there buckets n bucket are.own got q differ));
+          own = own_set 0 buckets n bucket' are.own (subst (λ m. HasOwnKeys number m bucket') (from_zero n) (λ q differ. ap (λ es. place_in es q) same ∙ own_there buckets n bucket are.own got q differ));
         }
 
     pub entries_kept : bucket' ≡ bucket → entries_among (set buckets n bucket') ≡ entries_among buckets
     entries_kept same = entries_same buckets n bucket bucket' (got_at buckets n bucket within here) same
 
-    pub among_same : bucket' ≡ bucket → items_among (set buckets n bucket') ≡ items_among buckets
-    among_same same = ap items_in (entries_kept same)
-
-  -- the item that a bucket has at a key of its own
+  -- the place that a bucket has at a key of its own
   pub lookup_there : (buckets : List Keyed) (key : List ℕ) (n : ℕ) (bucket : Keyed) → AreBuckets number count buckets → n ≡ number key → n < length buckets → bucket ≡ get_or buckets n bucket
-      → item_in (entries_among buckets) key ≡ item_in bucket key
+      → place_in (entries_among buckets) key ≡ place_in bucket key
   lookup_there buckets key n bucket are at within here =
       found_in buckets key are
-      ∙ ap (λ es. item_in es key) (entries_some buckets (number key) bucket (subst (λ m. slice_get buckets m ≡ Some bucket) at (got_at buckets n bucket within here)))
-
-  pub item_there : (buckets : List Keyed) (key : List ℕ) (n : ℕ) (bucket : Keyed) → AreBuckets number count buckets → n ≡ number key → n < length buckets → bucket ≡ get_or buckets n bucket
-      → get (items_among buckets) key ≡ item_in bucket key
-  item_there buckets key n bucket are at within here = get-items_in (entries_among buckets) key ∙ lookup_there buckets key n bucket are at within here
+      ∙ ap (λ es. place_in es key) (entries_some buckets (number key) bucket (subst (λ m. slice_get buckets m ≡ Some bucket) at (got_at buckets n bucket within here)))

@@ -4,7 +4,6 @@ use Rattle.std.specs.Prelude.{Some, false}
 use Rattle.std.specs.BTreeMap.{is_at}
 use Rattle.std.specs.List.{remove, copy_within}
 use Rattle.std.proofs.lemmas.Option.{same_Some}
-use Rattle.mc_calls.specs.declared.item.Item.{Item}
 use Rattle.mc_shard.specs.Buckets.{Keyed, fingerprint_of, AreFingerprints, NoneBefore}
 use Rattle.mc_shard.specs.Contents.{hashed_cmp}
 use Rattle.mc_shard.proofs.BucketLemmas.{apart}
@@ -28,12 +27,12 @@ prints_popped prints [] x are = tt
 prints_popped [] (y ∷ row) x are = absurd are
 prints_popped (p ∷ prints) (y ∷ row) x are = (are.0, prints_popped prints row x are.1)
 
--- an entry gets another item
-pub prints_replaced : (prints : List ℕ) (row : Keyed) (at : ℕ) (x : Pair) (item : Item) → AreFingerprints prints row → slice_get row at ≡ Some x → AreFingerprints prints (set row at (x.0, item))
-prints_replaced prints [] at x item are is = cc
-prints_replaced [] (y ∷ row) at x item are is = absurd are
-prints_replaced (t ∷ prints) (y ∷ row) zero x item are is = (are.0 ∙ ap (λ (p : Pair). fingerprint_of p.0) (same_Some y x is), are.1)
-prints_replaced (p ∷ prints) (y ∷ row) (suc at) x item are is = (are.0, prints_replaced prints row at x item are.1 is)
+-- an entry gets another place
+pub prints_replaced : (prints : List ℕ) (row : Keyed) (at : ℕ) (x : Pair) (place : ℕ) → AreFingerprints prints row → slice_get row at ≡ Some x → AreFingerprints prints (set row at (x.0, place))
+prints_replaced prints [] at x place are is = cc
+prints_replaced [] (y ∷ row) at x place are is = absurd are
+prints_replaced (t ∷ prints) (y ∷ row) zero x place are is = (are.0 ∙ ap (λ (p : Pair). fingerprint_of p.0) (same_Some y x is), are.1)
+prints_replaced (p ∷ prints) (y ∷ row) (suc at) x place are is = (are.0, prints_replaced prints row at x place are.1 is)
 
 -- further fingerprints may follow
 prints_longer : (prints more : List ℕ) (row : Keyed) (n : ℕ) → AreFingerprints prints row → length row ≤ n → AreFingerprints (take n prints ++ more) row

@@ -4,3 +4,6 @@ pub mod RowLemmas
 pub mod FingerprintLemmas
 pub mod SoundLemmas
 pub mod CountLemmas
+pub mod IndexLemmas
+pub mod GetLemmas
+pub mod StoreLemmas

@@ -11,8 +11,7 @@ use Rattle.std.specs.FinMap.{find, get, insert, remove, get-insert, get-remove, 
 use Rattle.std.specs.BTreeMap.{is_at}
 use Rattle.mc_calls.specs.declared.item.Item.{Item}
 use Rattle.mc_calls.specs.Key.{hash_of}
-use Rattle.mc_shard.specs.Contents.{hashed_cmp, hashed_total, items_in}
-use Rattle.mc_shard.specs.Buckets.{item_in}
+use Rattle.mc_shard.specs.Contents.{hashed_cmp, hashed_total, item_in, items_in}
 
 -- keys that differ are ordered by their hashes, or by themselves where the hashes are equal
 differ_by : (hashes keys : Ordering) → is_eq keys ≡ false → is_eq (ordering_then hashes keys) ≡ false
@@ -72,3 +71,11 @@ pub items_in-removed : (old new : List (List ℕ × Item)) (key : List ℕ)
 items_in-removed old new key is = same_map nat_list_cmp_total (slice_cmp-IsAntisymmetric nat_cmp-IsAntisymmetric) _ _ (λ q.
     get-items_in new q ∙ is q ∙ ap (λ t. cond t None (item_in old q)) (sym (alike key q)) ∙ ap (cond (is_at (slice_cmp nat_cmp key) q) None) (sym (get-items_in old q))
     ∙ same_key key q None (get (items_in old) q) ∙ sym (get-remove nat_list_cmp_total (items_in old) key q))
+
+-- two lists of entries with the same item at each key make the same map
+pub items_in-same : (old new : List (List ℕ × Item)) → ((q : List ℕ) → item_in new q ≡ item_in old q) → items_in new ≡ items_in old
+items_in-same old new is = same_map nat_list_cmp_total (slice_cmp-IsAntisymmetric nat_cmp-IsAntisymmetric) _ _ (λ q. get-items_in new q ∙ is q ∙ sym (get-items_in old q))
+
+-- a key is found at itself
+pub at_itself : (key : List ℕ) → is_at (hashed_cmp key) key ≡ true
+at_itself key = ap is_eq (tied_itself hashed_total key)

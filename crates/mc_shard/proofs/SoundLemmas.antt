@@ -83,11 +83,11 @@ IsSound-got number shards last stamp contents contents' es es' tag key reply sou
     ∙ ap (λ (effect : Effect). with_calls (state_with shards number contents effect) (calls_with contents.calls (Get key) outcome.reply)) (sym (get_keeps counts key found)))
     longer refl refl above answered fits
 
--- the state of the shard after a get
-pub state_got : (old new : Kept) (tag : Tag) (key : List ℕ) (reply : CallReply) (stamp : ℕ)
-    → new ≡ with_entry old (entry_of tag old.number (Get key) reply stamp) → state_of new ≡ state_past old (Get key)
-state_got old new tag key reply stamp longer =
-    ap state_of longer ∙ replayed-push old.shards old.number empty_state old.history (entry_of tag old.number (Get key) reply stamp)
+-- the state of the shard after a call whose entry was appended
+pub state_longer : (old new : Kept) (tag : Tag) (call : Call) (reply : CallReply) (stamp : ℕ)
+    → new ≡ with_entry old (entry_of tag old.number call reply stamp) → state_of new ≡ state_past old call
+state_longer old new tag call reply stamp longer =
+    ap state_of longer ∙ replayed-push old.shards old.number empty_state old.history (entry_of tag old.number call reply stamp)
 
 -- the shard after a call that was made, from the entry that was appended
 pub state_by : {E : Type 0} (old new : Kept) (tag : Tag) (call given : Call) (result : Result Made E)

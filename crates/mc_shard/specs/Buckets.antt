@@ -1,15 +1,13 @@
--- The buckets in which a shard has its items. No public clause cites this module.
+-- The buckets in which a shard keeps where its items are. No public clause cites this module.
 use Rattle.std.specs.Prelude.{◌≡◌, ◌≢◌, ◌⊎◌, ℕ, zero, suc, ◌/◌, ◌%◌, ◌^◌, List, [], ◌∷◌, ◌++◌, length, Option, None, true, false, cond, ⊤}
 use Rattle.std.specs.Map.{lookup}
 use Rattle.std.specs.BTreeMap.{is_at}
-use Rattle.mc_calls.specs.declared.item.Item.{Item}
 use Rattle.mc_calls.specs.Key.{hash_of}
-use Rattle.mc_calls.specs.Shard.{Items}
-use Rattle.mc_shard.specs.Contents.{hashed_cmp, items_in}
+use Rattle.mc_shard.specs.Contents.{hashed_cmp}
 
--- keys with their items
+-- keys with the places of their items
 abbrev pub Keyed : Type 0
-Keyed = List (List ℕ × Item)
+Keyed = List (List ℕ × ℕ)
 
 -- the number of a key's bucket: the first eight bits of its hash
 abbrev pub bucket_of : List ℕ → ℕ
@@ -19,22 +17,18 @@ bucket_of key = hash_of key / 2 ^ 24
 abbrev pub part_of : List ℕ → ℕ
 part_of key = hash_of key / 2 ^ 19 % 2 ^ 5
 
--- the item that the entries have at a key
-abbrev pub item_in : Keyed → List ℕ → Option Item
-item_in entries key = lookup (is_at (hashed_cmp key)) entries
+-- the place that the entries have at a key
+abbrev pub place_in : Keyed → List ℕ → Option ℕ
+place_in entries key = lookup (is_at (hashed_cmp key)) entries
 
 -- the entries of all buckets, or of all parts of a bucket, one after another
 abbrev pub entries_among : List Keyed → Keyed
 entries_among [] = []
 entries_among (bucket ∷ buckets) = bucket ++ entries_among buckets
 
--- the items of all buckets
-abbrev pub items_among : List Keyed → Items
-items_among buckets = items_in (entries_among buckets)
-
 -- the bucket with the number `at` has no key to which `number` gives another one
 abbrev pub HasOwnKeys : (List ℕ → ℕ) → ℕ → Keyed → Type 0
-HasOwnKeys number at bucket = (key : List ℕ) → number key ≢ at → item_in bucket key ≡ None
+HasOwnKeys number at bucket = (key : List ℕ) → number key ≢ at → place_in bucket key ≡ None
 
 -- these buckets, which are numbered from `at` on, have their own keys
 abbrev pub HaveOwnKeys : (List ℕ → ℕ) → ℕ → List Keyed → Type 0
@@ -73,11 +67,11 @@ NoneBefore entries key zero = ⊤
 NoneBefore [] key (suc at) = ⊤
 NoneBefore (entry ∷ entries) key (suc at) = (is_at (hashed_cmp key) entry.0 ≡ false) × NoneBefore entries key at
 
--- the items are the same except at the key, which now has this item or none
-abbrev pub IsWith : Keyed → List ℕ → Option Item → Keyed → Type 0
-IsWith old key item new =
-    (q : List ℕ) → item_in new q ≡ cond (is_at (hashed_cmp key) q) item (item_in old q)
+-- the places are the same except at the key, which now has this one or none
+abbrev pub IsWith : Keyed → List ℕ → Option ℕ → Keyed → Type 0
+IsWith old key place new =
+    (q : List ℕ) → place_in new q ≡ cond (is_at (hashed_cmp key) q) place (place_in old q)
 
--- each key has the same item
-abbrev pub SameItems : Keyed → Keyed → Type 0
-SameItems old new = (q : List ℕ) → item_in new q ≡ item_in old q
+-- each key has the same place
+abbrev pub SamePlaces : Keyed → Keyed → Type 0
+SamePlaces old new = (q : List ℕ) → place_in new q ≡ place_in old q

@@ -6,7 +6,9 @@ use Rattle.std.specs.declared.cmp.Ordering.{Ordering}
 use Rattle.std.specs.Ordering.{nat_cmp, ordering_then}
 use Rattle.std.specs.Cmp.{IsTotalOrder, then_total, on_total, nat_cmp_total}
 use Rattle.std.specs.Cmp.Lexicographic.{slice_cmp, nat_list_cmp_total}
-use Rattle.std.specs.FinMap.{from_entries, code, insert, len}
+use Rattle.std.specs.FinMap.{from_entries, code, insert, remove, empty, len}
+use Rattle.std.specs.Map.{lookup}
+use Rattle.std.specs.BTreeMap.{is_at}
 use Rattle.mc_calls.specs.declared.item.Item.{Item}
 use Rattle.mc_calls.specs.declared.entry.Entry.{Entry}
 use Rattle.mc_calls.specs.Key.{hash_of}
@@ -23,6 +25,10 @@ hashed_cmp a b = ordering_then (nat_cmp (hash_of a) (hash_of b)) (slice_cmp nat_
 pub hashed_total : IsTotalOrder hashed_cmp
 hashed_total = then_total (on_total hash_of nat_cmp_total) nat_list_cmp_total
 
+-- the item that the entries have at a key
+abbrev pub item_in : List (List ℕ × Item) → List ℕ → Option Item
+item_in entries key = lookup (is_at (hashed_cmp key)) entries
+
 -- the items made from the entries
 abbrev pub items_in : List (List ℕ × Item) → Items
 items_in entries = from_entries entries
@@ -31,6 +37,15 @@ items_in entries = from_entries entries
 abbrev pub with_item : State → Option (List ℕ) → Item → State
 with_item state None item = state
 with_item state (Some key) item = record state { items = insert state.items key item; count = state.count + 1 }
+
+-- a shard after the item of a call's key was removed; a call without a key removes none
+abbrev pub without_item : State → Option (List ℕ) → State
+without_item state None = state
+without_item state (Some key) = record state { items = remove state.items key }
+
+-- a shard after all items were removed
+abbrev pub without_items : State → State
+without_items state = record state { items = empty }
 
 -- the counts of calls among the counts of a shard
 abbrev pub call_counts_in : Counts → CallCounts

@@ -2,4 +2,5 @@ pub mod Shard
 pub mod Replay
 pub mod Contents
 pub mod Buckets
+pub mod Index
 pub mod Step

@@ -1,11 +1,9 @@
-//! The items of a shard by their keys.
-ghost use Rattle.std.specs.Prelude.{◌≡◌, ◌<◌, length, IfOk, OnOk, OnErr, option_copied};
-ghost use Rattle.std.specs.FinMap.{get, contains_key, insert, remove, empty};
-ghost use Rattle.mc_shard.specs.Buckets.{AreBuckets, bucket_of, items_among};
+//! Where the items of a shard are, by their keys.
+ghost use Rattle.std.specs.Prelude.{◌≡◌, ◌<◌, [], length, None, Some, is_some, IfOk, OnOk, OnErr};
+ghost use Rattle.mc_shard.specs.Buckets.{AreBuckets, bucket_of, place_in, entries_among, IsWith};
 
 use crate::bucket::Bucket;
-use crate::hashed::Hashed;
-use mc_calls::Item;
+use crate::hashed::Sought;
 use std::alloc::Global;
 use std::marker::Model;
 use std::mem;
@@ -14,44 +12,40 @@ use zy_base::NoMemory;
 // The number of buckets.
 const BUCKETS: usize = 256;
 
-/// Items by their keys. Contracts see them as a finite map.
+/// Where the items of keys are. Contracts see it as a list of keys with the places of their items,
+/// of which the first entry of a key counts.
 ///
 /// The number of a key's bucket is the first eight bits of its hash, so that buckets are small.
-/// There are no buckets before the first item.
+/// There are no buckets before the first key.
 #[derive(Drop)]
 pub struct Buckets {
     buckets: Vec<Bucket>,
 }
 
 impl Model for Buckets {
-    ghost use Rattle.mc_calls.specs.Shard.{Items};
-    ghost use Rattle.std.specs.Coded.{codes};
-    ghost use Rattle.mc_shard.specs.Contents.{items_code};
-    ghost use Rattle.mc_shard.specs.Buckets.{AreBuckets, bucket_of, items_among};
+    ghost use Rattle.mc_shard.specs.Buckets.{Keyed, AreBuckets, bucket_of, entries_among};
 
-    ghost Value = { Items };
+    ghost Value = { Keyed };
 
-    ghost coded = { Prim.hlevel (codes, items_code) };
+    ghost view = { λ p. entries_among p.buckets.items };
 
-    ghost view = { λ t. items_among t.buckets.items };
-
-    ghost invariant = { λ t. AreBuckets bucket_of 256 t.buckets.items };
+    ghost invariant = { λ p. AreBuckets bucket_of 256 p.buckets.items };
 }
 
 impl Buckets {
-    /// Begins without items. Takes no memory.
+    /// Begins without an entry. Takes no memory.
     pub fn new(alloc: Global) -> Buckets
-        ensures value { result ≡ empty }
+        ensures value { result ≡ [] }
     {
         Buckets {
             buckets: Vec::new(alloc),
         }
     }
 
-    /// Returns the item of a key.
+    /// Returns the place of a key's item.
     #[inline(always)]
-    pub fn get(&self, key: &Hashed) -> Option<&Item>
-        ensures value { option_copied result ≡ get self.now key.now }
+    pub fn get(&self, key: &Sought<'_>) -> Option<u32>
+        ensures value { result ≡ place_in self.now key.now }
     {
         match self.buckets.get(key.bucket()) {
             Some(bucket) => bucket.get(key),
@@ -59,26 +53,23 @@ impl Buckets {
         }
     }
 
-    /// Puts an item at a key, and answers the one that it had.
-    pub fn insert(&mut self, key: Hashed, item: Item) -> Result<Option<Item>, NoMemory>
-        ensures old { IfOk result (λ old. old ≡ get self.old key) }
-        ensures ok { OnOk result (self.new ≡ insert self.old key item) }
+    /// Puts the place of a key's item, and answers the one that it had.
+    pub fn insert(&mut self, key: &Sought<'_>, place: u32) -> Result<Option<u32>, NoMemory>
+        ensures old { IfOk result (λ old. old ≡ place_in self.old key.now) }
+        ensures ok { OnOk result (IsWith self.old key.now (Some place) self.new) }
         ensures err { OnErr result (self.new ≡ self.old) }
+        ensures absent { OnErr result (place_in self.old key.now ≡ None) }
     {
         match make_buckets(&mut self.buckets) {
-            Ok(()) => insert_in(&mut self.buckets, key, item),
-            Err(e) => {
-                drop(key);
-                drop(item);
-                Err(e)
-            }
+            Ok(()) => insert_in(&mut self.buckets, key, place),
+            Err(refused) => Err(refused),
         }
     }
 
-    /// Removes the item of a key, and answers whether there was one. Takes no memory.
-    pub fn remove(&mut self, key: &Hashed) -> bool
-        ensures found { result ≡ contains_key self.old key.now }
-        ensures value { self.new ≡ remove self.old key.now }
+    /// Removes a key, and answers whether it had a place. Takes no memory.
+    pub fn remove(&mut self, key: &Sought<'_>) -> bool
+        ensures found { result ≡ is_some (place_in self.old key.now) }
+        ensures value { IsWith self.old key.now None self.new }
     {
         let bucket = key.bucket();
         if bucket < self.buckets.len() {
@@ -88,9 +79,9 @@ impl Buckets {
         }
     }
 
-    /// Removes all items. Takes no memory.
+    /// Removes all keys. Takes no memory.
     pub fn clear(&mut self)
-        ensures value { self.new ≡ empty }
+        ensures value { self.new ≡ [] }
     {
         self.buckets.clear();
     }
@@ -100,8 +91,9 @@ impl Buckets {
 fn make_buckets(buckets: &mut Vec<Bucket>) -> Result<(), NoMemory>
     requires buckets { AreBuckets bucket_of 256 buckets.old.items }
     ensures buckets { AreBuckets bucket_of 256 buckets.new.items }
-    ensures same { items_among buckets.new.items ≡ items_among buckets.old.items }
+    ensures same { entries_among buckets.new.items ≡ entries_among buckets.old.items }
     ensures all { OnOk result (length buckets.new.items ≡ 256) }
+    ensures none { OnErr result (buckets.old.items ≡ []) }
 {
     if !buckets.is_empty() {
         return Ok(());
@@ -111,10 +103,10 @@ fn make_buckets(buckets: &mut Vec<Bucket>) -> Result<(), NoMemory>
     Ok(())
 }
 
-// Makes buckets without an item.
+// Makes buckets without an entry.
 fn new_buckets(alloc: Global) -> Result<Vec<Bucket>, NoMemory>
     ensures buckets { IfOk result (λ buckets. AreBuckets bucket_of 256 buckets.items) }
-    ensures none { IfOk result (λ buckets. items_among buckets.items ≡ empty) }
+    ensures none { IfOk result (λ buckets. entries_among buckets.items ≡ []) }
     ensures all { IfOk result (λ buckets. length buckets.items ≡ 256) }
 {
     let Ok(mut buckets) = Vec::with_capacity(alloc, BUCKETS) else {
@@ -126,17 +118,22 @@ fn new_buckets(alloc: Global) -> Result<Vec<Bucket>, NoMemory>
     Ok(buckets)
 }
 
-// Puts an item at a key, in the key's bucket.
-fn insert_in(buckets: &mut Vec<Bucket>, key: Hashed, item: Item) -> Result<Option<Item>, NoMemory>
+// Puts the place of a key's item, in the key's bucket.
+fn insert_in(
+    buckets: &mut Vec<Bucket>,
+    key: &Sought<'_>,
+    place: u32,
+) -> Result<Option<u32>, NoMemory>
     requires buckets { AreBuckets bucket_of 256 buckets.old.items }
     requires all { length buckets.old.items ≡ 256 }
-    ensures old { IfOk result (λ old. old ≡ get (items_among buckets.old.items) key) }
+    ensures old { IfOk result (λ old. old ≡ place_in (entries_among buckets.old.items) key.now) }
     ensures buckets { AreBuckets bucket_of 256 buckets.new.items }
-    ensures ok { OnOk result (items_among buckets.new.items ≡ insert (items_among buckets.old.items) key item) }
-    ensures err { OnErr result (items_among buckets.new.items ≡ items_among buckets.old.items) }
+    ensures ok { OnOk result (IsWith (entries_among buckets.old.items) key.now (Some place) (entries_among buckets.new.items)) }
+    ensures err { OnErr result (entries_among buckets.new.items ≡ entries_among buckets.old.items) }
+    ensures absent { OnErr result (place_in (entries_among buckets.old.items) key.now ≡ None) }
 {
-    match buckets[key.bucket()].insert(key, item) {
+    match buckets[key.bucket()].insert(key, place) {
         Ok(before) => Ok(before),
-        Err(e) => Err(e),
+        Err(refused) => Err(refused),
     }
 }

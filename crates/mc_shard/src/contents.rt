@@ -1,68 +1,57 @@
-//! The items of a shard with their counter and its counts, and the changes that calls make.
-ghost use Rattle.std.specs.Prelude.{◌≡◌, ◌+◌, ◌^◌, ◌<◌, ◌≤◌, OnOk, OnErr, option_copied};
-ghost use Rattle.std.specs.FinMap.{get, insert, remove, empty};
+//! Where the items of a shard are, with their counter and its counts.
+ghost use Rattle.std.specs.Prelude.{◌≡◌, ◌+◌, ◌-◌, ◌^◌, ◌<◌, ◌≤◌, [], None, Some, is_some, true, IfOk, OnOk, OnErr, if◌then◌else◌};
 ghost use Rattle.mc_calls.specs.Kind.{MayAnswer};
-ghost use Rattle.mc_calls.specs.declared.tallied.Tallied.{Tallied};
 ghost use Rattle.mc_calls.specs.Counted.{calls_with};
-ghost use Rattle.mc_calls.specs.Shard.{outcome_of, item_at, empty_state, tallied, unique_of, state_with, with_calls};
-ghost use Rattle.mc_shard.specs.Contents.{with_item};
-ghost use Rattle.mc_shard.specs.Step.{effect_in};
+ghost use Rattle.mc_calls.specs.Shard.{unique_of};
+ghost use Rattle.mc_stats.specs.declared.counts.Counts.{Counts};
+ghost use Rattle.mc_stats.specs.Counts.{with_item, without_item, without_items};
+ghost use Rattle.mc_shard.specs.Contents.{call_counts_in};
+ghost use Rattle.mc_shard.specs.Buckets.{place_in, IsWith};
+ghost use Rattle.mc_shard.specs.Index.{no_contents, tallied_by, noted_by};
 
 use crate::buckets::Buckets;
-use crate::change::Change;
 use crate::counting::{count_put, count_removed};
-use crate::hashed::Hashed;
-use mc_calls::{Call, CallReply, Item, Tallied};
+use crate::hashed::Sought;
+use mc_calls::{Call, CallReply, Tallied};
 use mc_stats::Counts;
 use std::alloc::Global;
-use std::marker::Model;
 use zy_base::NoMemory;
 
-/// The items of a shard, how many items it ever stored, and what it counted. Contracts see it as
-/// its items, its counter and its counts of calls.
-#[derive(Drop)]
-pub struct Contents {
-    items: Buckets,
-    count: u64,
-    counts: Counts,
+/// What a call counts as.
+#[derive(Clone, Copy)]
+pub enum Noted {
+    /// A get, and whether it found an item.
+    Get(bool),
+    /// A call that stores a value.
+    Set,
+    /// Any other call.
+    Other,
 }
 
-impl Model for Contents {
-    ghost use Rattle.mc_calls.specs.Shard.{State};
-    ghost use Rattle.std.specs.Coded.{codes};
-    ghost use Rattle.mc_shard.specs.Contents.{call_counts_in, items_code, AreCounts};
-
-    ghost Value = { State };
-
-    ghost coded = { Prim.hlevel (codes, items_code) };
-
-    ghost view = { λ c. record { items = c.items; count = c.count; calls = call_counts_in c.counts } };
-
-    ghost invariant = { λ c. AreCounts c.counts c.count c.items };
+/// Where the items of a shard are among those that were ever stored, how many those are, and what
+/// the shard counted.
+#[derive(Drop)]
+pub struct Contents {
+    pub(crate) places: Buckets,
+    pub(crate) count: u64,
+    pub(crate) counts: Counts,
 }
 
 impl Contents {
     /// Begins without items, and with all counts 0. Takes no memory.
     pub fn new(alloc: Global) -> Contents
-        ensures value { result ≡ empty_state }
+        ensures value { result ≡ no_contents }
     {
         Contents {
-            items: Buckets::new(alloc),
+            places: Buckets::new(alloc),
             count: 0,
             counts: Counts::new(),
         }
     }
 
-    /// Returns how many items were ever stored.
-    pub fn count(&self) -> u64
-        ensures value { result ≡ self.now.count }
-    {
-        self.count
-    }
-
     /// Returns what the shard counts.
     pub fn tallied(&self) -> Tallied
-        ensures value { result ≡ tallied self.now }
+        ensures value { result ≡ tallied_by self.now.counts }
     {
         Tallied {
             gets: self.counts.gets,
@@ -73,150 +62,113 @@ impl Contents {
         }
     }
 
-    /// Counts a call with this reply.
-    pub fn note(&mut self, call: &Call, reply: &CallReply)
-        requires answers { MayAnswer call.now reply.now }
-        requires gets { self.old.calls.gets < 2 ^ 60 }
-        requires sets { self.old.calls.sets < 2 ^ 60 }
-        ensures value { self.new ≡ with_calls self.old (calls_with self.old.calls call.now reply.now) }
-    {
-        if call.is_get() {
-            self.counts.got(call.is_hit(reply));
-        } else if call.is_set() {
-            self.counts.stored();
-        }
-    }
-
-    /// Returns the item of a call's key, if the call has a key.
+    /// Counts a call.
     #[inline(always)]
-    pub fn found(&self, key: &Option<Hashed>) -> Option<&Item>
-        ensures value { option_copied result ≡ item_at self.now.items key.now }
+    pub fn note(&mut self, noted: Noted)
+        requires gets { self.old.counts.gets < 2 ^ 60 }
+        requires sets { self.old.counts.sets < 2 ^ 60 }
+        requires hits { self.old.counts.hits ≤ self.old.counts.gets }
+        requires misses { self.old.counts.misses ≤ self.old.counts.gets }
+        ensures value { self.new ≡ record self.old { counts = noted_by noted self.old.counts } }
     {
-        match key {
-            Some(key) => self.found_at(key),
-            None => None,
+        match noted {
+            Noted::Get(hit) => self.counts.got(hit),
+            Noted::Set => self.counts.stored(),
+            Noted::Other => {}
         }
     }
 
-    /// Returns the item of this key.
+    /// Returns the place of a key's item.
     #[inline(always)]
-    pub fn found_at(&self, key: &Hashed) -> Option<&Item>
-        ensures value { option_copied result ≡ get self.now.items key.now }
+    pub fn place_of(&self, key: &Sought<'_>) -> Option<u32>
+        ensures value { result ≡ place_in self.now.places key.now }
     {
-        self.items.get(key)
+        self.places.get(key)
     }
 
-    /// Returns the item that decides what a call answers and does: that of its key, but none for a
-    /// `set`, whose outcome depends on no item.
-    pub fn found_for(&self, call: &Call, key: &Option<Hashed>) -> Option<&Item>
-        ensures value { (counts : Tallied) → outcome_of counts call.now (option_copied result)
-            ≡ outcome_of counts call.now (item_at self.now.items key.now) }
-    {
-        match call {
-            Call::Set { .. } => None,
-            _ => self.found(key),
-        }
-    }
-
-    /// Makes the change of a call with this key, on shard `number` of `shards`.
+    /// Puts the place of a key's item, and answers the one that it had. The item is counted by
+    /// `count_put`.
     #[inline(always)]
-    pub fn carry_out(
-        &mut self,
-        number: u32,
-        shards: u32,
-        key: Option<Hashed>,
-        change: Change,
-    ) -> Result<(), NoMemory>
-        requires within { number < shards }
-        requires few { shards ≤ 256 }
-        requires room { self.old.count < 2 ^ 52 }
-        ensures ok { OnOk result (self.new ≡ state_with shards number self.old (effect_in key change)) }
-        ensures err { OnErr result (self.new ≡ self.old) }
+    pub fn put(&mut self, key: &Sought<'_>, place: u32) -> Result<Option<u32>, NoMemory>
+        ensures old { IfOk result (λ old. old ≡ place_in self.old.places key.now) }
+        ensures ok { OnOk result (IsWith self.old.places key.now (Some place) self.new.places) }
+        ensures err { OnErr result (self.new.places ≡ self.old.places) }
+        ensures count { self.new.count ≡ self.old.count }
+        ensures counts { self.new.counts ≡ self.old.counts }
     {
-        match change {
-            Change::Put { flags, value } => {
-                let unique = unique(number, shards, self.count);
-                self.put_at(
-                    key,
-                    Item {
-                        flags,
-                        value,
-                        unique,
-                    },
-                )
-            }
-            Change::Remove => {
-                if let Some(key) = &key {
-                    self.remove(key);
-                }
-                drop(key);
-                drop(change);
-                Ok(())
-            }
-            Change::Clear => {
-                self.clear();
-                drop(key);
-                drop(change);
-                Ok(())
-            }
-            Change::Nothing => {
-                drop(key);
-                drop(change);
-                Ok(())
-            }
-        }
+        self.places.insert(key, place)
     }
 
-    // Puts the item at the key of a call, and counts it; a call without a key puts none.
-    fn put_at(&mut self, key: Option<Hashed>, item: Item) -> Result<(), NoMemory>
-        requires room { self.old.count < 2 ^ 52 }
-        ensures ok { OnOk result (self.new ≡ with_item self.old key item) }
-        ensures err { OnErr result (self.new ≡ self.old) }
+    /// Gives a key the place back that it had, or none. Takes no memory.
+    pub fn put_back(&mut self, key: &Sought<'_>, before: Option<u32>)
+        requires some { is_some (place_in self.old.places key.now) ≡ true }
+        ensures value { IsWith self.old.places key.now before self.new.places }
+        ensures count { self.new.count ≡ self.old.count }
+        ensures counts { self.new.counts ≡ self.old.counts }
     {
-        match key {
-            Some(key) => self.put(key, item),
+        match before {
+            Some(place) => {
+                let _ = self.places.insert(key, place);
+            }
             None => {
-                drop(item);
-                Ok(())
+                let _ = self.places.remove(key);
             }
         }
     }
 
-    // Puts the item at the key, and counts it.
-    fn put(&mut self, key: Hashed, item: Item) -> Result<(), NoMemory>
-        requires room { self.old.count < 2 ^ 52 }
-        ensures ok { OnOk result (self.new ≡ record self.old {
-          items = insert self.old.items key item;
+    /// Counts an item that was stored at a key, by whether the key had one before.
+    #[inline(always)]
+    pub fn count_put(&mut self, had: bool)
+        requires count { self.old.count < 2 ^ 52 }
+        requires items { self.old.counts.items < 2 ^ 64 - 1 }
+        ensures value { self.new ≡ record self.old {
           count = self.old.count + 1;
-        }) }
-        ensures err { OnErr result (self.new ≡ self.old) }
+          counts = if had then self.old.counts else with_item self.old.counts;
+        } }
     {
-        let before = self.items.insert(key, item)?;
-        count_put(&mut self.counts, before.is_some());
-        drop(before);
+        count_put(&mut self.counts, had);
         self.count += 1;
-        Ok(())
     }
 
-    // Removes the item of the key.
-    fn remove(&mut self, key: &Hashed)
-        ensures value { self.new ≡ record self.old { items = remove self.old.items key.now } }
+    /// Removes the item of a key.
+    pub fn remove(&mut self, key: &Sought<'_>)
+        requires some { is_some (place_in self.old.places key.now) ≡ true → 1 ≤ self.old.counts.items }
+        ensures places { IsWith self.old.places key.now None self.new.places }
+        ensures count { self.new.count ≡ self.old.count }
+        ensures counts { self.new.counts
+            ≡ (if is_some (place_in self.old.places key.now) then without_item self.old.counts else self.old.counts) }
     {
-        let found = self.items.remove(key);
+        let found = self.places.remove(key);
         count_removed(&mut self.counts, found);
     }
 
-    // Removes all items.
-    fn clear(&mut self)
-        ensures value { self.new ≡ record self.old { items = empty } }
+    /// Removes all items.
+    pub fn clear(&mut self)
+        ensures value { self.new ≡ record self.old { places = []; counts = without_items self.old.counts } }
     {
-        self.items.clear();
+        self.places.clear();
         self.counts.emptied();
     }
 }
 
-// Returns the unique of the next item that is stored.
-fn unique(number: u32, shards: u32, count: u64) -> u64
+/// Returns what a call with this reply counts as.
+pub fn note_of(call: &Call, reply: &CallReply) -> Noted
+    requires answers { MayAnswer call.now reply.now }
+    ensures value { (counts : Counts) → call_counts_in (noted_by result counts)
+        ≡ calls_with (call_counts_in counts) call.now reply.now }
+{
+    if call.is_get() {
+        Noted::Get(call.is_hit(reply))
+    } else if call.is_set() {
+        Noted::Set
+    } else {
+        Noted::Other
+    }
+}
+
+/// Returns the unique of the next item that is stored.
+#[inline(always)]
+pub fn unique(number: u32, shards: u32, count: u64) -> u64
     requires within { number < shards }
     requires few { shards ≤ 256 }
     requires room { count < 2 ^ 52 }

@@ -2,6 +2,8 @@
 ghost use Rattle.std.specs.Prelude.{◌≡◌, ◌<◌, IfOk, Some, refl};
 ghost use Rattle.std.specs.Ordering.{eq_by_cmp};
 ghost use Rattle.std.specs.Cmp.{partial_equiv_from_equiv, partial_order_from_total, eq_by_cmp_equiv};
+ghost use Rattle.std.specs.BTreeMap.{is_at};
+ghost use Rattle.std.specs.BTreeMap.Comparable.{le_lt_trans};
 ghost use Rattle.mc_calls.specs.Call.{key_of};
 ghost use Rattle.mc_calls.specs.Key.{hash_of};
 ghost use Rattle.mc_shard.specs.Contents.{hashed_cmp, hashed_total};
@@ -9,6 +11,7 @@ ghost use Rattle.mc_shard.specs.Buckets.{bucket_of, part_of, fingerprint_of};
 
 use mc_calls::{Call, hash_of};
 use std::cmp::Ordering;
+use std::collections::btree_map::Comparable;
 use std::marker::Model;
 use zy_base::{Blob, NoMemory};
 
@@ -31,18 +34,59 @@ impl Model for Hashed {
 }
 
 impl Hashed {
-    /// Copies the key of a call, with its hash; a flush and a tally have none.
+    /// Lends the key, with its hash.
     #[inline(always)]
-    pub fn of_call(call: &Call) -> Result<Option<Hashed>, NoMemory>
-        ensures value { IfOk result (λ key. key ≡ key_of call.now) }
+    pub fn sought(&self) -> Sought<'_>
+        ensures value { result ≡ self.now }
+    {
+        Sought {
+            hash: self.hash,
+            key: &self.key,
+        }
+    }
+}
+
+/// A key that is lent, with its hash. Contracts see it as the key.
+#[derive(Drop)]
+pub struct Sought<'a> {
+    hash: u32,
+    key: &'a Blob,
+}
+
+impl<'a> Model for Sought<'a> {
+    ghost use Rattle.std.specs.Prelude.{◌≡◌, ℕ, List};
+    ghost use Rattle.mc_calls.specs.Key.{hash_of};
+
+    ghost Value = { List ℕ };
+
+    ghost view = { λ k. k.key.now };
+
+    ghost invariant = { λ k. k.hash ≡ hash_of k.key.now };
+}
+
+impl<'a> Sought<'a> {
+    /// Lends a key that has this hash.
+    #[inline(always)]
+    pub fn with_hash(key: &'a Blob, hash: u32) -> Sought<'a>
+        requires hash { hash ≡ hash_of key.now }
+        ensures value { result ≡ key.now }
+    {
+        Sought { hash, key }
+    }
+
+    /// Lends the key of a call, with its hash; a flush and a tally have none.
+    #[inline(always)]
+    pub fn of_call(call: &'a Call) -> Option<Sought<'a>>
+        ensures value { result ≡ key_of call.now }
     {
         match call.key() {
-            Some(key) => Ok(Some(Hashed::copy_of(key)?)),
-            None => Ok(None),
+            Some(key) => Some(Sought::with_hash(key, hash_of(key.bytes()))),
+            None => None,
         }
     }
 
     /// Returns the number of its bucket: the first eight bits of the hash.
+    #[inline(always)]
     pub fn bucket(&self) -> usize
         ensures value { result ≡ bucket_of self.now }
         ensures within { result < 256 }
@@ -51,6 +95,7 @@ impl Hashed {
     }
 
     /// Returns the number of its part: the next five bits of the hash.
+    #[inline(always)]
     pub fn part(&self) -> usize
         ensures value { result ≡ part_of self.now }
         ensures within { result < 32 }
@@ -59,37 +104,52 @@ impl Hashed {
     }
 
     /// Returns its fingerprint: the third eight bits of the hash.
+    #[inline(always)]
     pub fn fingerprint(&self) -> u8
         ensures value { result ≡ fingerprint_of self.now }
     {
         (self.hash / 256 % 256) as u8
     }
 
-    /// Makes a copy of a key that has this hash.
+    /// Checks whether it is this key.
     #[inline(always)]
-    pub fn with_hash(key: &Blob, hash: u32) -> Result<Hashed, NoMemory>
-        requires hash { hash ≡ hash_of key.now }
-        ensures value { IfOk result (λ hashed. hashed ≡ key.now) }
+    pub fn is(&self, other: &Hashed) -> bool
+        ensures value { result ≡ is_at (hashed_cmp self.now) other.now }
     {
-        let key = key.copy()?;
+        self.hash == other.hash && *self.key == other.key
+    }
+
+    /// Copies the bytes of the key.
+    pub fn copied_key(&self) -> Result<Blob, NoMemory>
+        ensures value { IfOk result (λ copy. copy ≡ self.now) }
+    {
+        self.key.copy()
+    }
+
+    /// Copies the key, with its hash.
+    #[inline(always)]
+    pub fn copy(&self) -> Result<Hashed, NoMemory>
+        ensures value { IfOk result (λ copy. copy ≡ self.now) }
+    {
+        let hash = self.hash;
+        let key = self.key.copy()?;
         Ok(Hashed { hash, key })
     }
+}
 
-    /// Returns the key.
-    #[inline(always)]
-    pub fn into_key(self) -> Blob
-        ensures value { result ≡ self }
-    {
-        let Hashed { hash: _, key } = self;
-        key
-    }
+// Trees are searched for keys that are lent.
+impl<'a, 'b> Comparable<Hashed> for &'b Sought<'a> {
+    ghost compare = { λ q. hashed_cmp q.now };
 
-    // Copies a key, with its hash.
-    #[inline(always)]
-    fn copy_of(key: &Blob) -> Result<Hashed, NoMemory>
-        ensures value { IfOk result (λ hashed. hashed ≡ key.now) }
-    {
-        Hashed::with_hash(key, hash_of(key.bytes()))
+    ghost respects_cmp = { λ q. hashed_total.congr q.now };
+
+    ghost below_greater = { λ q. le_lt_trans hashed_total q.now };
+
+    fn compare(&self, key: &Hashed) -> Ordering {
+        match self.hash.cmp(&key.hash) {
+            Ordering::Equal => self.key.cmp(&key.key),
+            order => order,
+        }
     }
 }
 
@@ -98,7 +158,6 @@ impl PartialEq for Hashed {
 
     ghost laws = { partial_equiv_from_equiv (eq_by_cmp_equiv hashed_total) };
 
-    #[inline(always)]
     fn eq(&self, other: &Hashed) -> bool {
         self.hash == other.hash && self.key == other.key
     }

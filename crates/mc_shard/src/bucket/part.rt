@@ -1,24 +1,25 @@
-//! The items of one part of a bucket.
-ghost use Rattle.std.specs.Prelude.{◌≡◌, [], ◌++◌, None, Some, IfOk, IfErr, OnOk, OnErr, option_copied};
-ghost use Rattle.mc_shard.specs.Buckets.{item_in, IsWith};
+//! The places of one part of a bucket.
+ghost use Rattle.std.specs.Prelude.{◌≡◌, [], ◌++◌, None, Some, IfOk, OnOk, OnErr};
+ghost use Rattle.mc_shard.specs.Buckets.{place_in, IsWith};
 
 use super::row::Row;
-use crate::hashed::Hashed;
-use mc_calls::Item;
+use crate::hashed::{Hashed, Sought};
 use std::alloc::Global;
 use std::collections::BTreeMap;
 use std::marker::Model;
+use std::mem;
+use zy_base::NoMemory;
 
-/// Items by their keys. Contracts see them as a list of keys with their items, of which the first
-/// entry of a key counts.
+/// Where the items of keys are. Contracts see it as a list of keys with the places of their items,
+/// of which the first entry of a key counts.
 ///
-/// Up to 16 items are in a row, which takes little memory. More are in a tree, into which the row
-/// is then moved, one item at each insertion. So a key is found in at most 16 steps and those in
+/// Up to 16 entries are in a row, which takes little memory. More are in a tree, into which the row
+/// is then moved, one entry at each insertion. So a key is found in at most 16 steps and those in
 /// the tree, whatever the keys are.
 #[derive(Drop)]
 pub struct Part {
     row: Row,
-    tree: BTreeMap<Hashed, Item>,
+    tree: BTreeMap<Hashed, u32>,
 }
 
 impl Model for Part {
@@ -31,7 +32,7 @@ impl Model for Part {
 }
 
 impl Part {
-    /// Begins without items. Takes no memory.
+    /// Begins without an entry. Takes no memory.
     pub fn new(alloc: Global) -> Part
         ensures value { result ≡ [] }
     {
@@ -41,65 +42,81 @@ impl Part {
         }
     }
 
-    /// Returns the item of a key.
+    /// Returns the place of a key's item.
     #[inline(always)]
-    pub fn get(&self, key: &Hashed) -> Option<&Item>
-        ensures value { option_copied result ≡ item_in self.now key.now }
+    pub fn get(&self, key: &Sought<'_>) -> Option<u32>
+        ensures value { result ≡ place_in self.now key.now }
     {
         match self.row.get(key) {
-            Some(item) => Some(item),
-            None => self.tree.get(key),
+            Some(place) => Some(place),
+            None => self.tree.get(key).copied(),
         }
     }
 
-    /// Puts an item at a key, and answers the one that it had. If allocation fails, key and item
-    /// are handed back.
-    pub fn insert(&mut self, key: Hashed, item: Item) -> Result<Option<Item>, (Hashed, Item)>
-        ensures old { IfOk result (λ old. old ≡ item_in self.old key) }
-        ensures ok { OnOk result (IsWith self.old key (Some item) self.new) }
+    /// Puts the place of a key's item, and answers the one that it had.
+    pub fn insert(&mut self, key: &Sought<'_>, place: u32) -> Result<Option<u32>, NoMemory>
+        ensures old { IfOk result (λ old. old ≡ place_in self.old key.now) }
+        ensures ok { OnOk result (IsWith self.old key.now (Some place) self.new) }
         ensures err { OnErr result (self.new ≡ self.old) }
-        ensures back { IfErr result (λ back. back ≡ (key, item)) }
+        ensures absent { OnErr result (place_in self.old key.now ≡ None) }
     {
-        match self.row.place_of(&key) {
-            Some(at) => {
-                drop(key);
-                Ok(Some(self.row.replace(at, item)))
-            }
-            None => add(&mut self.row, &mut self.tree, key, item),
+        match self.row.index_of(key) {
+            Some(at) => Ok(Some(self.row.replace(at, place))),
+            None => add(&mut self.row, &mut self.tree, key, place),
         }
     }
 
-    /// Removes the item of a key. Takes no memory.
-    pub fn remove(&mut self, key: &Hashed)
+    /// Removes a key. Takes no memory.
+    pub fn remove(&mut self, key: &Sought<'_>)
         ensures value { IsWith self.old key.now None self.new }
     {
         self.row.clear_of(key);
-        drop(self.tree.remove(key));
+        let _ = self.tree.remove(key);
     }
 }
 
-// Puts an item at a key that is not in the row.
+// Puts the place of a key's item, if the key is not in the row.
 fn add(
     row: &mut Row,
-    tree: &mut BTreeMap<Hashed, Item>,
-    key: Hashed,
-    item: Item,
-) -> Result<Option<Item>, (Hashed, Item)>
-    requires none { item_in row.old key ≡ None }
-    ensures old { IfOk result (λ old. old ≡ item_in tree.old.entries key) }
-    ensures ok { OnOk result (IsWith (row.old ++ tree.old.entries) key (Some item) (row.new ++ tree.new.entries)) }
+    tree: &mut BTreeMap<Hashed, u32>,
+    key: &Sought<'_>,
+    place: u32,
+) -> Result<Option<u32>, NoMemory>
+    requires none { place_in row.old key.now ≡ None }
+    ensures old { IfOk result (λ old. old ≡ place_in tree.old.entries key.now) }
+    ensures ok { OnOk result (IsWith (row.old ++ tree.old.entries) key.now (Some place) (row.new ++ tree.new.entries)) }
     ensures err { OnErr result ((row.new ≡ row.old) × (tree.new.entries ≡ tree.old.entries)) }
-    ensures back { IfErr result (λ back. back ≡ (key, item)) }
+    ensures absent { OnErr result (place_in tree.old.entries key.now ≡ None) }
 {
     if row.has_room() && tree.is_empty() {
-        row.push(key, item)?;
+        row.push(key, place)?;
         return Ok(None);
     }
-    match tree.insert(key, item) {
-        Ok(before) => {
-            row.move_to_tree(tree);
-            Ok(before)
+    let before = put_in_tree(tree, key, place)?;
+    row.move_to_tree(tree);
+    Ok(before)
+}
+
+// Puts the place of a key's item in a tree. A key that is there needs no memory.
+fn put_in_tree(
+    tree: &mut BTreeMap<Hashed, u32>,
+    key: &Sought<'_>,
+    place: u32,
+) -> Result<Option<u32>, NoMemory>
+    ensures old { IfOk result (λ old. old ≡ place_in tree.old.entries key.now) }
+    ensures ok { OnOk result (IsWith tree.old.entries key.now (Some place) tree.new.entries) }
+    ensures err { OnErr result (tree.new.entries ≡ tree.old.entries) }
+    ensures absent { OnErr result (place_in tree.old.entries key.now ≡ None) }
+{
+    if let Some(old) = tree.get_mut(key) {
+        return Ok(Some(mem::replace(old, place)));
+    }
+    let key = key.copy()?;
+    match tree.insert(key, place) {
+        Ok(before) => Ok(before),
+        Err(back) => {
+            drop(back);
+            Err(NoMemory)
         }
-        Err(back) => Err(back.value),
     }
 }

@@ -1,10 +1,9 @@
-//! The parts of a bucket that has more items than its row has room for.
-ghost use Rattle.std.specs.Prelude.{◌≡◌, ◌<◌, [], length, None, Some, IfOk, IfErr, OnOk, OnErr, option_copied, true};
-ghost use Rattle.mc_shard.specs.Buckets.{AreBuckets, part_of, item_in, entries_among, IsWith};
+//! The parts of a bucket that has more keys than its row has room for.
+ghost use Rattle.std.specs.Prelude.{◌≡◌, ◌<◌, [], length, None, Some, IfOk, OnOk, OnErr, true};
+ghost use Rattle.mc_shard.specs.Buckets.{AreBuckets, part_of, place_in, entries_among, IsWith};
 
 use super::part::Part;
-use crate::hashed::Hashed;
-use mc_calls::Item;
+use crate::hashed::Sought;
 use std::alloc::Global;
 use std::marker::Model;
 use std::mem;
@@ -13,11 +12,11 @@ use zy_base::NoMemory;
 // The number of parts.
 const PARTS: usize = 32;
 
-/// Items by their keys. Contracts see them as a list of keys with their items, of which the first
-/// entry of a key counts.
+/// Where the items of keys are. Contracts see it as a list of keys with the places of their items,
+/// of which the first entry of a key counts.
 ///
 /// The number of a key's part is five bits of its hash, those after the bits of its bucket. There
-/// are no parts before the first item.
+/// are no parts before the first key.
 #[derive(Drop)]
 pub struct Parts {
     parts: Vec<Part>,
@@ -34,7 +33,7 @@ impl Model for Parts {
 }
 
 impl Parts {
-    /// Begins without items. Takes no memory.
+    /// Begins without an entry. Takes no memory.
     pub fn new(alloc: Global) -> Parts
         ensures value { result ≡ [] }
     {
@@ -43,17 +42,17 @@ impl Parts {
         }
     }
 
-    /// Checks whether there are no parts: then there is no item.
+    /// Checks whether there are no parts: then there is no entry.
     pub fn is_empty(&self) -> bool
         ensures none { result ≡ true → self.now ≡ [] }
     {
         self.parts.is_empty()
     }
 
-    /// Returns the item of a key.
+    /// Returns the place of a key's item.
     #[inline(always)]
-    pub fn get(&self, key: &Hashed) -> Option<&Item>
-        ensures value { option_copied result ≡ item_in self.now key.now }
+    pub fn get(&self, key: &Sought<'_>) -> Option<u32>
+        ensures value { result ≡ place_in self.now key.now }
     {
         match self.parts.get(key.part()) {
             Some(part) => part.get(key),
@@ -61,22 +60,21 @@ impl Parts {
         }
     }
 
-    /// Puts an item at a key, and answers the one that it had. If allocation fails, key and item
-    /// are handed back.
-    pub fn insert(&mut self, key: Hashed, item: Item) -> Result<Option<Item>, (Hashed, Item)>
-        ensures old { IfOk result (λ old. old ≡ item_in self.old key) }
-        ensures ok { OnOk result (IsWith self.old key (Some item) self.new) }
+    /// Puts the place of a key's item, and answers the one that it had.
+    pub fn insert(&mut self, key: &Sought<'_>, place: u32) -> Result<Option<u32>, NoMemory>
+        ensures old { IfOk result (λ old. old ≡ place_in self.old key.now) }
+        ensures ok { OnOk result (IsWith self.old key.now (Some place) self.new) }
         ensures err { OnErr result (self.new ≡ self.old) }
-        ensures back { IfErr result (λ back. back ≡ (key, item)) }
+        ensures absent { OnErr result (place_in self.old key.now ≡ None) }
     {
         match make_parts(&mut self.parts) {
-            Ok(()) => insert_in(&mut self.parts, key, item),
-            Err(NoMemory) => Err((key, item)),
+            Ok(()) => insert_in(&mut self.parts, key, place),
+            Err(refused) => Err(refused),
         }
     }
 
-    /// Removes the item of a key. Takes no memory.
-    pub fn remove(&mut self, key: &Hashed)
+    /// Removes a key. Takes no memory.
+    pub fn remove(&mut self, key: &Sought<'_>)
         ensures value { IsWith self.old key.now None self.new }
     {
         let part = key.part();
@@ -92,6 +90,7 @@ fn make_parts(parts: &mut Vec<Part>) -> Result<(), NoMemory>
     ensures parts { AreBuckets part_of 32 parts.new.items }
     ensures same { entries_among parts.new.items ≡ entries_among parts.old.items }
     ensures all { OnOk result (length parts.new.items ≡ 32) }
+    ensures none { OnErr result (parts.old.items ≡ []) }
 {
     if !parts.is_empty() {
         return Ok(());
@@ -101,7 +100,7 @@ fn make_parts(parts: &mut Vec<Part>) -> Result<(), NoMemory>
     Ok(())
 }
 
-// Makes parts without an item.
+// Makes parts without an entry.
 fn new_parts(alloc: Global) -> Result<Vec<Part>, NoMemory>
     ensures parts { IfOk result (λ parts. AreBuckets part_of 32 parts.items) }
     ensures none { IfOk result (λ parts. entries_among parts.items ≡ []) }
@@ -116,18 +115,18 @@ fn new_parts(alloc: Global) -> Result<Vec<Part>, NoMemory>
     Ok(parts)
 }
 
-// Puts an item at a key, in the key's part.
-fn insert_in(parts: &mut Vec<Part>, key: Hashed, item: Item) -> Result<Option<Item>, (Hashed, Item)>
+// Puts the place of a key's item, in the key's part.
+fn insert_in(parts: &mut Vec<Part>, key: &Sought<'_>, place: u32) -> Result<Option<u32>, NoMemory>
     requires parts { AreBuckets part_of 32 parts.old.items }
     requires all { length parts.old.items ≡ 32 }
-    ensures old { IfOk result (λ old. old ≡ item_in (entries_among parts.old.items) key) }
+    ensures old { IfOk result (λ old. old ≡ place_in (entries_among parts.old.items) key.now) }
     ensures parts { AreBuckets part_of 32 parts.new.items }
-    ensures ok { OnOk result (IsWith (entries_among parts.old.items) key (Some item) (entries_among parts.new.items)) }
+    ensures ok { OnOk result (IsWith (entries_among parts.old.items) key.now (Some place) (entries_among parts.new.items)) }
     ensures err { OnErr result (entries_among parts.new.items ≡ entries_among parts.old.items) }
-    ensures back { IfErr result (λ back. back ≡ (key, item)) }
+    ensures absent { OnErr result (place_in (entries_among parts.old.items) key.now ≡ None) }
 {
-    match parts[key.part()].insert(key, item) {
+    match parts[key.part()].insert(key, place) {
         Ok(before) => Ok(before),
-        Err(back) => Err(back),
+        Err(refused) => Err(refused),
     }
 }

@@ -5,7 +5,7 @@ use Rattle.mc_shard.proofs.bucket.Bucket.get.Goals as goal
 pub returns-in-Some : goal.returns-in-Some
 returns-in-Some c =
     rw (← c.self.view_is) (record {
-      value = sym (item_before c.self.inside.row c.self.inside.parts c.args.key.now c.in-Some.item.now (sym c.in-Some.ensures.value));
+      value = sym (item_before c.self.inside.row c.self.inside.parts c.args.key.now c.in-Some.place (sym c.in-Some.ensures.value));
     })
 
 pub returns-in-None : goal.returns-in-None

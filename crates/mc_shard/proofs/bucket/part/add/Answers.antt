@@ -5,8 +5,8 @@ use Rattle.mc_shard.proofs.bucket.part.add.Goals as goal
 
 pub returns-then-is_empty-clause-ok : goal.returns-then-is_empty-clause-ok
 returns-then-is_empty-clause-ok c =
-    rw (c.in_ok-push.ensures.ok) (row_longer c.args.row.now c.args.tree.now.entries c.args.key c.args.item c.requires.none)
+    rw (c.in_ok-push.ensures.ok) (row_longer c.args.row.now c.args.tree.now.entries c.args.key.now c.args.place c.requires.none)
 
-pub returns-in-Ok-clause-ok : goal.returns-in-Ok-clause-ok
-returns-in-Ok-clause-ok c = λ q.
-    c.move_to_tree.ensures.same q ∙ tree_changed c.args.row.now c.args.tree.now.entries c.insert.new.self.entries c.args.key (Some c.args.item) c.requires.none c.in-Ok.ensures.updates.0 q
+pub returns-clause-ok : goal.returns-clause-ok
+returns-clause-ok c = λ q.
+    c.move_to_tree.ensures.same q ∙ tree_changed c.args.row.now c.args.tree.now.entries c.put_in_tree.new.tree.entries c.args.key.now (Some c.args.place) c.requires.none c.in_ok-before.ensures.ok q

@@ -7,5 +7,5 @@ pub invariant_of-self : goal.invariant_of-self
 invariant_of-self c =
     let row = c.self.inside.entries.items in
     let room : length row < 16 = subst (λ (entries : Keyed). length entries < 16) (sym c.self.view_is) c.requires.room in
-    rw (c.in-Ok.ensures.items, c.fingerprint-fingerprint.ensures.value, c.len-at.ensures, c.self.inside.entries.ok.0)
-    (prints_pushed c.self.inside.fingerprints row (c.args.key, c.args.item) c.self.invariant (omega (arith, room, c.self.told)))
+    rw (c.in-Ok.ensures.items, c.fingerprint-fingerprint.ensures.value, c.len-at.ensures, c.self.inside.entries.ok.0, c.in_ok-key.ensures.value)
+    (prints_pushed c.self.inside.fingerprints row (c.args.key.now, c.args.place) c.self.invariant (omega (arith, room, c.self.told)))

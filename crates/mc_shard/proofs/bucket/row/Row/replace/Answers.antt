@@ -23,4 +23,4 @@ returns-clause-old c =
 pub returns-clause-value : goal.returns-clause-value
 returns-clause-value c =
     rw (← c.self.view_is, c.replace.ensures.after) (λ key first.
-    item_put c.self.inside.entries.items key c.args.at c.index_mut.result.now c.args.item first (there c))
+    item_put c.self.inside.entries.items key c.args.at c.index_mut.result.now c.args.place first (there c))

@@ -1,5 +1,0 @@
-use Rattle.mc_shard.proofs.SoundLemmas.{state_by}
-use Rattle.mc_shard.proofs.shard.Shard.make.Goals as goal
-
-pub returns-in-Ok-clause-state : goal.returns-in-Ok-clause-state
-returns-in-Ok-clause-state c = state_by c.args.self.now c.make_shared.new.self c.args.tag c.args.call c.shared.new.call c.make_shared.result c.make_shared.ensures.ok c.shared.ensures.call
