@@ -6,7 +6,8 @@ ghost use Rattle.mc_store.specs.Pass.{passed, rooted};
 ghost use Rattle.mc_store.specs.View.{untraced};
 
 use crate::judging::{judge, no_memory};
-use mc_calls::{Call, Entry, Histories, Tag};
+use mc_calls::{Call, Entry, Tag};
+use mc_history::{Histories, History};
 use mc_store::{Pass, Root, StoreTable};
 use std::alloc::Global;
 use std::process::Abort;
@@ -128,11 +129,12 @@ fn serve_two<R: Threads + Wait + Abort + Sync>(
 }
 
 // Checks whether all calls of both connections are in the history, each connection's in its order.
-fn are_in_order(history: &[Entry]) -> bool {
+fn are_in_order(history: &History) -> bool {
     let mut next = [0u64; 2];
-    for entry in history {
-        match next.get_mut(entry.tag.conn as usize) {
-            Some(index) if *index == entry.tag.index => *index = index.wrapping_add(1),
+    for at in 0..history.len() {
+        let tag = history.entry(at).tag();
+        match next.get_mut(tag.conn as usize) {
+            Some(index) if *index == tag.index => *index = index.wrapping_add(1),
             _ => return false,
         }
     }

@@ -4,12 +4,12 @@ ghost use Rattle.std.specs.Slots.{slots_items, slots_len, IsFull};
 ghost use Rattle.mc_store.specs.Closing.{history_in};
 
 use atomic_table::Closed;
-use mc_calls::Entries;
+use mc_history::History;
 use mc_shard::Shard;
 use std::alloc::Global;
 
 // Returns the history of each shard, in their order. The lists have room for all.
-pub(crate) fn drain(mut closed: Closed<Shard, Global>, mut lists: Vec<Entries>) -> Vec<Entries>
+pub(crate) fn drain(mut closed: Closed<Shard, Global>, mut lists: Vec<History>) -> Vec<History>
     requires full { IsFull closed.slots }
     requires room { slots_len closed.slots ≤ vec_capacity lists }
     requires empty { lists.items ≡ [] }
