@@ -1,11 +1,10 @@
 -- Where the items of a shard are among those that were ever stored. No public clause cites this module.
-use Rattle.std.specs.Prelude.{◌≡◌, ℕ, ◌<◌, ◌+◌, List, [], ◌++◌, ◌∷◌, length, map, Option, None, Some, IfSome, Bool, true, false}
+use Rattle.std.specs.Prelude.{◌≡◌, ℕ, ◌<◌, ◌+◌, List, [], ◌++◌, ◌∷◌, length, map, Option, None, Some, IfSome}
 use Rattle.mc_calls.specs.declared.item.Item.{Item}
 use Rattle.mc_calls.specs.declared.call_reply.CallReply.{CallReply}
 use Rattle.mc_calls.specs.declared.call_reply.CallReply.TheVariants.{Hit, Miss}
 use Rattle.mc_calls.specs.declared.entry.Tag.{Tag}
 use Rattle.mc_calls.specs.declared.tallied.Tallied.{Tallied}
-use Rattle.mc_calls.specs.Counted.{CallCounts}
 use Rattle.mc_calls.specs.Shard.{Items, State}
 use Rattle.mc_stats.specs.declared.counts.Counts.{Counts}
 use Rattle.mc_stats.specs.Counts.{no_counts, with_get, with_set}

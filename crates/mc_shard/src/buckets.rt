@@ -128,7 +128,8 @@ fn insert_in(
     requires all { length buckets.old.items ≡ 256 }
     ensures old { IfOk result (λ old. old ≡ place_in (entries_among buckets.old.items) key.now) }
     ensures buckets { AreBuckets bucket_of 256 buckets.new.items }
-    ensures ok { OnOk result (IsWith (entries_among buckets.old.items) key.now (Some place) (entries_among buckets.new.items)) }
+    ensures ok { OnOk result
+        (IsWith (entries_among buckets.old.items) key.now (Some place) (entries_among buckets.new.items)) }
     ensures err { OnErr result (entries_among buckets.new.items ≡ entries_among buckets.old.items) }
     ensures absent { OnErr result (place_in (entries_among buckets.old.items) key.now ≡ None) }
 {

@@ -121,7 +121,8 @@ fn insert_in(parts: &mut Vec<Part>, key: &Sought<'_>, place: u32) -> Result<Opti
     requires all { length parts.old.items ≡ 32 }
     ensures old { IfOk result (λ old. old ≡ place_in (entries_among parts.old.items) key.now) }
     ensures parts { AreBuckets part_of 32 parts.new.items }
-    ensures ok { OnOk result (IsWith (entries_among parts.old.items) key.now (Some place) (entries_among parts.new.items)) }
+    ensures ok { OnOk result
+        (IsWith (entries_among parts.old.items) key.now (Some place) (entries_among parts.new.items)) }
     ensures err { OnErr result (entries_among parts.new.items ≡ entries_among parts.old.items) }
     ensures absent { OnErr result (place_in (entries_among parts.old.items) key.now ≡ None) }
 {
