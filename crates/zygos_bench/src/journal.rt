@@ -7,7 +7,7 @@ mod reading;
 use crate::clock::nanos;
 use crate::counting::Counting;
 use crate::done::Done;
-use making::{histories, history};
+use making::{histories, list};
 use mc_calls::Holds;
 use std::alloc::Global;
 use std::io::Read;
@@ -83,7 +83,7 @@ fn walked(journal: &Journal) -> u64 {
 fn writing<R: CpuClock>(rt: &R, alloc: Global, entries: u64) -> Result<Done, NoMemory>
     requires few { entries ≤ 2 ^ 32 }
 {
-    let journal = Journal::new(history(alloc, 0, entries)?, Holds::new(alloc));
+    let journal = Journal::new(list(alloc, 0, entries)?, Holds::new(alloc));
     let before = nanos(rt);
     let mut sink = Counting {
         bytes: 0,
