@@ -1,15 +1,24 @@
 -- What the next command keeps as it begins, for values that are given by equations.
-use Rattle.std.proofs.Common.{◌≡◌, ◌≢◌, ◌⊎◌, inl, inr, ℕ, ◌+◌, ◌<◌, ◌≤◌, ◌^◌, List, [], ◌∷◌, ◌++◌, length, Some, Result, Ok, Err, IfOk, slice_get, refl, sym, ap, ◌∙◌, subst, arith}
+use Rattle.std.proofs.Common.{◌≡◌, ◌≢◌, ◌⊎◌, inl, inr, ℕ, Bool, ◌+◌, ◌<◌, ◌≤◌, ◌^◌, List, [], ◌∷◌, ◌++◌, length, Some, Result, Ok, Err, IfOk, slice_get, refl, sym, ap, ◌∙◌, subst, arith}
 use Rattle.std.specs.Prelude.{OnErr}
 use Rattle.std.proofs.lemmas.List.{length-map}
+use Rattle.mc_calls.specs.declared.call.Call.{Call}
+use Rattle.mc_calls.specs.declared.call.Call.TheVariants.{Set as SetCall}
 use Rattle.mc_calls.specs.declared.call_reply.CallReply.{CallReply}
+use Rattle.mc_calls.specs.declared.entry.Entry.{Entry}
+use Rattle.mc_calls.specs.declared.entry.Tag.{Tag}
+use Rattle.mc_calls.specs.Kind.{MayAnswer}
 use Rattle.mc_parse.specs.declared.command.Command.{Command}
+use Rattle.mc_parse.specs.declared.command.Command.TheVariants.{Store}
+use Rattle.mc_parse.specs.declared.verb.Verb.TheVariants.{Set}
+use Rattle.mc_parse.specs.OneSet.{IsSetBy}
+use Rattle.mc_reply.specs.Text.{text}
 use Rattle.mc_parse.specs.declared.shard_call.ShardCall.{ShardCall}
-use Rattle.mc_parse.specs.Calls.{calls_of}
+use Rattle.mc_parse.specs.Calls.{calls_of, tag_of}
 use Rattle.mc_store.specs.Call.{WasBusy}
 use Rattle.mc_store.specs.Pass.{Passed}
 use Rattle.zy_base.specs.declared.outside.NoMemory.{NoMemory}
-use Rattle.zy_calls.specs.Batch.{Batch}
+use Rattle.zy_calls.specs.Batch.{Batch, with_text, with_finished}
 use Rattle.zy_frame.specs.Frame.{command_of}
 use Rattle.zy_frame.specs.declared.frame_kind.FrameKind.{FrameKind}
 use Rattle.zy_rx.specs.Ring.{RingName}
@@ -21,7 +30,7 @@ use Rattle.zy_conn.specs.declared.work.direct.Begins.{Begins}
 use Rattle.zy_conn.specs.declared.work.direct.Begins.TheVariants.{Going, Finished, Stopped}
 use Rattle.zy_conn.specs.Work.{Started, no_frame, frame_alone, command_read, Start, idle, raw, going, start_of, Worked, work_of_pass, mark_of}
 use Rattle.zy_conn.specs.Kept.{KeepsCommands}
-use Rattle.zy_conn.specs.Step.{SamePass, StepsOn, StopsBy, Makes}
+use Rattle.zy_conn.specs.Step.{IsMadeAsPart, SamePass, StepsOn, StopsBy, Makes}
 use Rattle.zy_conn.specs.Direct.{IsMadeAlone, IsUnmade, finished_with, IsRead, IsTried, StartsTo, BeginsTo}
 use Rattle.zy_conn.proofs.KeptLemmas.{kept_looks, finished_idle, kept_finishes}
 use Rattle.zy_conn.proofs.StepLemmas.{IsMade, is_made, kept_begins_as, kept_reads_as, goes_begins_as}
@@ -179,3 +188,29 @@ module _ (p q : Passed) (r r' : RingName) (taken taken' known known' : List Fram
         by : StartsTo p.table.slots frame p batch q begun' replies' batch' result → IsBegun first last result
         by (inl read) = read_begun result read
         by (inr tried) = tried_begun result tried
+
+-- ---- a `set`
+
+-- the entry of a call on its shard
+abbrev pub entry_with : Tag → ShardCall → CallReply → ℕ → Entry
+entry_with tag asked reply stamp = record { tag = tag; shard = asked.shard; call = asked.call; reply = reply; stamp = stamp }
+
+-- it is that of this part of a command, by its tag
+pub part_with : (connection index part : ℕ) (tag : Tag) (asked : ShardCall) (reply : CallReply) (stamp : ℕ) → tag ≡ tag_of connection index part → MayAnswer asked.call reply
+    → IsMadeAsPart connection index part asked (entry_with tag asked reply stamp)
+part_with connection index part tag asked reply stamp is may = record { due = rw is refl; kind = may }
+
+-- the text of a `set`, whatever reply its call may get
+pub set_said : (said : List ℕ) (shards : ℕ) (command : Command) (next : ShardCall) (quiet : Bool) (reply : CallReply)
+    → ((key value : List ℕ) (flags : ℕ) (reply : CallReply) → MayAnswer (SetCall key flags value) reply → said ≡ text (Store Set key flags value quiet) (reply ∷ []))
+    → IsSetBy shards command next quiet → MayAnswer next.call reply → said ≡ text command (reply ∷ [])
+set_said said shards command next quiet reply says is may =
+    says is.key is.value is.flags reply (subst (λ (c : Call). MayAnswer c reply) (ap (λ (n : ShardCall). n.call) is.next_is) may)
+    ∙ ap (λ (c : Command). text c (reply ∷ [])) (sym is.command_is)
+
+-- the batch with the text of a finished command
+pub finished_as : (batch sent batch' : Batch) (said : List ℕ) (count : ℕ) (command : Command) (got : List CallReply) → said ≡ text command got → sent ≡ with_text batch said → count ≡ batch.finished
+    → batch' ≡ with_finished sent (count + 1) → batch' ≡ finished_with batch command got
+finished_as batch sent batch' said count command got same is at more =
+    more ∙ ap (λ (b : Batch). with_finished b (count + 1)) is ∙ ap (λ n. with_finished (with_text batch said) (n + 1)) at
+    ∙ ap (λ (t : List ℕ). with_finished (with_text batch t) (batch.finished + 1)) same

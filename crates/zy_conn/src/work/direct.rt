@@ -1,8 +1,12 @@
-//! A retrieval of one key, which is executed without its command.
-ghost use Rattle.std.specs.Prelude.{◌≡◌, ◌<◌, ◌^◌, [], ◌∷◌, length, vec_len, vec_capacity};
+//! A retrieval of one key or a `set`, which is executed without its command.
+ghost use Rattle.std.specs.Prelude.{◌≡◌, ℕ, ◌<◌, ◌^◌, List, [], ◌∷◌, length, vec_len, vec_capacity};
+ghost use Rattle.mc_calls.specs.declared.call_reply.CallReply.{CallReply};
+ghost use Rattle.mc_parse.specs.declared.command.Command.{Command};
 ghost use Rattle.mc_parse.specs.declared.command.Command.TheVariants.{Get};
-ghost use Rattle.mc_parse.specs.Calls.{get_at};
-ghost use Rattle.zy_conn.specs.Work.{no_frame};
+ghost use Rattle.mc_parse.specs.Calls.{get_at, IsOnShard};
+ghost use Rattle.mc_parse.specs.OneSet.{set_command, IsSetBy};
+ghost use Rattle.zy_calls.specs.Batch.{Batch as Sent, with_text};
+ghost use Rattle.zy_conn.specs.Work.{no_frame, command_read};
 ghost use Rattle.zy_conn.specs.Step.{SamePass};
 ghost use Rattle.zy_conn.specs.Direct.{IsBegunBy, ReadsTo, TriesTo, StartsTo};
 
@@ -10,13 +14,14 @@ use crate::answer::OneAnswer;
 use crate::begun::Begun;
 use crate::calling::{Made, make_get};
 use crate::hold_end::HoldEnd;
-use mc_calls::CallReply;
-use mc_parse::OneKey;
-use mc_store::{Pass, StoreTable};
+use mc_calls::{Call, CallReply, Tag};
+use mc_parse::{OneKey, OneSet, ShardCall, set_command};
+use mc_reply::set_text;
+use mc_store::{Pass, StoreTable, Tried};
 use std::alloc::Global;
 use zy_base::{Blob, COMMAND_LIMIT, NoMemory};
 use zy_calls::Batch;
-use zy_frame::{Frame, one_key_of};
+use zy_frame::{Frame, one_key_of, one_set_of};
 
 /// How the next command was begun.
 #[derive(Drop)]
@@ -25,12 +30,12 @@ pub(crate) enum Begins {
     Going,
     /// It was executed, and is finished.
     Finished,
-    /// It was not, or its call was not made.
+    /// It was not begun, or its call was not made.
     Stopped(HoldEnd),
 }
 
-/// Begins the command of a frame, when nothing is begun. A retrieval of one key is executed and
-/// finished, if its call is made; any other command is read. May answer `NoMemory`.
+/// Begins the command of a frame, when nothing is begun. A retrieval of one key or a `set` is
+/// executed and finished, if its call is made; any other command is read. May answer `NoMemory`.
 pub(super) fn start(
     alloc: Global,
     frame: Frame,
@@ -50,7 +55,7 @@ pub(super) fn start(
 {
     let one = match one_key_of(&frame) {
         Ok(Some(one)) => one,
-        _ => return read(alloc, frame, begun),
+        _ => return start_other(alloc, frame, store, pass, begun, batch),
     };
     if pass.count() >= COMMAND_LIMIT {
         drop(one);
@@ -66,6 +71,101 @@ pub(super) fn start(
             read(alloc, frame, begun)
         }
     }
+}
+
+// Begins the command of a frame, when nothing is begun. A `set` is executed and finished, if its
+// call is made; any other command is read.
+fn start_other(
+    alloc: Global,
+    frame: Frame,
+    store: &StoreTable,
+    pass: &mut Pass,
+    begun: &mut Begun,
+    batch: &mut Batch,
+) -> Result<Begins, NoMemory>
+    requires table { pass.old.table ≡ store.now.id }
+    requires none { begun.old ≡ no_frame }
+    requires few { batch.old.finished < 2 ^ 40 }
+    ensures pass { SamePass pass.old pass.new }
+    ensures to { (replies : List CallReply) → replies ≡ [] → StartsTo store.now.shards frame pass.old batch.old
+        pass.new begun.new replies batch.new result }
+{
+    if pass.count() >= COMMAND_LIMIT {
+        return read(alloc, frame, begun);
+    }
+    match one_set_of(frame, store.shards()) {
+        Ok(one) => set(one, store, pass, begun, batch),
+        Err((frame, _)) => read(alloc, frame, begun),
+    }
+}
+
+// Executes a `set`, and finishes it, if its call is made. Otherwise its command is made. The text is
+// appended before the call, since nothing may fail after it, and taken back if it is not made.
+fn set(
+    one: OneSet,
+    store: &StoreTable,
+    pass: &mut Pass,
+    begun: &mut Begun,
+    batch: &mut Batch,
+) -> Result<Begins, NoMemory>
+    requires table { pass.old.table ≡ store.now.id }
+    requires within { IsOnShard store.now.shards one.next }
+    requires calls { length pass.old.calls < 2 ^ 40 }
+    requires none { begun.old ≡ no_frame }
+    requires few { batch.old.finished < 2 ^ 40 }
+    ensures pass { SamePass pass.old pass.new }
+    ensures begun { IsBegunBy result (set_command one.next.call one.quiet) begun.new }
+    ensures to { (shards : ℕ) (command : Command) → IsSetBy shards command one.next one.quiet → TriesTo command one.next
+        pass.old batch.old pass.new [] batch.new result }
+{
+    let finished = batch.finished();
+    let OneSet { next, quiet } = one;
+    let ShardCall { shard, call } = next;
+    if let Err(e) = batch.send_copy(set_text(quiet)) {
+        begun.begin(set_command(call, quiet));
+        return Err(e);
+    }
+    let tag = Tag {
+        conn: pass.conn(),
+        index: finished,
+        part: 0,
+    };
+    match store.make_call(pass, tag, shard, call) {
+        Ok(Tried::Made { reply, stamp: _ }) => {
+            drop(reply);
+            batch.set_finished(finished + 1);
+            Ok(Begins::Finished)
+        }
+        Ok(
+            Tried::Busy {
+                call,
+                shard,
+                loaded,
+                found,
+            },
+        ) => {
+            come_back(call, quiet, begun, batch);
+            Ok(Begins::Stopped(HoldEnd::Busy {
+                shard,
+                loaded,
+                found,
+            }))
+        }
+        Err((call, e)) => {
+            come_back(call, quiet, begun, batch);
+            Err(e)
+        }
+    }
+}
+
+// Takes the text of a `set` back, and begins the command of its call, which was not made.
+fn come_back(call: Call, quiet: bool, begun: &mut Begun, batch: &mut Batch)
+    requires none { begun.old ≡ no_frame }
+    ensures begun { begun.new ≡ command_read (set_command call quiet) }
+    ensures batch { (before : Sent) (text : List ℕ) → batch.old ≡ with_text before text → batch.new ≡ before }
+{
+    batch.take_back();
+    begun.begin(set_command(call, quiet));
 }
 
 // Reads the command of a frame.

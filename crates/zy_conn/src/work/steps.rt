@@ -21,7 +21,7 @@ use zy_calls::Batch;
 
 impl Work {
     /// Begins the next command if none is in progress, or says why it did not. It passes the gate. A
-    /// retrieval of one key is finished, if its call is made.
+    /// retrieval of one key or a `set` is finished, if its call is made.
     pub(crate) fn begin<G: Gate>(
         &mut self,
         store: &StoreTable,
