@@ -1,26 +1,30 @@
 //! Looking for an order of all calls.
 
 use crate::at_key::AtKey;
-use crate::deciding::First;
 use crate::learned::Learned;
-use crate::links::links_of;
 use crate::order::{Began, Found, Rules};
 use crate::pass::{Given, Pass};
-use crate::settling::{Settled, settle};
-use crate::small::small;
+use crate::settling::settle;
 use mc_calls::Item;
 use std::alloc::Global;
 use std::collections::BTreeSet;
 use zy_base::{Blob, NoMemory};
 use zy_refute::Observed;
+use zy_search::FirstItem;
+use zy_sources::links_of;
 use zy_verdict::Order;
 
-// How often all calls are gone through.
+// How often all calls are made.
 const ROUNDS: usize = 12;
 
+// How many calls are looked at in a search, for each call that is recorded, and besides.
+const MOST_LOOKED: usize = 256;
+
+const SOME_LOOKED: usize = 1 << 20;
+
 /// Looks for an order of the calls of a recording. The calls of each session stand together, in their
-/// order. The items of the keys in `lasting` may be lost whatever the rules say. At most `most` steps
-/// are taken at a key for each of its calls. May answer `NoMemory`.
+/// order. The items of the keys in `lasting` may be lost whatever the rules say. At most `most` calls
+/// are looked at around a failure for each of these. May answer `NoMemory`.
 pub fn find(
     alloc: Global,
     rules: Rules,
@@ -28,8 +32,9 @@ pub fn find(
     observed: &[Observed],
     most: usize,
 ) -> Result<Found, NoMemory> {
-    let links = links_of(alloc, rules, observed)?;
+    let links = links_of(alloc, rules.warm, rules.forget, observed)?;
     let mut learned = Learned::new(alloc, observed.len())?;
+    let mut left = SOME_LOOKED.saturating_add(observed.len().saturating_mul(MOST_LOOKED));
     let mut found = Found::Nothing {
         calls: Vec::new(alloc),
     };
@@ -45,22 +50,12 @@ pub fn find(
             drop(std::mem::replace(&mut found, pass.into_found(given)?));
             break;
         }
-        let settled = settle(alloc, given, &pass, most)?;
+        let settled = settle(alloc, given, &pass, most, left)?;
         drop(pass);
-        let Settled {
-            pieces,
-            amiss,
-            tried,
-        } = settled;
-        for call in &tried {
-            learned.fail(small(*call));
-        }
-        for piece in &pieces {
-            learned.learn(observed, piece);
-        }
-        let ends = pieces.is_empty() || !amiss.is_empty();
-        drop(pieces);
-        let calls = if ends { amiss } else { tried };
+        left = settled.left;
+        let ends = settled.ends();
+        learned.learn_all(observed, &settled);
+        let calls = settled.into_calls();
         drop(std::mem::replace(&mut found, Found::Nothing { calls }));
         if ends {
             break;
@@ -83,10 +78,10 @@ impl Pass {
             order,
             made,
             wanted,
-            now: _,
-            unique: last,
+            unique,
             shown,
             failures,
+            ..
         } = self;
         drop(failures);
         drop(progress);
@@ -95,42 +90,62 @@ impl Pass {
         drop(made);
         drop(wanted);
         drop(shown);
-        let mut unique = last;
-        let mut began = Vec::new(alloc);
-        for own in keys {
-            let AtKey {
-                held,
-                others,
-                call,
-                first,
-                unique: shown,
-                ..
-            } = own;
-            drop(held);
-            drop(others);
-            let key = given
-                .observed
-                .get(call as usize)
-                .and_then(|one| one.call.key());
-            match (first, key) {
-                (Some(First { flags, value }), Some(key)) => {
-                    unique = unique.saturating_add(1);
-                    let item = Item {
-                        flags,
-                        unique: shown.unwrap_or(unique),
-                        value,
-                    };
-                    began.push(Began {
-                        key: key.copy()?,
-                        item,
-                    })?;
-                }
-                (first, _) => drop(first),
-            }
-        }
+        let began = began_of(alloc, keys, given, unique)?;
         Ok(Found::Ordered {
             order: Order::from_vec(order),
             began,
         })
+    }
+}
+
+// The items that the store begins with; those whose uniques no answer showed have others.
+fn began_of(
+    alloc: Global,
+    keys: Vec<AtKey>,
+    given: Given<'_>,
+    last: u64,
+) -> Result<Vec<Began>, NoMemory> {
+    let mut unique = last;
+    let mut began = Vec::new(alloc);
+    for own in keys {
+        unique = unique.saturating_add(1);
+        if let Some(one) = own.into_began(given, unique)? {
+            began.push(one)?;
+        }
+    }
+    Ok(began)
+}
+
+impl AtKey {
+    // The item that was there at first, if there was one; it has this unique if no answer showed its own.
+    fn into_began(self, given: Given<'_>, last: u64) -> Result<Option<Began>, NoMemory> {
+        let key = match given.get(self.call) {
+            Some(one) => one.call.key(),
+            None => None,
+        };
+        let AtKey {
+            held,
+            others,
+            first,
+            unique,
+            ..
+        } = self;
+        drop(held);
+        drop(others);
+        match (first, key) {
+            (Some(FirstItem { flags, value }), Some(key)) => {
+                let item = Item {
+                    flags,
+                    unique: unique.unwrap_or(last),
+                    value,
+                };
+                let key = key.copy()?;
+                Ok(Some(Began { key, item }))
+            }
+            (first, _) => {
+                drop(first);
+                Ok(None)
+            }
+        }
     }
 }

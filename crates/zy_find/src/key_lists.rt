@@ -1,11 +1,10 @@
 //! The calls of the keys at which a pass failed.
 
 use crate::pass::{Given, Pass};
-use crate::sessions::end_of;
-use crate::small::{NONE, at, put, small};
 use mc_calls::Call;
 use std::alloc::Global;
 use zy_base::NoMemory;
+use zy_sources::{NONE, at, end_of, put, small};
 
 /// The calls of a key.
 #[derive(Drop)]
@@ -104,7 +103,7 @@ impl KeyLists {
         call: u32,
         made: Option<usize>,
     ) -> Result<(), NoMemory> {
-        let key = at(given.links.keys.of.as_slice(), call);
+        let key = given.key_of(call);
         if key != NONE {
             let place = at(self.places.as_slice(), key);
             if let Some(list) = self.lists.get_mut(place as usize) {

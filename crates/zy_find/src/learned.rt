@@ -1,18 +1,17 @@
 //! What was learned from passes that failed.
 
-use crate::effects::changes;
-use crate::settling::Piece;
-use crate::small::{NONE, at, put, small};
+use crate::settling::{Piece, Settled};
 use std::alloc::Global;
 use zy_base::NoMemory;
 use zy_refute::Observed;
+use zy_sources::{NONE, at, changes, put, small};
 
 /// What was learned from passes that failed: which calls come before which, and how often a call failed.
 #[derive(Drop)]
 pub(crate) struct Learned {
     /// The change that comes before a call at its key, or `NONE`.
     after: Vec<u32>,
-    /// The change that comes behind a call that changes nothing, or `NONE`.
+    /// The change that comes after a call that changes nothing, or `NONE`.
     until: Vec<u32>,
     /// How often a call failed.
     failed: Vec<u32>,
@@ -46,15 +45,25 @@ impl Learned {
         }
     }
 
+    // Learns what was settled.
+    pub(crate) fn learn_all(&mut self, observed: &[Observed], settled: &Settled) {
+        for call in &settled.tried {
+            self.fail(small(*call));
+        }
+        for piece in &settled.pieces {
+            self.learn(observed, piece);
+        }
+    }
+
     // A call failed.
-    pub(crate) fn fail(&mut self, call: u32) {
+    fn fail(&mut self, call: u32) {
         if let Some(failed) = self.failed.get_mut(call as usize) {
             *failed = failed.saturating_add(1);
         }
     }
 
     // Learns a piece of the order at a key.
-    pub(crate) fn learn(&mut self, observed: &[Observed], piece: &Piece) {
+    fn learn(&mut self, observed: &[Observed], piece: &Piece) {
         let mut last = piece.last;
         for call in &piece.calls {
             put(self.after.as_mut_slice(), *call, last);

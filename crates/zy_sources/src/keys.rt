@@ -9,15 +9,15 @@ use zy_refute::Observed;
 
 /// The keys of calls, by numbers from 0.
 #[derive(Drop)]
-pub(crate) struct Keys {
+pub struct Keys {
     /// The key of each call, or `NONE`.
-    pub(crate) of: Vec<u32>,
+    pub of: Vec<u32>,
     /// The first call at each key.
-    pub(crate) first: Vec<u32>,
+    pub first: Vec<u32>,
 }
 
 /// Numbers the keys.
-pub(crate) fn keys_of(alloc: Global, observed: &[Observed]) -> Result<Keys, NoMemory> {
+pub fn keys_of(alloc: Global, observed: &[Observed]) -> Result<Keys, NoMemory> {
     let mut of = Vec::with_capacity(alloc, observed.len())?;
     let mut first = Vec::new(alloc);
     let mut numbers = Table::new(alloc)?;

@@ -12,6 +12,9 @@ use std::alloc::Global;
 use zy_base::NoMemory;
 use zy_refute::Observed;
 
+// No call: several made items with a unique.
+const SEVERAL: u32 = NONE - 1;
+
 // How many calls that made the same are looked at for each that found it.
 const MOST: usize = 64;
 
@@ -68,7 +71,7 @@ pub(crate) fn sources_of(alloc: Global, looked: Looked<'_>) -> Result<Vec<u32>, 
         if source != NONE {
             put(sources.as_mut_slice(), *call, source);
             if let Some(unique) = one.unique {
-                uniques.put(unique_hash(at(looked.keys, *call), unique), source)?;
+                name_source(&mut uniques, unique_hash(at(looked.keys, *call), unique), source)?;
             }
             makers.join_sources(looked, sources.as_mut_slice(), *call, one);
         }
@@ -77,6 +80,15 @@ pub(crate) fn sources_of(alloc: Global, looked: Looked<'_>) -> Result<Vec<u32>, 
     by_unique(looked, sources.as_mut_slice(), &uniques);
     drop(uniques);
     Ok(sources)
+}
+
+// Notes the call that made the item with a unique; two calls show that the unique does not tell.
+fn name_source(uniques: &mut Table, hash: u64, source: u32) -> Result<(), NoMemory> {
+    let known = uniques.get(hash);
+    uniques.put(
+        hash,
+        if known == NONE || known == source { source } else { SEVERAL },
+    )
 }
 
 // Finds sources by uniques.
@@ -89,6 +101,9 @@ fn by_unique(looked: Looked<'_>, sources: &mut [u32], uniques: &Table) {
                 Some(other) => other.sent < end_of(one),
                 None => false,
             };
+            if maker == SEVERAL {
+                continue;
+            }
             if found_another(one) || (early && maker != small(call)) {
                 put(sources, small(call), maker);
             }

@@ -3,52 +3,60 @@
 use crate::effects::found_another;
 use crate::floors::floors_of;
 use crate::keys::{Keys, keys_of};
-use crate::order::Rules;
 use crate::overs::{Overs, overs_of};
 use crate::reach::{Reached, dues, sinces, spans};
 use crate::sessions::{are_of_one_session, end_of};
-use crate::small::{NONE, at, small};
+use crate::small::{NONE, at, small, time_at};
 use crate::sources::{Looked, sources_of};
 use mc_calls::Call;
 use std::alloc::Global;
 use zy_base::NoMemory;
 use zy_refute::Observed;
 
-/// What is known of the calls before an order is looked for.
-#[derive(Drop)]
-pub(crate) struct Links {
-    pub(crate) keys: Keys,
-    /// The call that made what a call found (`sources_of`).
-    pub(crate) source: Vec<u32>,
-    /// Whether it is known that another call found what a call made.
-    pub(crate) seen: Vec<bool>,
-    /// The moment before which a call must be made.
-    pub(crate) due: Vec<u64>,
-    /// The moment before which a call cannot be made.
-    pub(crate) since: Vec<u64>,
-    /// The changes that must be made before a call: the first, and the one after each.
-    pub(crate) over: Vec<u32>,
-    pub(crate) more_over: Vec<u32>,
-    /// The last of those moments, of the calls that need what a call made.
-    pub(crate) span: Vec<u64>,
-    /// The sure calls, by their ends.
-    pub(crate) by_end: Vec<u32>,
-    /// All calls, by their sendings.
-    pub(crate) by_sent: Vec<u32>,
-    /// The flushes.
-    pub(crate) flushes: Vec<u32>,
+/// The calls of a recording, and what is known of them.
+#[derive(Clone, Copy)]
+pub struct Calls<'a> {
+    pub observed: &'a [Observed],
+    pub links: &'a Links,
 }
 
-/// Finds what is known of the calls.
-pub(crate) fn links_of(
+/// What is known of the calls before an order is looked for.
+#[derive(Drop)]
+pub struct Links {
+    pub keys: Keys,
+    /// The call that made what a call found (`sources_of`).
+    pub source: Vec<u32>,
+    /// Whether it is known that another call found what a call made.
+    pub seen: Vec<bool>,
+    /// The moment before which a call must be made.
+    pub due: Vec<u64>,
+    /// The moment before which a call cannot be made.
+    pub since: Vec<u64>,
+    /// The changes that must be made before a call: the first, and the one after each.
+    pub over: Vec<u32>,
+    pub more_over: Vec<u32>,
+    /// The last of those moments, of the calls that need what a call made.
+    pub span: Vec<u64>,
+    /// The sure calls, by their ends.
+    pub by_end: Vec<u32>,
+    /// All calls, by their sendings.
+    pub by_sent: Vec<u32>,
+    /// The flushes, by their sendings.
+    pub flushes: Vec<u32>,
+}
+
+/// Finds what is known of the calls. If `warm`, items may be there at first; if `forget`, they may be
+/// lost. May answer `NoMemory`.
+pub fn links_of(
     alloc: Global,
-    rules: Rules,
+    warm: bool,
+    forget: bool,
     observed: &[Observed],
 ) -> Result<Links, NoMemory> {
     let keys = keys_of(alloc, observed)?;
     let by_end = sorted(alloc, observed, By::End)?;
     let by_sent = sorted(alloc, observed, By::Sending)?;
-    let flushes = flushes_in(alloc, observed)?;
+    let flushes = flushes_in(alloc, observed, &by_sent)?;
     let count = keys.first.len();
     let floors = floors_of(alloc, observed, &keys.of, count, &by_end, &by_sent)?;
     let looked = Looked {
@@ -57,8 +65,8 @@ pub(crate) fn links_of(
         floors: &floors,
         by_end: &by_end,
         by_sent: &by_sent,
-        warm: rules.warm,
-        may_go: rules.forget || !flushes.is_empty(),
+        warm,
+        may_go: forget || !flushes.is_empty(),
     };
     let source = sources_of(alloc, looked)?;
     drop(floors);
@@ -100,18 +108,56 @@ fn seen_of(alloc: Global, observed: &[Observed], source: &[u32]) -> Result<Vec<b
     Ok(seen)
 }
 
-// The flushes.
-fn flushes_in(alloc: Global, observed: &[Observed]) -> Result<Vec<u32>, NoMemory> {
+// The flushes, by their sendings.
+fn flushes_in(
+    alloc: Global,
+    observed: &[Observed],
+    by_sent: &[u32],
+) -> Result<Vec<u32>, NoMemory> {
     let mut flushes = Vec::new(alloc);
-    for call in 0..observed.len() {
-        if matches!(observed[call].call, Call::Flush) {
-            flushes.push(small(call))?;
+    for call in by_sent {
+        if let Some(one) = observed.get(*call as usize)
+            && matches!(one.call, Call::Flush)
+        {
+            flushes.push(*call)?;
         }
     }
     Ok(flushes)
 }
 
-/// Returns the call before a call in its session, or `NONE`.
+impl<'a> Calls<'a> {
+    /// Returns a call.
+    pub fn get(self, call: u32) -> Option<&'a Observed> {
+        self.observed.get(call as usize)
+    }
+
+    /// Returns the number of a call's key, or `NONE`.
+    pub fn key_of(self, call: u32) -> u32 {
+        at(self.links.keys.of.as_slice(), call)
+    }
+
+    /// Returns the call before a call in its session, or `NONE`.
+    pub fn before(self, call: u32) -> u32 {
+        call_before(self.observed, call)
+    }
+
+    /// Returns the call that made what a call found, or `NONE`.
+    pub fn source_of(self, call: u32) -> u32 {
+        source_of(self.observed, self.links.source.as_slice(), call)
+    }
+
+    /// Returns the moment before which a call must be made.
+    pub fn due(self, call: u32) -> u64 {
+        time_at(self.links.due.as_slice(), call)
+    }
+
+    /// Returns the moment before which a call cannot be made.
+    pub fn since(self, call: u32) -> u64 {
+        time_at(self.links.since.as_slice(), call)
+    }
+}
+
+// The call before a call in its session, or `NONE`.
 pub(crate) fn call_before(observed: &[Observed], call: u32) -> u32 {
     let Some(before) = call.checked_sub(1) else {
         return NONE;
@@ -122,7 +168,7 @@ pub(crate) fn call_before(observed: &[Observed], call: u32) -> u32 {
     }
 }
 
-/// Returns the call that made what a call found, or `NONE`.
+// The call that made what a call found, or `NONE`.
 pub(crate) fn source_of(observed: &[Observed], source: &[u32], call: u32) -> u32 {
     match observed.get(call as usize) {
         Some(one) if !found_another(one) => at(source, call),

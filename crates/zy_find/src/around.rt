@@ -1,0 +1,207 @@
+//! The calls of a key around a failure.
+
+use crate::key_lists::KeyList;
+use crate::pass::{Failure, Given};
+use mc_calls::Call;
+use std::alloc::Global;
+use zy_base::NoMemory;
+use zy_search::{Held, Listed, decide, held_after, look_for};
+use zy_sources::{NONE, at, changes, small};
+
+// How many changes before a failure are ordered anew at first, and how many calls after it.
+const FIRST_CHANGES: usize = 8;
+
+const FIRST_AFTER: usize = 8;
+
+// The highest level.
+const LAST_LEVEL: u32 = 10;
+
+/// A failure, and the calls at its key.
+#[derive(Clone, Copy)]
+pub(crate) struct Open<'a> {
+    pub(crate) failure: Failure,
+    pub(crate) list: &'a KeyList,
+    pub(crate) warm: bool,
+    pub(crate) forget: bool,
+    pub(crate) ranks: &'a [u32],
+}
+
+/// The calls around a failure: those that were made before this offset stay, and those that are sent from
+/// this moment on do not count.
+#[derive(Clone, Copy)]
+pub(crate) struct Around {
+    from: usize,
+    /// The last call that stays.
+    pub(crate) last: u32,
+    pub(crate) until: u64,
+}
+
+// What a key has, and the call that made it.
+#[derive(Drop)]
+struct Begun {
+    held: Held,
+    maker: u32,
+}
+
+impl Around {
+    // The calls around a failure.
+    pub(crate) fn of(given: Given<'_>, open: Open<'_>, level: u32) -> Around {
+        let factor = factor_of(level);
+        let count = FIRST_CHANGES.saturating_mul(factor);
+        let made = open.list.made.as_slice();
+        let mut from = open.list.made_before(open.failure.made);
+        let mut found: usize = 0;
+        for _ in 0..made.len() {
+            let Some(before) = from.checked_sub(1) else {
+                break;
+            };
+            if is_change(given, at(made, small(before))) {
+                if found == count {
+                    break;
+                }
+                found = found.saturating_add(1);
+            }
+            from = before;
+        }
+        let last = match from.checked_sub(1) {
+            Some(before) => at(made, small(before)),
+            None => NONE,
+        };
+        let after = FIRST_AFTER.saturating_mul(factor);
+        let until = open.list.end_of(given, open.failure.call, after);
+        Around { from, last, until }
+    }
+
+    // Checks whether these are all calls at the key.
+    pub(crate) fn is_all(self) -> bool {
+        self.from == 0 && self.until == u64::MAX
+    }
+
+    // An order of these calls; takes the number of calls that it looked at from `left`.
+    pub(crate) fn order(
+        self,
+        alloc: Global,
+        given: Given<'_>,
+        open: Open<'_>,
+        most: usize,
+        left: &mut usize,
+    ) -> Result<Option<Vec<u32>>, NoMemory> {
+        let list = self.calls(alloc, given, open)?;
+        let Begun { held, maker } = self.begun(alloc, given, open)?;
+        let steps = list.len().saturating_mul(most);
+        let listed = Listed {
+            calls: given.calls(),
+            list: &list,
+            ranks: open.ranks,
+            forget: open.forget,
+            held: &held,
+            maker,
+            until: self.until,
+        };
+        let mut found = look_for(alloc, listed, true, steps, left)?;
+        if found.is_none() {
+            drop(std::mem::replace(&mut found, look_for(alloc, listed, false, steps, left)?));
+        }
+        drop(list);
+        drop(held);
+        Ok(found)
+    }
+
+    // These calls, by their sendings.
+    fn calls(self, alloc: Global, given: Given<'_>, open: Open<'_>) -> Result<Vec<u32>, NoMemory> {
+        let made = open.list.made.as_slice();
+        let least = match made.get(self.from) {
+            Some(call) if self.from < open.list.made_before(open.failure.made) => {
+                at(open.ranks, *call) as usize
+            }
+            _ => open.failure.made,
+        };
+        let mut calls = Vec::new(alloc);
+        for call in &open.list.sent {
+            let Some(one) = given.get(*call) else {
+                continue;
+            };
+            if self.until <= one.sent {
+                break;
+            }
+            if least <= at(open.ranks, *call) as usize {
+                calls.push(*call)?;
+            }
+        }
+        Ok(calls)
+    }
+
+    // What the key has before these calls.
+    fn begun(self, alloc: Global, given: Given<'_>, open: Open<'_>) -> Result<Begun, NoMemory> {
+        let made = open.list.made.as_slice();
+        let mut begun = Begun {
+            held: Held::at_first(open.warm),
+            maker: NONE,
+        };
+        for place in self.last_set(given, made)..self.from {
+            begun.add(alloc, given, open.forget, at(made, small(place)), place)?;
+        }
+        begun.held.set_before();
+        Ok(begun)
+    }
+
+    // The offset of the last set before these calls; 0 if there is none.
+    fn last_set(self, given: Given<'_>, made: &[u32]) -> usize {
+        let mut from = self.from;
+        for _ in 0..made.len() {
+            let Some(before) = from.checked_sub(1) else {
+                break;
+            };
+            from = before;
+            if let Some(one) = given.get(at(made, small(before)))
+                && let Call::Set { .. } = one.call
+            {
+                break;
+            }
+        }
+        from
+    }
+}
+
+impl Begun {
+    // Makes a call.
+    fn add(
+        &mut self,
+        alloc: Global,
+        given: Given<'_>,
+        forget: bool,
+        call: u32,
+        place: usize,
+    ) -> Result<(), NoMemory> {
+        let Some(one) = given.get(call) else {
+            return Ok(());
+        };
+        let Some(decided) = decide(self.held.sight(), one, true, forget) else {
+            return Ok(());
+        };
+        if !decided.keeps(self.held.sight()) {
+            self.maker = call;
+        }
+        if let Some(held) = held_after(alloc, self.held.sight(), one, decided, place)? {
+            drop(std::mem::replace(&mut self.held, held));
+        }
+        Ok(())
+    }
+}
+
+// How many times as many calls are tried at a level.
+fn factor_of(level: u32) -> usize {
+    let mut factor: usize = 1;
+    for _ in 0..level.min(LAST_LEVEL) {
+        factor = factor.saturating_mul(4);
+    }
+    factor
+}
+
+// Checks whether a call may change what its key has.
+fn is_change(given: Given<'_>, call: u32) -> bool {
+    match given.get(call) {
+        Some(one) => changes(one),
+        None => false,
+    }
+}

@@ -1,0 +1,23 @@
+//! Finds which call made what another one found, and between which moments calls can be made. Nothing is
+//! promised of it: it only leads a search for an order.
+#![tactic(auto)]
+
+mod effects;
+mod floors;
+mod hashing;
+mod keys;
+mod links;
+mod overs;
+mod reach;
+mod sessions;
+mod small;
+mod sources;
+mod table;
+
+pub use effects::{changes, expected, found_another};
+pub use hashing::{mixed, unique_hash};
+pub use keys::Keys;
+pub use links::{Calls, Links, links_of};
+pub use sessions::{are_of_one_session, end_of};
+pub use small::{NONE, at, put, small, time_at};
+pub use table::Table;
