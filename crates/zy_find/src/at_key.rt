@@ -1,11 +1,10 @@
 //! A key while calls are made.
 
 use std::alloc::Global;
-use std::collections::BTreeSet;
-use zy_base::{Blob, NoMemory};
+use zy_base::NoMemory;
 use zy_refute::Observed;
 use zy_search::{Decided, FirstItem, Held, first_item, held_after};
-use zy_sources::{NONE, expected, found_another, mixed, unique_hash};
+use zy_sources::{Keys, NONE, expected, found_another, mixed, unique_hash};
 
 /// A key while calls are made.
 #[derive(Drop)]
@@ -34,29 +33,29 @@ pub(crate) struct AtKey {
 pub(crate) fn keys_at_first(
     alloc: Global,
     warm: bool,
-    forget: bool,
-    lasting: &BTreeSet<Blob>,
     observed: &[Observed],
-    first: &[u32],
+    known: &Keys,
 ) -> Result<Vec<AtKey>, NoMemory> {
-    let mut keys = Vec::with_capacity(alloc, first.len())?;
-    for call in first {
-        let Some(one) = observed.get(*call as usize) else {
-            continue;
+    let mut keys = Vec::with_capacity(alloc, known.first.len())?;
+    for number in 0..known.first.len() {
+        let call = known.first[number];
+        let shard = match observed.get(call as usize) {
+            Some(one) => one.shard,
+            None => NONE,
         };
-        let lasts = match one.call.key() {
-            Some(key) => lasting.contains(key),
+        let forget = match known.forget.get(number) {
+            Some(forget) => *forget,
             None => false,
         };
         keys.push(AtKey {
-            call: *call,
+            call,
             held: Held::at_first(warm),
             maker: NONE,
             others: Vec::new(alloc),
             head: NONE,
             tail: NONE,
-            shard: one.shard,
-            forget: forget || lasts,
+            shard,
+            forget,
             losses: 0,
             first: None,
             unique: None,

@@ -28,10 +28,6 @@ impl Pass {
         let Some(one) = given.get(call) else {
             return Ok(Before::Nothing);
         };
-        let key = given.key_of(call);
-        if key == NONE {
-            return Ok(self.before_keyless(given, call, one));
-        }
         let source = given.source_of(call);
         if !self.is_made(source) {
             return Ok(self.must(given, source));
@@ -40,13 +36,17 @@ impl Pass {
         if !self.is_made(learned) {
             return Ok(self.must(given, learned));
         }
+        let key = given.key_of(call);
+        if key == NONE {
+            return self.before_keyless(given, call, one);
+        }
         if !changes(one) || (self.is_unseen(given, call, one) && self.is_idle(given, call, one)) {
             return Ok(Before::Nothing);
         }
         if let Some(hidden) = self.hidden(given, call) {
             return Ok(self.must(given, hidden));
         }
-        if let Some(reader) = self.reader(given, key, call) {
+        if let Some(reader) = self.reader(given, key, call)? {
             return Ok(Before::Call(reader));
         }
         if learned != NONE {
@@ -88,19 +88,19 @@ impl Pass {
         given: Given<'_>,
         call: u32,
         one: &Observed,
-    ) -> Before {
+    ) -> Result<Before, NoMemory> {
         if !matches!(one.call, Call::Flush) {
-            return Before::Nothing;
+            return Ok(Before::Nothing);
         }
         for key in 0..self.keys.len() {
             let own = &self.keys[key];
             if own.shard != one.shard {
                 continue;
             }
-            if let Some(reader) = self.reader(given, small(key), call) {
-                return Before::Call(reader);
+            if let Some(reader) = self.reader(given, small(key), call)? {
+                return Ok(Before::Call(reader));
             }
         }
-        Before::Nothing
+        Ok(Before::Nothing)
     }
 }

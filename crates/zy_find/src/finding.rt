@@ -18,13 +18,16 @@ use zy_verdict::Order;
 const ROUNDS: usize = 12;
 
 // How many calls are looked at in a search, for each call that is recorded, and besides.
-const MOST_LOOKED: usize = 256;
+const MOST_LOOKED: usize = 32;
 
-const SOME_LOOKED: usize = 1 << 20;
+const SOME_LOOKED: usize = 1 << 22;
+
+// How many calls are looked at for a step.
+const LOOKED_PER_STEP: usize = 8;
 
 /// Looks for an order of the calls of a recording. The calls of each session stand together, in their
-/// order. The items of the keys in `lasting` may be lost whatever the rules say. At most `most` calls
-/// are looked at around a failure for each of these. May answer `NoMemory`.
+/// order. The items of the keys in `lasting` may be lost whatever the rules say. At most `most` steps are
+/// taken at a key for each of its calls. May answer `NoMemory`.
 pub fn find(
     alloc: Global,
     rules: Rules,
@@ -32,25 +35,26 @@ pub fn find(
     observed: &[Observed],
     most: usize,
 ) -> Result<Found, NoMemory> {
-    let links = links_of(alloc, rules.warm, rules.forget, observed)?;
+    let links = links_of(alloc, rules.warm, rules.forget, lasting, observed)?;
     let mut learned = Learned::new(alloc, observed.len())?;
     let mut left = SOME_LOOKED.saturating_add(observed.len().saturating_mul(MOST_LOOKED));
     let mut found = Found::Nothing {
         calls: Vec::new(alloc),
     };
+    let steps = most.saturating_mul(LOOKED_PER_STEP);
     for _ in 0..ROUNDS {
         let given = Given {
             observed,
             links: &links,
             learned: &learned,
         };
-        let mut pass = Pass::new(alloc, rules, lasting, given)?;
+        let mut pass = Pass::new(alloc, rules.warm, given)?;
         pass.run(given)?;
         if pass.failures.is_empty() {
             drop(std::mem::replace(&mut found, pass.into_found(given)?));
             break;
         }
-        let settled = settle(alloc, given, &pass, most, left)?;
+        let settled = settle(alloc, given, &pass, steps, left)?;
         drop(pass);
         left = settled.left;
         let ends = settled.ends();

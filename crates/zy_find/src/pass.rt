@@ -2,10 +2,8 @@
 
 use crate::at_key::{AtKey, keys_at_first};
 use crate::learned::Learned;
-use crate::order::Rules;
 use std::alloc::Global;
-use std::collections::BTreeSet;
-use zy_base::{Blob, NoMemory};
+use zy_base::NoMemory;
 use zy_refute::Observed;
 use zy_sources::{Calls, Links, NONE, Table, at, put};
 use zy_verdict::Placement;
@@ -102,16 +100,14 @@ impl Pass {
     // Begins before any call.
     pub(crate) fn new(
         alloc: Global,
-        rules: Rules,
-        lasting: &BTreeSet<Blob>,
+        warm: bool,
         given: Given<'_>,
     ) -> Result<Pass, NoMemory> {
         let count = given.observed.len();
-        let first = given.links.keys.first.as_slice();
-        let keys = keys_at_first(alloc, rules.warm, rules.forget, lasting, given.observed, first)?;
+        let keys = keys_at_first(alloc, warm, given.observed, &given.links.keys)?;
         let mut pass = Pass {
             alloc,
-            warm: rules.warm,
+            warm,
             keys,
             progress: Vec::from_elem(alloc, Progress::Waits, count)?,
             next: Vec::from_elem(alloc, NONE, count)?,

@@ -13,9 +13,14 @@ const MOST_BEFORE: usize = 16;
 
 impl Pass {
     // A call that waits at a key and must be made before the key gets something else.
-    pub(crate) fn reader(&self, given: Given<'_>, key: u32, call: u32) -> Option<u32> {
+    pub(crate) fn reader(
+        &self,
+        given: Given<'_>,
+        key: u32,
+        call: u32,
+    ) -> Result<Option<u32>, NoMemory> {
         let Some(own) = self.keys.get(key as usize) else {
-            return None;
+            return Ok(None);
         };
         let needs_it = given.source_of(call) == own.maker;
         let mut other = own.head;
@@ -27,15 +32,31 @@ impl Pass {
                 break;
             }
             if self.may_precede(given, other, call) {
-                let must = self.reads(given, own.maker, needs_it, other, one);
+                let must = self.reads(given, own.maker, needs_it, other, one)
+                    && self.leaves(given, own.held.sight(), other, call)?;
                 let may = self.is_made(given.learned.before(other));
                 if (must && may) || given.learned.comes_before(other, call) {
-                    return Some(other);
+                    return Ok(Some(other));
                 }
             }
             other = at(self.next.as_slice(), other);
         }
-        None
+        Ok(None)
+    }
+
+    // Checks whether a call can be made after another one that tells what its key has, of which nothing is
+    // known.
+    fn leaves(
+        &self,
+        given: Given<'_>,
+        sight: Sight<'_>,
+        other: u32,
+        call: u32,
+    ) -> Result<bool, NoMemory> {
+        match (sight, given.get(call)) {
+            (Sight::Any, Some(one)) if one.call.key().is_some() => self.helps(given, other, one),
+            _ => Ok(true),
+        }
     }
 
     // Checks whether a call that waits needs what a maker left, or can be made now.

@@ -95,6 +95,11 @@ impl Decided {
         !self.lost && self.gone.is_none() && self.shown.is_none()
     }
 
+    /// Checks whether the call tells what a key had of which nothing was known.
+    pub fn tells(self, sight: Sight<'_>) -> bool {
+        matches!(sight, Sight::Any) && self.change != Change::Keeps
+    }
+
     /// Checks whether the key has another item then.
     pub fn stores(self) -> bool {
         matches!(self.change, Change::Stores | Change::Joins | Change::Counts { .. })

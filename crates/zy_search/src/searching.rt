@@ -204,7 +204,7 @@ impl Search {
         let Some(decided) = decide(self.held.sight(), one, true, listed.forget) else {
             return None;
         };
-        let only = !changing && decided.is_quiet();
+        let only = !changing && decided.is_quiet() && !decided.tells(self.held.sight());
         if (!only && rank < from) || !self.may_be(offset, decided) {
             return None;
         }

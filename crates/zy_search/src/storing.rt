@@ -65,7 +65,8 @@ pub(crate) fn exchanged(sight: Sight<'_>, shown: &Shown, unique: u64) -> Option<
         Sight::Any if shows(shown, Word::Exists) => {
             Some(Decided::first(Change::Finds, First::Some))
         }
-        Sight::Any => if_so(says(shown, Word::NotFound), Change::Clears),
+        Sight::Any if is_silent(shown) => Some(Decided::plain(Change::Keeps)),
+        Sight::Any => if_so(shows(shown, Word::NotFound), Change::Clears),
         Sight::Item(known) => match known.unique {
             Some(own) if own == unique => if_so(says(shown, Word::Stored), Change::Stores),
             None if shows(shown, Word::Stored) => Some(named(known.origin, unique)),

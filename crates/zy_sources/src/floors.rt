@@ -2,7 +2,7 @@
 
 use crate::effects::surely_changes;
 use crate::sessions::end_of;
-use crate::small::{at, small, time_at};
+use crate::numbers::{at, small, time_at};
 use std::alloc::Global;
 use zy_base::NoMemory;
 use zy_refute::Observed;

@@ -1,10 +1,11 @@
 //! Numbers of keys.
 
 use crate::hashing::key_hash;
-use crate::small::{NONE, small};
+use crate::numbers::{NONE, small};
 use crate::table::Table;
 use std::alloc::Global;
-use zy_base::NoMemory;
+use std::collections::BTreeSet;
+use zy_base::{Blob, NoMemory};
 use zy_refute::Observed;
 
 /// The keys of calls, by numbers from 0.
@@ -14,12 +15,20 @@ pub struct Keys {
     pub of: Vec<u32>,
     /// The first call at each key.
     pub first: Vec<u32>,
+    /// Whether the item of each key may be lost between any two calls.
+    pub forget: Vec<bool>,
 }
 
-/// Numbers the keys.
-pub fn keys_of(alloc: Global, observed: &[Observed]) -> Result<Keys, NoMemory> {
+// Numbers the keys. The items of those in `lasting` may be lost, and those of all if `all`.
+pub(crate) fn keys_of(
+    alloc: Global,
+    all: bool,
+    lasting: &BTreeSet<Blob>,
+    observed: &[Observed],
+) -> Result<Keys, NoMemory> {
     let mut of = Vec::with_capacity(alloc, observed.len())?;
     let mut first = Vec::new(alloc);
+    let mut forget = Vec::new(alloc);
     let mut numbers = Table::new(alloc)?;
     for call in 0..observed.len() {
         let Some(key) = observed[call].call.key() else {
@@ -32,9 +41,10 @@ pub fn keys_of(alloc: Global, observed: &[Observed]) -> Result<Keys, NoMemory> {
             number = small(first.len());
             numbers.put(hash, number)?;
             first.push(small(call))?;
+            forget.push(all || lasting.contains(key))?;
         }
         of.push(number)?;
     }
     drop(numbers);
-    Ok(Keys { of, first })
+    Ok(Keys { of, first, forget })
 }

@@ -6,11 +6,12 @@ use crate::keys::{Keys, keys_of};
 use crate::overs::{Overs, overs_of};
 use crate::reach::{Reached, dues, sinces, spans};
 use crate::sessions::{are_of_one_session, end_of};
-use crate::small::{NONE, at, small, time_at};
+use crate::numbers::{NONE, at, small, time_at};
 use crate::sources::{Looked, sources_of};
 use mc_calls::Call;
 use std::alloc::Global;
-use zy_base::NoMemory;
+use std::collections::BTreeSet;
+use zy_base::{Blob, NoMemory};
 use zy_refute::Observed;
 
 /// The calls of a recording, and what is known of them.
@@ -45,28 +46,28 @@ pub struct Links {
     pub flushes: Vec<u32>,
 }
 
-/// Finds what is known of the calls. If `warm`, items may be there at first; if `forget`, they may be
-/// lost. May answer `NoMemory`.
+/// Finds what is known of the calls. If `warm`, items may be there at first. The items of the keys in
+/// `lasting` may be lost, and those of all keys if `forget`. May answer `NoMemory`.
 pub fn links_of(
     alloc: Global,
     warm: bool,
     forget: bool,
+    lasting: &BTreeSet<Blob>,
     observed: &[Observed],
 ) -> Result<Links, NoMemory> {
-    let keys = keys_of(alloc, observed)?;
+    let keys = keys_of(alloc, forget, lasting, observed)?;
     let by_end = sorted(alloc, observed, By::End)?;
     let by_sent = sorted(alloc, observed, By::Sending)?;
     let flushes = flushes_in(alloc, observed, &by_sent)?;
-    let count = keys.first.len();
-    let floors = floors_of(alloc, observed, &keys.of, count, &by_end, &by_sent)?;
+    let floors = floors_of(alloc, observed, &keys.of, keys.first.len(), &by_end, &by_sent)?;
     let looked = Looked {
         observed,
-        keys: &keys.of,
+        keys: &keys,
         floors: &floors,
         by_end: &by_end,
         by_sent: &by_sent,
         warm,
-        may_go: forget || !flushes.is_empty(),
+        flushed: !flushes.is_empty(),
     };
     let source = sources_of(alloc, looked)?;
     drop(floors);

@@ -3,7 +3,7 @@
 use crate::effects::{found_another, surely_changes};
 use crate::hashing::mixed;
 use crate::sessions::are_of_one_session;
-use crate::small::{NONE, at, put, small};
+use crate::numbers::{NONE, at, put, small};
 use crate::table::Table;
 use std::alloc::Global;
 use zy_base::NoMemory;

@@ -2,7 +2,7 @@
 
 use crate::links::{call_before, source_of};
 use crate::sessions::end_of;
-use crate::small::{NONE, at, small, time_at};
+use crate::numbers::{NONE, at, small, time_at};
 use std::alloc::Global;
 use zy_base::NoMemory;
 use zy_refute::Observed;

@@ -6,7 +6,8 @@ use crate::effects::{
 };
 use crate::hashing::{unique_hash, unknown_hash, value_hash};
 use crate::sessions::end_of;
-use crate::small::{NONE, at, put, small, time_at};
+use crate::keys::Keys;
+use crate::numbers::{NONE, at, put, small, time_at};
 use crate::table::Table;
 use std::alloc::Global;
 use zy_base::NoMemory;
@@ -22,14 +23,30 @@ const MOST: usize = 64;
 #[derive(Clone, Copy)]
 pub(crate) struct Looked<'a> {
     pub(crate) observed: &'a [Observed],
-    pub(crate) keys: &'a [u32],
+    pub(crate) keys: &'a Keys,
     pub(crate) floors: &'a [u64],
     pub(crate) by_end: &'a [u32],
     pub(crate) by_sent: &'a [u32],
     /// Items may be there at first.
     pub(crate) warm: bool,
-    /// Items may go without a call at their key.
-    pub(crate) may_go: bool,
+    /// There are flushes, by which items may go without a call at their key.
+    pub(crate) flushed: bool,
+}
+
+impl Looked<'_> {
+    // The number of a call's key, or `NONE`.
+    fn key_of(self, call: u32) -> u32 {
+        at(self.keys.of.as_slice(), call)
+    }
+
+    // Checks whether the item of a key may go without a call at the key.
+    fn may_go(self, key: u32) -> bool {
+        let forgets = match self.keys.forget.get(key as usize) {
+            Some(forgets) => *forgets,
+            None => true,
+        };
+        forgets || self.flushed
+    }
 }
 
 // The calls that made each thing.
@@ -71,7 +88,7 @@ pub(crate) fn sources_of(alloc: Global, looked: Looked<'_>) -> Result<Vec<u32>, 
         if source != NONE {
             put(sources.as_mut_slice(), *call, source);
             if let Some(unique) = one.unique {
-                name_source(&mut uniques, unique_hash(at(looked.keys, *call), unique), source)?;
+                name_source(&mut uniques, unique_hash(looked.key_of(*call), unique), source)?;
             }
             makers.join_sources(looked, sources.as_mut_slice(), *call, one);
         }
@@ -96,7 +113,7 @@ fn by_unique(looked: Looked<'_>, sources: &mut [u32], uniques: &Table) {
     for call in 0..looked.observed.len() {
         let one = &looked.observed[call];
         if let Some(unique) = expected(one) {
-            let maker = uniques.get(unique_hash(at(looked.keys, small(call)), unique));
+            let maker = uniques.get(unique_hash(looked.key_of(small(call)), unique));
             let early = match looked.observed.get(maker as usize) {
                 Some(other) => other.sent < end_of(one),
                 None => false,
@@ -114,7 +131,7 @@ fn by_unique(looked: Looked<'_>, sources: &mut [u32], uniques: &Table) {
 impl Makers {
     // Adds a call that was sent after those before.
     fn add(&mut self, looked: Looked<'_>, call: u32, one: &Observed) -> Result<(), NoMemory> {
-        let key = at(looked.keys, call);
+        let key = looked.key_of(call);
         let hash = match left_by(one, key) {
             Trace::Hash(hash) => hash,
             Trace::Unknown => unknown_hash(key),
@@ -134,7 +151,7 @@ impl Makers {
 
     // The call that made what a call found, if only one can have.
     fn source(&self, looked: Looked<'_>, call: u32, one: &Observed) -> u32 {
-        let Trace::Hash(hash) = needed_by(one, at(looked.keys, call)) else {
+        let Trace::Hash(hash) = needed_by(one, looked.key_of(call)) else {
             return NONE;
         };
         let found = match found_by(one) {
@@ -162,7 +179,7 @@ impl Makers {
             if at(sources, maker) != NONE {
                 break;
             }
-            let hash = value_hash(at(looked.keys, maker), rest);
+            let hash = value_hash(looked.key_of(maker), rest);
             let source = self.maker_of(looked, maker, other, hash, Found::Value(rest));
             put(sources, maker, source);
             maker = source;
@@ -179,10 +196,10 @@ impl Makers {
         hash: u64,
         found: Found<'_>,
     ) -> u32 {
-        let key = at(looked.keys, call);
+        let key = looked.key_of(call);
         let floor = time_at(looked.floors, call);
         let absent = matches!(found, Found::Absence);
-        if (absent && (looked.may_go || floor == 0)) || (looked.warm && floor == 0) {
+        if (absent && (looked.may_go(key) || floor == 0)) || (looked.warm && floor == 0) {
             return NONE;
         }
         let reader = Reader {

@@ -1,6 +1,6 @@
 //! A table of small numbers by hashes.
 
-use crate::small::NONE;
+use crate::numbers::NONE;
 use std::alloc::Global;
 use zy_base::NoMemory;
 
