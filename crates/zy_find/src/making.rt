@@ -149,5 +149,9 @@ impl Pass {
 
 // The number of the item that was stored at an offset of the order.
 fn number_of(origin: usize) -> u32 {
-    if origin == AT_FIRST { FIRST } else { small(origin) }
+    if origin == AT_FIRST {
+        FIRST
+    } else {
+        small(origin)
+    }
 }

@@ -98,11 +98,7 @@ impl<'a> Given<'a> {
 
 impl Pass {
     // Begins before any call.
-    pub(crate) fn new(
-        alloc: Global,
-        warm: bool,
-        given: Given<'_>,
-    ) -> Result<Pass, NoMemory> {
+    pub(crate) fn new(alloc: Global, warm: bool, given: Given<'_>) -> Result<Pass, NoMemory> {
         let count = given.observed.len();
         let keys = keys_at_first(alloc, warm, given.observed, &given.links.keys)?;
         let mut pass = Pass {

@@ -36,9 +36,7 @@ pub fn held_after(
 // The item that an answer shows.
 fn shown(sight: Sight<'_>, one: &Observed) -> Result<Option<Held>, NoMemory> {
     match (sight, glimpse_of(&one.shown)) {
-        (Sight::Item(known), Some(glimpse)) => {
-            Ok(Some(shown_of(known, glimpse, one.unique)?))
-        }
+        (Sight::Item(known), Some(glimpse)) => { Ok(Some(shown_of(known, glimpse, one.unique)?)) }
         (Sight::Any, Some(glimpse)) => match glimpse.value {
             Some(value) => Ok(Some(Held::Item(Known {
                 flags: glimpse.flags.unwrap_or(0),
@@ -61,7 +59,11 @@ fn shown_of(known: &Known, glimpse: Glimpse<'_>, unique: Option<u64>) -> Result<
     let length = value.bytes().len();
     let was_open = known.open.is_some();
     let is_open = was_open && glimpse.value.is_none();
-    let digits = if was_open { length } else { length.min(known.digits) };
+    let digits = if was_open {
+        length
+    } else {
+        length.min(known.digits)
+    };
     let flags = match glimpse.flags {
         Some(flags) if was_open => flags,
         _ => known.flags,
@@ -78,12 +80,7 @@ fn shown_of(known: &Known, glimpse: Glimpse<'_>, unique: Option<u64>) -> Result<
 }
 
 // The item with a piece joined to its value.
-fn joined(
-    alloc: Global,
-    sight: Sight<'_>,
-    call: &Call,
-    place: usize,
-) -> Result<Held, NoMemory> {
+fn joined(alloc: Global, sight: Sight<'_>, call: &Call, place: usize) -> Result<Held, NoMemory> {
     let mut value = Blob::new(alloc);
     match write_joined(&mut value, sight, call) {
         Ok(()) => Ok(opened(sight, call, value, place)),

@@ -53,7 +53,11 @@ fn counted_number(known: &Known, shown: &Shown, number: u64) -> Option<Decided> 
     if is_silent(shown) || number_shown(shown) == Some(number) {
         let padded = digits_of(number) < value.len();
         let change = Change::Counts { number, padded };
-        let choice = if padded { Choice::Padded } else { Choice::Plain };
+        let choice = if padded {
+            Choice::Padded
+        } else {
+            Choice::Plain
+        };
         return Some(Decided::chosen(change, choice));
     }
     if shows(shown, Word::NotNumber) && may_be_none(value) {

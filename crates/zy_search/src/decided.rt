@@ -102,7 +102,10 @@ impl Decided {
 
     /// Checks whether the key has another item then.
     pub fn stores(self) -> bool {
-        matches!(self.change, Change::Stores | Change::Joins | Change::Counts { .. })
+        matches!(
+            self.change,
+            Change::Stores | Change::Joins | Change::Counts { .. }
+        )
     }
 
     /// Checks whether a key that has this keeps it.
@@ -117,5 +120,9 @@ impl Decided {
 
 // A change, if this is so.
 pub(crate) fn if_so(holds: bool, change: Change) -> Option<Decided> {
-    if holds { Some(Decided::plain(change)) } else { None }
+    if holds {
+        Some(Decided::plain(change))
+    } else {
+        None
+    }
 }

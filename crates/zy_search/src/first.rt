@@ -61,11 +61,13 @@ fn numbered(alloc: Global, number: u64) -> Result<Option<FirstItem>, NoMemory> {
 // The part of a value that was there before pieces were joined to it.
 fn inner<'a>(sight: Sight<'_>, value: &'a [u8]) -> &'a [u8] {
     match sight {
-        Sight::Item(Known {
-            value: pieces,
-            open: Some(offset),
-            ..
-        }) => {
+        Sight::Item(
+            Known {
+                value: pieces,
+                open: Some(offset),
+                ..
+            },
+        ) => {
             let behind = pieces.bytes().len().saturating_sub(*offset);
             let end = value.len().saturating_sub(behind);
             value.get(*offset..end).unwrap_or(value)

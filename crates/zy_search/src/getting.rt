@@ -40,8 +40,16 @@ pub(crate) fn got(sight: Sight<'_>, one: &Observed) -> Option<Decided> {
     match (sight, glimpse_of(&one.shown)) {
         (_, None) => got_nothing(sight, &one.shown),
         (Sight::Any, Some(glimpse)) => {
-            let change = if glimpse.value.is_some() { Change::Shows } else { Change::Finds };
-            let first = if glimpse.value.is_some() { First::Shown } else { First::Some };
+            let change = if glimpse.value.is_some() {
+                Change::Shows
+            } else {
+                Change::Finds
+            };
+            let first = if glimpse.value.is_some() {
+                First::Shown
+            } else {
+                First::Some
+            };
             Some(Decided {
                 shown: one.unique.map(|unique| Unique {
                     origin: AT_FIRST,

@@ -47,11 +47,7 @@ pub(crate) struct Search {
 
 impl Search {
     /// Begins before any call.
-    pub(crate) fn begin(
-        alloc: Global,
-        listed: Listed<'_>,
-        kept: bool,
-    ) -> Result<Search, NoMemory> {
+    pub(crate) fn begin(alloc: Global, listed: Listed<'_>, kept: bool) -> Result<Search, NoMemory> {
         let count = listed.list.len();
         let needs = Needs::of(alloc, listed.calls, listed.list, listed.maker, kept)?;
         let mut search = Search {

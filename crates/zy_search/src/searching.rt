@@ -189,13 +189,7 @@ impl Search {
     }
 
     // A call as the next one, if it can be.
-    fn chance(
-        &self,
-        listed: Listed<'_>,
-        offset: u32,
-        one: &Observed,
-        from: u32,
-    ) -> Option<Chosen> {
+    fn chance(&self, listed: Listed<'_>, offset: u32, one: &Observed, from: u32) -> Option<Chosen> {
         let rank = at(listed.ranks, at(listed.list, offset));
         let changing = changes(one);
         if (changing && rank < from) || self.needs.is_other(self.maker, offset) {

@@ -91,7 +91,10 @@ pub(crate) fn deleted(sight: Sight<'_>, shown: &Shown) -> Option<Decided> {
             Some(Decided::first(Change::Clears, First::Some))
         }
         Sight::Any | Sight::Nothing => {
-            if_so(is_silent(shown) || shows(shown, Word::NotFound), Change::Clears)
+            if_so(
+                is_silent(shown) || shows(shown, Word::NotFound),
+                Change::Clears,
+            )
         }
     }
 }

@@ -1,8 +1,8 @@
 //! What is surely overwritten before a call.
 
 use crate::effects::surely_changes;
-use crate::sessions::end_of;
 use crate::numbers::{at, small, time_at};
+use crate::sessions::end_of;
 use std::alloc::Global;
 use zy_base::NoMemory;
 use zy_refute::Observed;

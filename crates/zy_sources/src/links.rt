@@ -3,10 +3,10 @@
 use crate::effects::found_another;
 use crate::floors::floors_of;
 use crate::keys::{Keys, keys_of};
+use crate::numbers::{NONE, at, small, time_at};
 use crate::overs::{Overs, overs_of};
 use crate::reach::{Reached, dues, sinces, spans};
 use crate::sessions::{are_of_one_session, end_of};
-use crate::numbers::{NONE, at, small, time_at};
 use crate::sources::{Looked, sources_of};
 use mc_calls::Call;
 use std::alloc::Global;
@@ -59,7 +59,14 @@ pub fn links_of(
     let by_end = sorted(alloc, observed, By::End)?;
     let by_sent = sorted(alloc, observed, By::Sending)?;
     let flushes = flushes_in(alloc, observed, &by_sent)?;
-    let floors = floors_of(alloc, observed, &keys.of, keys.first.len(), &by_end, &by_sent)?;
+    let floors = floors_of(
+        alloc,
+        observed,
+        &keys.of,
+        keys.first.len(),
+        &by_end,
+        &by_sent,
+    )?;
     let looked = Looked {
         observed,
         keys: &keys,
@@ -110,11 +117,7 @@ fn seen_of(alloc: Global, observed: &[Observed], source: &[u32]) -> Result<Vec<b
 }
 
 // The flushes, by their sendings.
-fn flushes_in(
-    alloc: Global,
-    observed: &[Observed],
-    by_sent: &[u32],
-) -> Result<Vec<u32>, NoMemory> {
+fn flushes_in(alloc: Global, observed: &[Observed], by_sent: &[u32]) -> Result<Vec<u32>, NoMemory> {
     let mut flushes = Vec::new(alloc);
     for call in by_sent {
         if let Some(one) = observed.get(*call as usize)

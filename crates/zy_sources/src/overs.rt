@@ -2,8 +2,8 @@
 
 use crate::effects::{found_another, surely_changes};
 use crate::hashing::mixed;
-use crate::sessions::are_of_one_session;
 use crate::numbers::{NONE, at, put, small};
+use crate::sessions::are_of_one_session;
 use crate::table::Table;
 use std::alloc::Global;
 use zy_base::NoMemory;

@@ -1,8 +1,8 @@
 //! Between which moments calls can be made, as far as their sources and sessions tell.
 
 use crate::links::{call_before, source_of};
-use crate::sessions::end_of;
 use crate::numbers::{NONE, at, small, time_at};
+use crate::sessions::end_of;
 use std::alloc::Global;
 use zy_base::NoMemory;
 use zy_refute::Observed;

@@ -5,9 +5,9 @@ use crate::effects::{
     needed_by, needs_absence,
 };
 use crate::hashing::{unique_hash, unknown_hash, value_hash};
-use crate::sessions::end_of;
 use crate::keys::Keys;
 use crate::numbers::{NONE, at, put, small, time_at};
+use crate::sessions::end_of;
 use crate::table::Table;
 use std::alloc::Global;
 use zy_base::NoMemory;
@@ -88,7 +88,11 @@ pub(crate) fn sources_of(alloc: Global, looked: Looked<'_>) -> Result<Vec<u32>, 
         if source != NONE {
             put(sources.as_mut_slice(), *call, source);
             if let Some(unique) = one.unique {
-                name_source(&mut uniques, unique_hash(looked.key_of(*call), unique), source)?;
+                name_source(
+                    &mut uniques,
+                    unique_hash(looked.key_of(*call), unique),
+                    source,
+                )?;
             }
             makers.join_sources(looked, sources.as_mut_slice(), *call, one);
         }
@@ -104,7 +108,11 @@ fn name_source(uniques: &mut Table, hash: u64, source: u32) -> Result<(), NoMemo
     let known = uniques.get(hash);
     uniques.put(
         hash,
-        if known == NONE || known == source { source } else { SEVERAL },
+        if known == NONE || known == source {
+            source
+        } else {
+            SEVERAL
+        },
     )
 }
 
