@@ -60,7 +60,7 @@ impl Pass {
 
     // A change that waits, and must be made before another one.
     fn hidden(&self, given: Given<'_>, call: u32) -> Option<u32> {
-        let mut change = at(given.links.over.as_slice(), call);
+        let mut change = at(given.links.makers.overs.over.as_slice(), call);
         for _ in 0..MOST_WAITING {
             if change == NONE {
                 break;
@@ -68,7 +68,7 @@ impl Pass {
             if !self.is_made(change) {
                 return Some(change);
             }
-            change = at(given.links.more_over.as_slice(), change);
+            change = at(given.links.makers.overs.more_over.as_slice(), change);
         }
         None
     }

@@ -73,7 +73,7 @@ impl Pass {
         if !fits_after(Sight::Nothing, one) {
             return None;
         }
-        let flushes = given.links.flushes.as_slice();
+        let flushes = given.links.sorted.flushes.as_slice();
         for offset in self.flushed..flushes.len() {
             let flush = flushes[offset];
             let Some(other) = given.get(flush) else {

@@ -85,7 +85,7 @@ pub(crate) fn lists_of(alloc: Global, given: Given<'_>, pass: &Pass) -> Result<K
             })?;
         }
     }
-    for call in &given.links.by_sent {
+    for call in &given.links.sorted.by_sent {
         lists.add(given, pass, *call, None)?;
     }
     for place in 0..pass.made.len() {

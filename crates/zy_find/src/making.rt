@@ -21,7 +21,7 @@ impl Pass {
         };
         if found_another(one)
             && own.maker != NONE
-            && at(given.links.source.as_slice(), call) == own.maker
+            && at(given.links.makers.source.as_slice(), call) == own.maker
         {
             return None;
         }

@@ -117,7 +117,7 @@ impl Pass {
             shown: Table::new(alloc)?,
             failures: Vec::new(alloc),
         };
-        for call in &given.links.by_sent {
+        for call in &given.links.sorted.by_sent {
             pass.append(given, *call);
         }
         Ok(pass)
@@ -155,8 +155,8 @@ impl Pass {
 
     // Passes over the flushes that are made.
     pub(crate) fn pass_flushes(&mut self, given: Given<'_>) {
-        for _ in self.flushed..given.links.flushes.len() {
-            let flush = match given.links.flushes.get(self.flushed) {
+        for _ in self.flushed..given.links.sorted.flushes.len() {
+            let flush = match given.links.sorted.flushes.get(self.flushed) {
                 Some(flush) => *flush,
                 None => NONE,
             };

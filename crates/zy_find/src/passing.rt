@@ -12,7 +12,7 @@ const MOST_FAILURES: usize = 1024;
 impl Pass {
     // Makes all sure calls, and those that they need.
     pub(crate) fn run(&mut self, given: Given<'_>) -> Result<(), NoMemory> {
-        for call in &given.links.by_end {
+        for call in &given.links.sorted.by_end {
             if let Some(one) = given.get(*call)
                 && self.waits(*call)
             {
@@ -38,7 +38,7 @@ impl Pass {
     // Makes the calls that need not occur at the end, if their answers can be so then.
     fn run_rest(&mut self, given: Given<'_>) -> Result<(), NoMemory> {
         self.now = u64::MAX;
-        for call in &given.links.by_sent {
+        for call in &given.links.sorted.by_sent {
             if !self.waits(*call) || !self.is_made(given.before(*call)) {
                 continue;
             }

@@ -102,7 +102,7 @@ impl Pass {
 
     // Checks whether nobody is known to have found what a call without an answer made.
     pub(crate) fn is_unseen(&self, given: Given<'_>, call: u32, one: &Observed) -> bool {
-        let seen = match given.links.seen.get(call as usize) {
+        let seen = match given.links.makers.seen.get(call as usize) {
             Some(seen) => *seen,
             None => true,
         };
@@ -171,7 +171,7 @@ impl Pass {
             return Ok(None);
         };
         let mut first = None;
-        let mut least = time_at(given.links.span.as_slice(), call);
+        let mut least = time_at(given.links.times.span.as_slice(), call);
         let mut other = own.head;
         for _ in 0..MOST_WAITING {
             let Some(one) = given.get(other) else {

@@ -109,7 +109,7 @@ impl Needs {
 
     // Notes the source of a call.
     fn link(&mut self, calls: Calls<'_>, offsets: &Table, call: u32, offset: u32, kept: bool) {
-        let source = at(calls.links.source.as_slice(), call);
+        let source = at(calls.links.makers.source.as_slice(), call);
         let Some(one) = calls.observed.get(call as usize) else {
             return;
         };

@@ -167,7 +167,7 @@ impl Search {
             }
             looked.count = looked.count.saturating_add(1);
             until = until.min(self.due(listed, call, one));
-            let late = self.kept && until <= time_at(listed.calls.links.since.as_slice(), call);
+            let late = self.kept && until <= time_at(listed.calls.links.times.since.as_slice(), call);
             if !late && !self.is_blocked(offset) {
                 looked.best = better(looked.best, self.chance(listed, offset, one, from));
                 if is_only(looked.best) {
@@ -182,7 +182,7 @@ impl Search {
     // The moment before which a call must be made.
     fn due(&self, listed: Listed<'_>, call: u32, one: &Observed) -> u64 {
         if self.kept {
-            time_at(listed.calls.links.due.as_slice(), call)
+            time_at(listed.calls.links.times.due.as_slice(), call)
         } else {
             end_of(one)
         }

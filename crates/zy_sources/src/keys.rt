@@ -1,7 +1,7 @@
 //! Numbers of keys.
 
 use crate::hashing::key_hash;
-use crate::numbers::{NONE, small};
+use crate::numbers::{NONE, put, small};
 use crate::table::Table;
 use std::alloc::Global;
 use std::collections::BTreeSet;
@@ -26,25 +26,57 @@ pub(crate) fn keys_of(
     lasting: &BTreeSet<Blob>,
     observed: &[Observed],
 ) -> Result<Keys, NoMemory> {
-    let mut of = Vec::with_capacity(alloc, observed.len())?;
-    let mut first = Vec::new(alloc);
-    let mut forget = Vec::new(alloc);
-    let mut numbers = Table::new(alloc)?;
-    for call in 0..observed.len() {
-        let Some(key) = observed[call].call.key() else {
-            of.push(NONE)?;
-            continue;
-        };
-        let hash = key_hash(key.bytes());
-        let mut number = numbers.get(hash);
-        if number == NONE {
-            number = small(first.len());
-            numbers.put(hash, number)?;
-            first.push(small(call))?;
-            forget.push(all || lasting.contains(key))?;
+    let mut keys = Keys {
+        of: Vec::from_elem(alloc, NONE, observed.len())?,
+        first: Vec::new(alloc),
+        forget: Vec::new(alloc),
+    };
+    match keys.number(alloc, all, lasting, observed) {
+        Ok(()) => Ok(keys),
+        Err(refused) => {
+            drop(keys);
+            Err(refused)
         }
-        of.push(number)?;
     }
-    drop(numbers);
-    Ok(Keys { of, first, forget })
+}
+
+impl Keys {
+    // Numbers the keys.
+    fn number(
+        &mut self,
+        alloc: Global,
+        all: bool,
+        lasting: &BTreeSet<Blob>,
+        observed: &[Observed],
+    ) -> Result<(), NoMemory> {
+        let mut numbers = Table::new(alloc)?;
+        let numbered = self.number_by(&mut numbers, all, lasting, observed);
+        drop(numbers);
+        numbered
+    }
+
+    // The same, with a table of the numbers.
+    fn number_by(
+        &mut self,
+        numbers: &mut Table,
+        all: bool,
+        lasting: &BTreeSet<Blob>,
+        observed: &[Observed],
+    ) -> Result<(), NoMemory> {
+        for call in 0..observed.len() {
+            let Some(key) = observed[call].call.key() else {
+                continue;
+            };
+            let hash = key_hash(key.bytes());
+            let mut number = numbers.get(hash);
+            if number == NONE {
+                number = small(self.first.len());
+                numbers.put(hash, number)?;
+                self.first.push(small(call))?;
+                self.forget.push(all || lasting.contains(key))?;
+            }
+            put(self.of.as_mut_slice(), small(call), number);
+        }
+        Ok(())
+    }
 }

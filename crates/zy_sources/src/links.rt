@@ -5,10 +5,10 @@ use crate::floors::floors_of;
 use crate::keys::{Keys, keys_of};
 use crate::numbers::{NONE, at, small, time_at};
 use crate::overs::{Overs, overs_of};
-use crate::reach::{Reached, dues, sinces, spans};
-use crate::sessions::{are_of_one_session, end_of};
+use crate::reach::{Reached, Times, times_of};
+use crate::sessions::are_of_one_session;
+use crate::sorted::{Sorted, sorted_of};
 use crate::sources::{Looked, sources_of};
-use mc_calls::Call;
 use std::alloc::Global;
 use std::collections::BTreeSet;
 use zy_base::{Blob, NoMemory};
@@ -25,25 +25,21 @@ pub struct Calls<'a> {
 #[derive(Drop)]
 pub struct Links {
     pub keys: Keys,
-    /// The call that made what a call found (`sources_of`).
+    pub sorted: Sorted,
+    pub makers: Makers,
+    pub times: Times,
+}
+
+/// Which call made what another one found.
+#[derive(Drop)]
+pub struct Makers {
+    /// The call that made what a call found, if only one can have; for one that found an item with another
+    /// unique, the call that made the item that it named.
     pub source: Vec<u32>,
     /// Whether it is known that another call found what a call made.
     pub seen: Vec<bool>,
-    /// The moment before which a call must be made.
-    pub due: Vec<u64>,
-    /// The moment before which a call cannot be made.
-    pub since: Vec<u64>,
-    /// The changes that must be made before a call: the first, and the one after each.
-    pub over: Vec<u32>,
-    pub more_over: Vec<u32>,
-    /// The last of those moments, of the calls that need what a call made.
-    pub span: Vec<u64>,
-    /// The sure calls, by their ends.
-    pub by_end: Vec<u32>,
-    /// All calls, by their sendings.
-    pub by_sent: Vec<u32>,
-    /// The flushes, by their sendings.
-    pub flushes: Vec<u32>,
+    /// The changes that must be made before a call.
+    pub overs: Overs,
 }
 
 /// Finds what is known of the calls. If `warm`, items may be there at first. The items of the keys in
@@ -56,52 +52,123 @@ pub fn links_of(
     observed: &[Observed],
 ) -> Result<Links, NoMemory> {
     let keys = keys_of(alloc, forget, lasting, observed)?;
-    let by_end = sorted(alloc, observed, By::End)?;
-    let by_sent = sorted(alloc, observed, By::Sending)?;
-    let flushes = flushes_in(alloc, observed, &by_sent)?;
-    let floors = floors_of(
-        alloc,
-        observed,
-        &keys.of,
-        keys.first.len(),
-        &by_end,
-        &by_sent,
-    )?;
-    let looked = Looked {
-        observed,
-        keys: &keys,
-        floors: &floors,
-        by_end: &by_end,
-        by_sent: &by_sent,
-        warm,
-        flushed: !flushes.is_empty(),
-    };
-    let source = sources_of(alloc, looked)?;
-    drop(floors);
-    let Overs { over, more_over } = overs_of(alloc, observed, &keys.of, &source)?;
-    let seen = seen_of(alloc, observed, &source)?;
+    match sorted_of(alloc, observed) {
+        Ok(sorted) => with_makers(alloc, warm, observed, keys, sorted),
+        Err(refused) => {
+            drop(keys);
+            Err(refused)
+        }
+    }
+}
+
+// Adds which call made what another one found.
+fn with_makers(
+    alloc: Global,
+    warm: bool,
+    observed: &[Observed],
+    keys: Keys,
+    sorted: Sorted,
+) -> Result<Links, NoMemory> {
+    match makers_of(alloc, warm, observed, &keys, &sorted) {
+        Ok(makers) => with_times(alloc, observed, keys, sorted, makers),
+        Err(refused) => {
+            drop(keys);
+            drop(sorted);
+            Err(refused)
+        }
+    }
+}
+
+// Adds between which moments calls can be made.
+fn with_times(
+    alloc: Global,
+    observed: &[Observed],
+    keys: Keys,
+    sorted: Sorted,
+    makers: Makers,
+) -> Result<Links, NoMemory> {
     let reached = Reached {
         observed,
-        source: &source,
-        over: &over,
-        more_over: &more_over,
+        source: &makers.source,
+        over: &makers.overs.over,
+        more_over: &makers.overs.more_over,
     };
-    let due = dues(alloc, reached, &by_end)?;
-    let since = sinces(alloc, reached, &by_sent)?;
-    let span = spans(alloc, reached, &since, &by_sent)?;
-    Ok(Links {
+    match times_of(alloc, reached, &sorted) {
+        Ok(times) => Ok(Links {
+            keys,
+            sorted,
+            makers,
+            times,
+        }),
+        Err(refused) => {
+            drop(keys);
+            drop(sorted);
+            drop(makers);
+            Err(refused)
+        }
+    }
+}
+
+// Finds which call made what another one found.
+fn makers_of(
+    alloc: Global,
+    warm: bool,
+    observed: &[Observed],
+    keys: &Keys,
+    sorted: &Sorted,
+) -> Result<Makers, NoMemory> {
+    let source = found_sources(alloc, warm, observed, keys, sorted)?;
+    match overs_of(alloc, observed, &keys.of, &source) {
+        Ok(overs) => with_seen(alloc, observed, source, overs),
+        Err(refused) => {
+            drop(source);
+            Err(refused)
+        }
+    }
+}
+
+// Adds whether another call found what a call made.
+fn with_seen(
+    alloc: Global,
+    observed: &[Observed],
+    source: Vec<u32>,
+    overs: Overs,
+) -> Result<Makers, NoMemory> {
+    match seen_of(alloc, observed, &source) {
+        Ok(seen) => Ok(Makers {
+            source,
+            seen,
+            overs,
+        }),
+        Err(refused) => {
+            drop(source);
+            drop(overs);
+            Err(refused)
+        }
+    }
+}
+
+// Finds the call that made what each one found.
+fn found_sources(
+    alloc: Global,
+    warm: bool,
+    observed: &[Observed],
+    keys: &Keys,
+    sorted: &Sorted,
+) -> Result<Vec<u32>, NoMemory> {
+    let floors = floors_of(alloc, observed, &keys.of, keys.first.len(), sorted)?;
+    let looked = Looked {
+        observed,
         keys,
-        source,
-        seen,
-        due,
-        since,
-        over,
-        more_over,
-        span,
-        by_end,
-        by_sent,
-        flushes,
-    })
+        floors: &floors,
+        by_end: &sorted.by_end,
+        by_sent: &sorted.by_sent,
+        warm,
+        flushed: !sorted.flushes.is_empty(),
+    };
+    let source = sources_of(alloc, looked);
+    drop(floors);
+    source
 }
 
 // For each call whether it is known that another one found what it made.
@@ -114,19 +181,6 @@ fn seen_of(alloc: Global, observed: &[Observed], source: &[u32]) -> Result<Vec<b
         }
     }
     Ok(seen)
-}
-
-// The flushes, by their sendings.
-fn flushes_in(alloc: Global, observed: &[Observed], by_sent: &[u32]) -> Result<Vec<u32>, NoMemory> {
-    let mut flushes = Vec::new(alloc);
-    for call in by_sent {
-        if let Some(one) = observed.get(*call as usize)
-            && matches!(one.call, Call::Flush)
-        {
-            flushes.push(*call)?;
-        }
-    }
-    Ok(flushes)
 }
 
 impl<'a> Calls<'a> {
@@ -147,17 +201,17 @@ impl<'a> Calls<'a> {
 
     /// Returns the call that made what a call found, or `NONE`.
     pub fn source_of(self, call: u32) -> u32 {
-        source_of(self.observed, self.links.source.as_slice(), call)
+        source_of(self.observed, self.links.makers.source.as_slice(), call)
     }
 
     /// Returns the moment before which a call must be made.
     pub fn due(self, call: u32) -> u64 {
-        time_at(self.links.due.as_slice(), call)
+        time_at(self.links.times.due.as_slice(), call)
     }
 
     /// Returns the moment before which a call cannot be made.
     pub fn since(self, call: u32) -> u64 {
-        time_at(self.links.since.as_slice(), call)
+        time_at(self.links.times.since.as_slice(), call)
     }
 }
 
@@ -178,31 +232,4 @@ pub(crate) fn source_of(observed: &[Observed], source: &[u32], call: u32) -> u32
         Some(one) if !found_another(one) => at(source, call),
         _ => NONE,
     }
-}
-
-// What calls are sorted by.
-#[derive(Clone, Copy, PartialEq, Eq)]
-enum By {
-    Sending,
-    End,
-}
-
-// Sorts calls by the times at which they were sent, or the sure ones by their ends.
-fn sorted(alloc: Global, observed: &[Observed], by: By) -> Result<Vec<u32>, NoMemory> {
-    let mut timed = Vec::new(alloc);
-    for call in 0..observed.len() {
-        let one = &observed[call];
-        match by {
-            By::Sending => timed.push((one.sent, small(call)))?,
-            By::End if one.sure => timed.push((end_of(one), small(call)))?,
-            By::End => {}
-        }
-    }
-    timed.sort()?;
-    let mut calls = Vec::with_capacity(alloc, timed.len())?;
-    for (_, call) in &timed {
-        calls.push(*call)?;
-    }
-    drop(timed);
-    Ok(calls)
 }

@@ -51,56 +51,48 @@ impl Looked<'_> {
 
 // The calls that made each thing.
 #[derive(Drop)]
-struct Makers {
+struct Made {
     /// The last call that made what has a hash.
     last: Table,
+    /// The call that made the item with a unique.
+    uniques: Table,
     /// For each call the one before it that made the same.
     before: Vec<u32>,
     /// For each call the last end of it and of those before it.
     until: Vec<u64>,
+    /// The number of calls that are added, of those by their sendings.
+    sent: usize,
 }
 
-/// For each call the call that made what it found, if only one can have; for one that found an item with
-/// another unique, the call that made the item that it named.
+// For each call the call that made what it found, if only one can have; for one that found an item with
+// another unique, the call that made the item that it named.
 pub(crate) fn sources_of(alloc: Global, looked: Looked<'_>) -> Result<Vec<u32>, NoMemory> {
-    let count = looked.observed.len();
-    let mut makers = Makers {
-        last: Table::new(alloc)?,
-        before: Vec::from_elem(alloc, NONE, count)?,
-        until: Vec::from_elem(alloc, 0u64, count)?,
-    };
-    let mut sources = Vec::from_elem(alloc, NONE, count)?;
-    let mut uniques = Table::new(alloc)?;
-    let mut sent = 0;
-    for call in looked.by_end {
-        let Some(one) = looked.observed.get(*call as usize) else {
-            continue;
-        };
-        for _ in sent..looked.by_sent.len() {
-            let maker = at(looked.by_sent, small(sent));
-            match looked.observed.get(maker as usize) {
-                Some(other) if other.sent < end_of(one) => makers.add(looked, maker, other)?,
-                _ => break,
-            }
-            sent = sent.saturating_add(1);
-        }
-        let source = makers.source(looked, *call, one);
-        if source != NONE {
-            put(sources.as_mut_slice(), *call, source);
-            if let Some(unique) = one.unique {
-                name_source(
-                    &mut uniques,
-                    unique_hash(looked.key_of(*call), unique),
-                    source,
-                )?;
-            }
-            makers.join_sources(looked, sources.as_mut_slice(), *call, one);
+    let mut sources = Vec::from_elem(alloc, NONE, looked.observed.len())?;
+    match find_sources(alloc, looked, sources.as_mut_slice()) {
+        Ok(()) => Ok(sources),
+        Err(refused) => {
+            drop(sources);
+            Err(refused)
         }
     }
-    drop(makers);
-    by_unique(looked, sources.as_mut_slice(), &uniques);
-    drop(uniques);
-    Ok(sources)
+}
+
+// Finds the sources.
+fn find_sources(alloc: Global, looked: Looked<'_>, sources: &mut [u32]) -> Result<(), NoMemory> {
+    let count = looked.observed.len();
+    let mut made = Made {
+        last: Table::new(alloc)?,
+        uniques: Table::new(alloc)?,
+        before: Vec::from_elem(alloc, NONE, count)?,
+        until: Vec::from_elem(alloc, 0u64, count)?,
+        sent: 0,
+    };
+    let found = made.find_all(looked, sources);
+    if found.is_ok() {
+        by_unique(looked, sources, &made.uniques);
+    }
+    drop(made);
+    found
 }
 
 // Notes the call that made the item with a unique; two calls show that the unique does not tell.
@@ -136,7 +128,54 @@ fn by_unique(looked: Looked<'_>, sources: &mut [u32], uniques: &Table) {
     }
 }
 
-impl Makers {
+impl Made {
+    // Finds the source of each sure call.
+    fn find_all(&mut self, looked: Looked<'_>, sources: &mut [u32]) -> Result<(), NoMemory> {
+        for call in looked.by_end {
+            if let Some(one) = looked.observed.get(*call as usize) {
+                self.add_sent(looked, end_of(one))?;
+                self.find(looked, sources, *call, one)?;
+            }
+        }
+        Ok(())
+    }
+
+    // Adds the calls that were sent before a moment.
+    fn add_sent(&mut self, looked: Looked<'_>, end: u64) -> Result<(), NoMemory> {
+        for _ in self.sent..looked.by_sent.len() {
+            let maker = at(looked.by_sent, small(self.sent));
+            match looked.observed.get(maker as usize) {
+                Some(other) if other.sent < end => self.add(looked, maker, other)?,
+                _ => break,
+            }
+            self.sent = self.sent.saturating_add(1);
+        }
+        Ok(())
+    }
+
+    // Finds the source of a call.
+    fn find(
+        &mut self,
+        looked: Looked<'_>,
+        sources: &mut [u32],
+        call: u32,
+        one: &Observed,
+    ) -> Result<(), NoMemory> {
+        let source = self.source(looked, call, one);
+        if source == NONE {
+            return Ok(());
+        }
+        put(sources, call, source);
+        self.join_sources(looked, sources, call, one);
+        match one.unique {
+            Some(unique) => {
+                let hash = unique_hash(looked.key_of(call), unique);
+                name_source(&mut self.uniques, hash, source)
+            }
+            None => Ok(()),
+        }
+    }
+
     // Adds a call that was sent after those before.
     fn add(&mut self, looked: Looked<'_>, call: u32, one: &Observed) -> Result<(), NoMemory> {
         let key = looked.key_of(call);
