@@ -3,6 +3,7 @@
 #![tactic(auto)]
 
 mod after;
+mod chain;
 mod counting;
 mod decided;
 mod deciding;

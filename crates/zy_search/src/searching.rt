@@ -117,36 +117,47 @@ impl Search {
     // looked at.
     fn run(&mut self, alloc: Global, listed: Listed<'_>, most: usize) -> Result<usize, NoMemory> {
         let mut branches: Vec<Branch> = Vec::new(alloc);
+        let ran = self.run_with(alloc, &mut branches, listed, most);
+        drop(branches);
+        ran
+    }
+
+    // The same, with a list of where the search may go back to.
+    fn run_with(
+        &mut self,
+        alloc: Global,
+        branches: &mut Vec<Branch>,
+        listed: Listed<'_>,
+        most: usize,
+    ) -> Result<usize, NoMemory> {
         let mut from = 0;
-        let mut left = most;
+        let mut count: usize = 0;
         for _ in 0..most {
-            if self.left == 0 || left == 0 {
+            if self.left == 0 || most <= count {
                 break;
             }
             let looked = self.choice(listed, from);
-            left = left.saturating_sub(looked.count);
-            match looked.best {
-                Some(chosen) => {
+            count = count.saturating_add(looked.count);
+            match (looked.best, branches.last().copied()) {
+                (Some(chosen), _) => {
                     if !chosen.only {
                         branches.push(Branch {
                             made: self.order.len(),
                             from: chosen.rank.saturating_add(1),
                         })?;
                     }
-                    self.make(listed, chosen.offset, chosen.decided)?;
+                    self.make(alloc, listed, chosen.offset, chosen.decided)?;
                     from = 0;
                 }
-                None => match branches.pop() {
-                    Some(branch) => {
-                        self.go_back(listed, branch.made);
-                        from = branch.from;
-                    }
-                    None => break,
-                },
+                (None, Some(branch)) => {
+                    let _ = branches.pop();
+                    self.go_back(listed, branch.made);
+                    from = branch.from;
+                }
+                (None, None) => break,
             }
         }
-        drop(branches);
-        Ok(most.saturating_sub(left))
+        Ok(count)
     }
 
     // The call that is next: one that changes nothing if there is one, else the first by rank.
@@ -156,7 +167,7 @@ impl Search {
             count: 1,
         };
         let mut until = u64::MAX;
-        let mut offset = self.after(small(listed.list.len()));
+        let mut offset = self.chain.after(small(listed.list.len()));
         for _ in 0..WINDOW {
             let call = at(listed.list, offset);
             let Some(one) = listed.calls.observed.get(call as usize) else {
@@ -167,14 +178,15 @@ impl Search {
             }
             looked.count = looked.count.saturating_add(1);
             until = until.min(self.due(listed, call, one));
-            let late = self.kept && until <= time_at(listed.calls.links.times.since.as_slice(), call);
+            let late = self.kept
+                && until <= time_at(listed.calls.links.times.since.as_slice(), call);
             if !late && !self.is_blocked(offset) {
                 looked.best = better(looked.best, self.chance(listed, offset, one, from));
                 if is_only(looked.best) {
                     break;
                 }
             }
-            offset = self.after(offset);
+            offset = self.chain.after(offset);
         }
         looked
     }
