@@ -86,29 +86,51 @@ impl Around {
         most: usize,
         left: &mut usize,
     ) -> Result<Option<Vec<u32>>, NoMemory> {
-        let list = self.calls(alloc, given, open)?;
-        let Begun { held, maker } = self.begun(alloc, given, open)?;
-        let steps = list.len().saturating_mul(most);
-        let listed = Listed {
-            calls: given.calls(),
-            list: &list,
-            ranks: open.ranks,
-            forget: open.forget,
-            held: &held,
-            maker,
-            until: self.until,
+        let begun = self.begun(alloc, given, open)?;
+        let mut list = Vec::new(alloc);
+        let found = match self.add_calls(given, open, &mut list) {
+            Ok(()) => self.look(alloc, given, open, &begun, &list, most, left),
+            Err(refused) => Err(refused),
         };
-        let mut found = look_for(alloc, listed, true, steps, left)?;
-        if found.is_none() {
-            drop(std::mem::replace(&mut found, look_for(alloc, listed, false, steps, left)?));
-        }
         drop(list);
-        drop(held);
-        Ok(found)
+        drop(begun);
+        found
     }
 
-    // These calls, by their sendings.
-    fn calls(self, alloc: Global, given: Given<'_>, open: Open<'_>) -> Result<Vec<u32>, NoMemory> {
+    // Looks for an order of these calls: first so that the known sources are kept.
+    fn look(
+        self,
+        alloc: Global,
+        given: Given<'_>,
+        open: Open<'_>,
+        begun: &Begun,
+        list: &[u32],
+        most: usize,
+        left: &mut usize,
+    ) -> Result<Option<Vec<u32>>, NoMemory> {
+        let most = list.len().saturating_mul(most);
+        let listed = Listed {
+            calls: given.calls(),
+            list,
+            ranks: open.ranks,
+            forget: open.forget,
+            held: &begun.held,
+            maker: begun.maker,
+            until: self.until,
+        };
+        match look_for(alloc, listed, true, most, left)? {
+            Some(calls) => Ok(Some(calls)),
+            None => look_for(alloc, listed, false, most, left),
+        }
+    }
+
+    // Adds these calls, by their sendings.
+    fn add_calls(
+        self,
+        given: Given<'_>,
+        open: Open<'_>,
+        calls: &mut Vec<u32>,
+    ) -> Result<(), NoMemory> {
         let made = open.list.made.as_slice();
         let least = match made.get(self.from) {
             Some(call) if self.from < open.list.made_before(open.failure.made) => {
@@ -116,7 +138,6 @@ impl Around {
             }
             _ => open.failure.made,
         };
-        let mut calls = Vec::new(alloc);
         for call in &open.list.sent {
             let Some(one) = given.get(*call) else {
                 continue;
@@ -128,7 +149,7 @@ impl Around {
                 calls.push(*call)?;
             }
         }
-        Ok(calls)
+        Ok(())
     }
 
     // What the key has before these calls.
@@ -138,11 +159,18 @@ impl Around {
             held: Held::at_first(open.warm),
             maker: NONE,
         };
-        for place in self.last_set(given, made)..self.from {
-            begun.add(alloc, given, open.forget, at(made, small(place)), place)?;
+        let from = self.last_set(given, made);
+        let taken = begun.add_all(alloc, given, open.forget, made, from, self.from);
+        match taken {
+            Ok(()) => {
+                begun.held.set_before();
+                Ok(begun)
+            }
+            Err(refused) => {
+                drop(begun);
+                Err(refused)
+            }
         }
-        begun.held.set_before();
-        Ok(begun)
     }
 
     // The offset of the last set before these calls; 0 if there is none.
@@ -164,6 +192,22 @@ impl Around {
 }
 
 impl Begun {
+    // Makes the calls of a list between two offsets.
+    fn add_all(
+        &mut self,
+        alloc: Global,
+        given: Given<'_>,
+        forget: bool,
+        made: &[u32],
+        from: usize,
+        end: usize,
+    ) -> Result<(), NoMemory> {
+        for place in from..end {
+            self.add(alloc, given, forget, at(made, small(place)), place)?;
+        }
+        Ok(())
+    }
+
     // Makes a call.
     fn add(
         &mut self,

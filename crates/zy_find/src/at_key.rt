@@ -36,7 +36,23 @@ pub(crate) fn keys_at_first(
     observed: &[Observed],
     known: &Keys,
 ) -> Result<Vec<AtKey>, NoMemory> {
-    let mut keys = Vec::with_capacity(alloc, known.first.len())?;
+    let mut keys = Vec::new(alloc);
+    match add_keys(alloc, warm, observed, known, &mut keys) {
+        Ok(()) => Ok(keys),
+        Err(refused) => {
+            drop(keys);
+            Err(refused)
+        }
+    }
+}
+
+fn add_keys(
+    alloc: Global,
+    warm: bool,
+    observed: &[Observed],
+    known: &Keys,
+    keys: &mut Vec<AtKey>,
+) -> Result<(), NoMemory> {
     for number in 0..known.first.len() {
         let call = known.first[number];
         let shard = match observed.get(call as usize) {
@@ -47,21 +63,26 @@ pub(crate) fn keys_at_first(
             Some(forget) => *forget,
             None => false,
         };
-        keys.push(AtKey {
-            call,
-            held: Held::at_first(warm),
-            maker: NONE,
-            others: Vec::new(alloc),
-            head: NONE,
-            tail: NONE,
-            shard,
-            forget,
-            losses: 0,
-            first: None,
-            unique: None,
-        })?;
+        keys.push(at_first(alloc, warm, call, shard, forget))?;
     }
-    Ok(keys)
+    Ok(())
+}
+
+// A key before any call.
+fn at_first(alloc: Global, warm: bool, call: u32, shard: u32, forget: bool) -> AtKey {
+    AtKey {
+        call,
+        held: Held::at_first(warm),
+        maker: NONE,
+        others: Vec::new(alloc),
+        head: NONE,
+        tail: NONE,
+        shard,
+        forget,
+        losses: 0,
+        first: None,
+        unique: None,
+    }
 }
 
 impl AtKey {

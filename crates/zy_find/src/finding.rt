@@ -4,14 +4,14 @@ use crate::at_key::AtKey;
 use crate::learned::Learned;
 use crate::order::{Began, Found, Rules};
 use crate::pass::{Given, Pass};
-use crate::settling::settle;
+use crate::settling::{Settled, settle};
 use mc_calls::Item;
 use std::alloc::Global;
 use std::collections::BTreeSet;
 use zy_base::{Blob, NoMemory};
 use zy_refute::Observed;
 use zy_search::FirstItem;
-use zy_sources::links_of;
+use zy_sources::{Links, links_of};
 use zy_verdict::Order;
 
 // How often all calls are made.
@@ -25,6 +25,15 @@ const SOME_LOOKED: usize = 1 << 22;
 // How many calls are looked at for a step.
 const LOOKED_PER_STEP: usize = 8;
 
+// What a pass comes to.
+#[derive(Drop)]
+enum Passed {
+    /// This was found.
+    Found(Found),
+    /// It failed, and this was settled.
+    Settled(Settled),
+}
+
 /// Looks for an order of the calls of a recording. The calls of each session stand together, in their
 /// order. The items of the keys in `lasting` may be lost whatever the rules say. At most `most` steps are
 /// taken at a key for each of its calls. May answer `NoMemory`.
@@ -36,118 +45,141 @@ pub fn find(
     most: usize,
 ) -> Result<Found, NoMemory> {
     let links = links_of(alloc, rules.warm, rules.forget, lasting, observed)?;
+    let found = find_with(alloc, rules.warm, observed, &links, most);
+    drop(links);
+    found
+}
+
+// Looks for an order with what is known of the calls.
+fn find_with(
+    alloc: Global,
+    warm: bool,
+    observed: &[Observed],
+    links: &Links,
+    most: usize,
+) -> Result<Found, NoMemory> {
     let mut learned = Learned::new(alloc, observed.len())?;
-    let mut left = SOME_LOOKED.saturating_add(observed.len().saturating_mul(MOST_LOOKED));
-    let mut found = Found::Nothing {
-        calls: Vec::new(alloc),
-    };
+    let found = find_learning(alloc, warm, observed, links, &mut learned, most);
+    drop(learned);
+    found
+}
+
+// Makes all calls until no call fails or nothing new is learned.
+fn find_learning(
+    alloc: Global,
+    warm: bool,
+    observed: &[Observed],
+    links: &Links,
+    learned: &mut Learned,
+    most: usize,
+) -> Result<Found, NoMemory> {
     let steps = most.saturating_mul(LOOKED_PER_STEP);
-    for _ in 0..ROUNDS {
+    let mut left = SOME_LOOKED.saturating_add(observed.len().saturating_mul(MOST_LOOKED));
+    for round in 0..ROUNDS {
         let given = Given {
             observed,
-            links: &links,
-            learned: &learned,
+            links,
+            learned,
         };
-        let mut pass = Pass::new(alloc, rules.warm, given)?;
-        pass.run(given)?;
-        if pass.failures.is_empty() {
-            drop(std::mem::replace(&mut found, pass.into_found(given)?));
-            break;
-        }
-        let settled = settle(alloc, given, &pass, steps, left)?;
-        drop(pass);
+        let settled = match pass_once(alloc, warm, given, steps, left)? {
+            Passed::Found(found) => return Ok(found),
+            Passed::Settled(settled) => settled,
+        };
         left = settled.left;
-        let ends = settled.ends();
+        let ends = settled.ends() || round + 1 == ROUNDS;
         learned.learn_all(observed, &settled);
         let calls = settled.into_calls();
-        drop(std::mem::replace(&mut found, Found::Nothing { calls }));
         if ends {
-            break;
+            return Ok(Found::Nothing { calls });
+        }
+        drop(calls);
+    }
+    Ok(Found::Nothing {
+        calls: Vec::new(alloc),
+    })
+}
+
+// Makes all calls once. If some failed, the calls around them are settled.
+fn pass_once(
+    alloc: Global,
+    warm: bool,
+    given: Given<'_>,
+    steps: usize,
+    left: usize,
+) -> Result<Passed, NoMemory> {
+    let mut pass = Pass::new(alloc, warm, given)?;
+    match pass.run(given) {
+        Ok(()) if pass.failures.is_empty() => Ok(Passed::Found(pass.into_found(given)?)),
+        Ok(()) => {
+            let settled = settle(alloc, given, &pass, steps, left);
+            drop(pass);
+            Ok(Passed::Settled(settled?))
+        }
+        Err(refused) => {
+            drop(pass);
+            Err(refused)
         }
     }
-    drop(learned);
-    drop(links);
-    Ok(found)
 }
 
 impl Pass {
     // Returns the order, with the items that the store begins with.
     fn into_found(self, given: Given<'_>) -> Result<Found, NoMemory> {
-        let Pass {
-            alloc,
-            keys,
-            progress,
-            next,
-            back,
-            order,
-            made,
-            wanted,
-            unique,
-            shown,
-            failures,
-            ..
-        } = self;
-        drop(failures);
-        drop(progress);
-        drop(next);
-        drop(back);
-        drop(made);
-        drop(wanted);
-        drop(shown);
-        let began = began_of(alloc, keys, given, unique)?;
-        Ok(Found::Ordered {
-            order: Order::from_vec(order),
-            began,
-        })
-    }
-}
-
-// The items that the store begins with; those whose uniques no answer showed have others.
-fn began_of(
-    alloc: Global,
-    keys: Vec<AtKey>,
-    given: Given<'_>,
-    last: u64,
-) -> Result<Vec<Began>, NoMemory> {
-    let mut unique = last;
-    let mut began = Vec::new(alloc);
-    for own in keys {
-        unique = unique.saturating_add(1);
-        if let Some(one) = own.into_began(given, unique)? {
-            began.push(one)?;
+        let mut pass = self;
+        let mut began = Vec::new(pass.alloc);
+        match pass.begin_into(given, &mut began) {
+            Ok(()) => {
+                let none = Vec::new(pass.alloc);
+                let order = std::mem::replace(&mut pass.order, none);
+                drop(pass);
+                Ok(Found::Ordered {
+                    order: Order::from_vec(order),
+                    began,
+                })
+            }
+            Err(refused) => {
+                drop(pass);
+                drop(began);
+                Err(refused)
+            }
         }
     }
-    Ok(began)
+
+    // Takes the items that the store begins with; those whose uniques no answer showed have others.
+    fn begin_into(&mut self, given: Given<'_>, began: &mut Vec<Began>) -> Result<(), NoMemory> {
+        let mut unique = self.unique;
+        for own in &mut self.keys {
+            unique = unique.saturating_add(1);
+            if let Some(one) = own.take_began(given, unique)? {
+                began.push(one)?;
+            }
+        }
+        Ok(())
+    }
 }
 
 impl AtKey {
-    // The item that was there at first, if there was one; it has this unique if no answer showed its own.
-    fn into_began(self, given: Given<'_>, last: u64) -> Result<Option<Began>, NoMemory> {
+    // Takes the item that was there at first, if there was one; it has this unique if no answer showed its
+    // own.
+    fn take_began(&mut self, given: Given<'_>, last: u64) -> Result<Option<Began>, NoMemory> {
         let key = match given.get(self.call) {
-            Some(one) => one.call.key(),
-            None => None,
+            Some(one) => match one.call.key() {
+                Some(key) => key.copy()?,
+                None => return Ok(None),
+            },
+            None => return Ok(None),
         };
-        let AtKey {
-            held,
-            others,
-            first,
-            unique,
-            ..
-        } = self;
-        drop(held);
-        drop(others);
-        match (first, key) {
-            (Some(FirstItem { flags, value }), Some(key)) => {
+        match std::mem::replace(&mut self.first, None) {
+            Some(FirstItem { flags, value }) => {
                 let item = Item {
                     flags,
-                    unique: unique.unwrap_or(last),
+                    unique: self.unique.unwrap_or(last),
                     value,
                 };
-                let key = key.copy()?;
                 Ok(Some(Began { key, item }))
             }
-            (first, _) => {
-                drop(first);
+            None => {
+                drop(key);
                 Ok(None)
             }
         }

@@ -4,7 +4,7 @@ use crate::pass::{Given, Pass};
 use zy_base::NoMemory;
 use zy_refute::Observed;
 use zy_search::{Sight, fits_after, held_after};
-use zy_sources::{at, changes};
+use zy_sources::changes;
 
 /// How many calls that wait at a key are looked at for one that comes before another.
 pub(crate) const MOST_WAITING: usize = 1024;
@@ -35,7 +35,7 @@ impl Pass {
                 best = Some(other);
                 least = due;
             }
-            other = at(self.next.as_slice(), other);
+            other = self.after(other);
         }
         if best.is_none() {
             best = self.helping_flush(given, own.shard, wanting);

@@ -5,7 +5,7 @@ use crate::learned::Learned;
 use std::alloc::Global;
 use zy_base::NoMemory;
 use zy_refute::Observed;
-use zy_sources::{Calls, Links, NONE, Table, at, put};
+use zy_sources::{Calls, Links, NONE, Table, at};
 use zy_verdict::Placement;
 
 /// What is given: the calls, what is known of them, and what was learned from earlier passes.
@@ -35,6 +35,20 @@ pub(crate) enum Progress {
     Made,
 }
 
+/// A call: how far it is, and of those that wait at its key the next and the one before, by their sendings.
+#[derive(Clone, Copy)]
+pub(crate) struct Standing {
+    progress: Progress,
+    next: u32,
+    back: u32,
+}
+
+const WAITS: Standing = Standing {
+    progress: Progress::Waits,
+    next: NONE,
+    back: NONE,
+};
+
 /// An order of calls that grows.
 #[derive(Drop)]
 pub(crate) struct Pass {
@@ -42,10 +56,7 @@ pub(crate) struct Pass {
     /// Items may be there at first.
     pub(crate) warm: bool,
     pub(crate) keys: Vec<AtKey>,
-    pub(crate) progress: Vec<Progress>,
-    /// The calls that wait at each key, by their sendings: for each call the next and the one before.
-    pub(crate) next: Vec<u32>,
-    pub(crate) back: Vec<u32>,
+    pub(crate) calls: Vec<Standing>,
     /// The calls that are made, and these by their offsets.
     pub(crate) order: Vec<Placement>,
     pub(crate) made: Vec<u32>,
@@ -99,28 +110,51 @@ impl<'a> Given<'a> {
 impl Pass {
     // Begins before any call.
     pub(crate) fn new(alloc: Global, warm: bool, given: Given<'_>) -> Result<Pass, NoMemory> {
-        let count = given.observed.len();
         let keys = keys_at_first(alloc, warm, given.observed, &given.links.keys)?;
-        let mut pass = Pass {
-            alloc,
-            warm,
-            keys,
-            progress: Vec::from_elem(alloc, Progress::Waits, count)?,
-            next: Vec::from_elem(alloc, NONE, count)?,
-            back: Vec::from_elem(alloc, NONE, count)?,
-            order: Vec::with_capacity(alloc, count)?,
-            made: Vec::with_capacity(alloc, count)?,
-            flushed: 0,
-            wanted: Vec::new(alloc),
-            now: 0,
-            unique: FIRST_UNIQUE,
-            shown: Table::new(alloc)?,
-            failures: Vec::new(alloc),
-        };
-        for call in &given.links.sorted.by_sent {
-            pass.append(given, *call);
+        match Table::new(alloc) {
+            Ok(shown) => Pass::with_calls(alloc, warm, given, keys, shown),
+            Err(refused) => {
+                drop(keys);
+                Err(refused)
+            }
         }
-        Ok(pass)
+    }
+
+    // Begins with all calls, which wait.
+    fn with_calls(
+        alloc: Global,
+        warm: bool,
+        given: Given<'_>,
+        keys: Vec<AtKey>,
+        shown: Table,
+    ) -> Result<Pass, NoMemory> {
+        match Vec::from_elem(alloc, WAITS, given.observed.len()) {
+            Ok(calls) => {
+                let mut pass = Pass {
+                    alloc,
+                    warm,
+                    keys,
+                    calls,
+                    order: Vec::new(alloc),
+                    made: Vec::new(alloc),
+                    flushed: 0,
+                    wanted: Vec::new(alloc),
+                    now: 0,
+                    unique: FIRST_UNIQUE,
+                    shown,
+                    failures: Vec::new(alloc),
+                };
+                for call in &given.links.sorted.by_sent {
+                    pass.append(given, *call);
+                }
+                Ok(pass)
+            }
+            Err(_) => {
+                drop(keys);
+                drop(shown);
+                Err(NoMemory)
+            }
+        }
     }
 
     // Adds a call after those that wait at its key.
@@ -132,15 +166,16 @@ impl Pass {
             if tail == NONE {
                 own.head = call;
             }
-            put(self.back.as_mut_slice(), call, tail);
-            put(self.next.as_mut_slice(), tail, call);
+            self.join(tail, call);
         }
     }
 
     // Takes a call out of those that wait at its key.
     pub(crate) fn unlink(&mut self, key: u32, call: u32) {
-        let before = at(self.back.as_slice(), call);
-        let after = at(self.next.as_slice(), call);
+        let (before, after) = match self.calls.get(call as usize) {
+            Some(standing) => (standing.back, standing.next),
+            None => return,
+        };
         if let Some(own) = self.keys.get_mut(key as usize) {
             if own.head == call {
                 own.head = after;
@@ -149,8 +184,25 @@ impl Pass {
                 own.tail = before;
             }
         }
-        put(self.next.as_mut_slice(), before, after);
-        put(self.back.as_mut_slice(), after, before);
+        self.join(before, after);
+    }
+
+    // One call that waits at a key comes right after another one.
+    fn join(&mut self, before: u32, after: u32) {
+        if let Some(own) = self.calls.get_mut(before as usize) {
+            own.next = after;
+        }
+        if let Some(own) = self.calls.get_mut(after as usize) {
+            own.back = before;
+        }
+    }
+
+    // The call that waits at a key after another one, or `NONE`.
+    pub(crate) fn after(&self, call: u32) -> u32 {
+        match self.calls.get(call as usize) {
+            Some(standing) => standing.next,
+            None => NONE,
+        }
     }
 
     // Passes over the flushes that are made.
@@ -169,24 +221,24 @@ impl Pass {
 
     // Checks whether a call waits, and is not wanted yet.
     pub(crate) fn waits(&self, call: u32) -> bool {
-        match self.progress.get(call as usize) {
-            Some(progress) => *progress == Progress::Waits,
+        match self.calls.get(call as usize) {
+            Some(standing) => standing.progress == Progress::Waits,
             None => false,
         }
     }
 
     // Checks whether a call is made; what is no call counts as made.
     pub(crate) fn is_made(&self, call: u32) -> bool {
-        match self.progress.get(call as usize) {
-            Some(progress) => *progress == Progress::Made,
+        match self.calls.get(call as usize) {
+            Some(standing) => standing.progress == Progress::Made,
             None => true,
         }
     }
 
     // Says how far a call is.
     pub(crate) fn set(&mut self, call: u32, progress: Progress) {
-        if let Some(own) = self.progress.get_mut(call as usize) {
-            *own = progress;
+        if let Some(own) = self.calls.get_mut(call as usize) {
+            own.progress = progress;
         }
     }
 

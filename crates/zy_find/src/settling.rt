@@ -41,17 +41,43 @@ pub(crate) fn settle(
     left: usize,
 ) -> Result<Settled, NoMemory> {
     let ranks = ranks_of(alloc, given, pass)?;
-    let lists = lists_of(alloc, given, pass)?;
+    match lists_of(alloc, given, pass) {
+        Ok(lists) => {
+            let settled = settle_with(alloc, given, pass, &lists, &ranks, most, left);
+            drop(lists);
+            drop(ranks);
+            settled
+        }
+        Err(refused) => {
+            drop(ranks);
+            Err(refused)
+        }
+    }
+}
+
+// The same, with the calls of the keys and the ranks of all calls.
+fn settle_with(
+    alloc: Global,
+    given: Given<'_>,
+    pass: &Pass,
+    lists: &KeyLists,
+    ranks: &[u32],
+    most: usize,
+    left: usize,
+) -> Result<Settled, NoMemory> {
     let mut settled = Settled {
         pieces: Vec::new(alloc),
         amiss: Vec::new(alloc),
         tried: Vec::new(alloc),
         left,
     };
-    settled.add_all(alloc, given, pass, &lists, &ranks, most)?;
-    drop(lists);
-    drop(ranks);
-    Ok(settled)
+    match settled.add_all(alloc, given, pass, lists, ranks, most) {
+        Ok(()) => Ok(settled),
+        Err(refused) => {
+            drop(settled);
+            Err(refused)
+        }
+    }
 }
 
 impl Settled {
@@ -90,22 +116,27 @@ impl Settled {
         most: usize,
     ) -> Result<(), NoMemory> {
         let mut until = Vec::from_elem(alloc, 0u64, lists.lists.len())?;
+        let mut added = Ok(());
         for failure in &pass.failures {
+            let Some(open) = open_at(pass, lists, ranks, *failure) else {
+                continue;
+            };
             let place = at(lists.places.as_slice(), failure.key);
-            let sent = sent_at(given, failure.call);
-            if MOST_AMISS <= self.amiss.len() || sent < time_at(until.as_slice(), place) {
+            let settled = time_at(until.as_slice(), place);
+            if added.is_err() || sent_at(given, failure.call) < settled {
                 continue;
             }
-            if let Some(open) = open_at(pass, lists, ranks, *failure) {
-                self.tried.push(failure.call as usize)?;
-                let ordered = self.add(alloc, given, open, most)?;
-                if let Some(own) = until.get_mut(place as usize) {
-                    *own = ordered;
+            match self.add(alloc, given, open, most) {
+                Ok(moment) => {
+                    if let Some(own) = until.get_mut(place as usize) {
+                        *own = moment;
+                    }
                 }
+                Err(refused) => added = Err(refused),
             }
         }
         drop(until);
-        Ok(())
+        added
     }
 
     // Looks for an order of the calls around a failure; returns the moment up to which it is settled.
@@ -116,6 +147,10 @@ impl Settled {
         open: Open<'_>,
         most: usize,
     ) -> Result<u64, NoMemory> {
+        if MOST_AMISS <= self.amiss.len() {
+            return Ok(u64::MAX);
+        }
+        self.tried.push(open.failure.call as usize)?;
         let first = given.learned.failures(open.failure.call).min(LEVELS);
         for level in first..LEVELS {
             if self.left == 0 {

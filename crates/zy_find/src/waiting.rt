@@ -6,7 +6,7 @@ use mc_allows::Shown;
 use zy_base::NoMemory;
 use zy_refute::Observed;
 use zy_search::{Sight, decide_after, held_after};
-use zy_sources::{NONE, are_of_one_session, at, changes, time_at};
+use zy_sources::{NONE, are_of_one_session, changes, time_at};
 
 // How many calls of a session are made early for a later one, at most.
 const MOST_BEFORE: usize = 16;
@@ -39,7 +39,7 @@ impl Pass {
                     return Ok(Some(other));
                 }
             }
-            other = at(self.next.as_slice(), other);
+            other = self.after(other);
         }
         Ok(None)
     }
@@ -189,7 +189,7 @@ impl Pass {
                     least = due.saturating_sub(1);
                 }
             }
-            other = at(self.next.as_slice(), other);
+            other = self.after(other);
         }
         Ok(first)
     }
