@@ -34,7 +34,10 @@ impl Pass {
         }
         let learned = given.learned.before(call);
         if !self.is_made(learned) {
-            return Ok(self.must(given, learned));
+            let must = self.must(given, learned);
+            if one.call.key().is_some() || matches!(must, Before::Call(_)) {
+                return Ok(must);
+            }
         }
         let key = given.key_of(call);
         if key == NONE {

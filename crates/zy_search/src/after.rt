@@ -24,7 +24,7 @@ pub fn held_after(
         Change::Finds => found(alloc),
         Change::Stores => brought(&one.call, place)?,
         Change::Joins => joined(alloc, sight, &one.call, place)?,
-        Change::Counts { number, padded } => counted(alloc, sight, number, padded, place)?,
+        Change::Counts { number, length } => counted(alloc, sight, number, length, place)?,
         Change::Doubts => match sight {
             Sight::Item(known) => known.with_doubt(Some(place))?,
             _ => return Ok(None),
@@ -129,20 +129,20 @@ fn opened(sight: Sight<'_>, call: &Call, value: Blob, place: usize) -> Held {
     held
 }
 
-// The item with this number, perhaps with spaces behind it up to the length that it had.
+// The item with this number, and with spaces after it up to this length.
 fn counted(
     alloc: Global,
     sight: Sight<'_>,
     number: u64,
-    padded: bool,
+    length: usize,
     place: usize,
 ) -> Result<Held, NoMemory> {
-    let (flags, length) = match sight {
-        Sight::Item(known) => (known.flags, known.value.bytes().len()),
-        _ => (0, 0),
+    let flags = match sight {
+        Sight::Item(known) => known.flags,
+        _ => 0,
     };
     let mut value = Blob::new(alloc);
-    match write_counted(&mut value, number, if padded { length } else { 0 }) {
+    match write_counted(&mut value, number, length) {
         Ok(digits) => {
             let mut held = stored(flags, value, place);
             if let Held::Item(known) = &mut held {

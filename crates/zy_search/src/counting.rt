@@ -51,19 +51,30 @@ pub(crate) fn counted(sight: Sight<'_>, shown: &Shown, count: Count) -> Option<D
 fn counted_number(known: &Known, shown: &Shown, number: u64) -> Option<Decided> {
     let value = known.value.bytes();
     if is_silent(shown) || number_shown(shown) == Some(number) {
-        let padded = digits_of(number) < value.len();
-        let change = Change::Counts { number, padded };
-        let choice = if padded {
-            Choice::Padded
-        } else {
-            Choice::Plain
-        };
-        return Some(Decided::chosen(change, choice));
+        return Some(padded(number, value.len()));
     }
     if shows(shown, Word::NotNumber) && may_be_none(value) {
         return Some(Decided::chosen(Change::Keeps, Choice::NoNumber));
     }
     None
+}
+
+// The value is this number; it had this length before.
+fn padded(number: u64, length: usize) -> Decided {
+    let choice = if digits_of(number) < length {
+        Choice::Padded
+    } else {
+        Choice::Plain
+    };
+    Decided::chosen(Change::Counts { number, length }, choice)
+}
+
+// The value is this number; a first item had the other one.
+fn counted_from(number: u64, first: u64) -> Decided {
+    Decided {
+        first: First::Number(first),
+        ..padded(number, digits_of(first))
+    }
 }
 
 // Checks whether a server may read no number in a value that is one.
@@ -83,13 +94,9 @@ fn counted_otherwise(known: &Known, shown: &Shown, count: Count) -> Option<Decid
         return None;
     };
     let read = count.before(number);
-    let change = Change::Counts {
-        number,
-        padded: false,
-    };
     if known.open.is_some() {
         return if known.value.bytes().is_empty() {
-            Some(Decided::first(change, First::Number(read)))
+            Some(counted_from(number, read))
         } else {
             None
         };
@@ -97,19 +104,14 @@ fn counted_otherwise(known: &Known, shown: &Shown, count: Count) -> Option<Decid
     if count.of(read) != number || !may_read(known.value.bytes(), read) {
         return None;
     }
+    let change = Change::Counts { number, length: 0 };
     Some(Decided::chosen(change, Choice::Read(read)))
 }
 
 // A call counts at a key of which nothing is known: the flags are not known then.
 fn counted_first(shown: &Shown, count: Count) -> Option<Decided> {
     match number_shown(shown) {
-        Some(number) => {
-            let change = Change::Counts {
-                number,
-                padded: false,
-            };
-            Some(Decided::first(change, First::Number(count.before(number))))
-        }
+        Some(number) => Some(counted_from(number, count.before(number))),
         None if shows(shown, Word::NotNumber) => Some(Decided {
             choice: Choice::NoNumber,
             ..Decided::first(Change::Finds, First::Some)

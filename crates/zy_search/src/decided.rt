@@ -20,8 +20,8 @@ pub enum Change {
     Stores,
     /// The call's piece is joined to the value.
     Joins,
-    /// The value is this number, perhaps with spaces behind it.
-    Counts { number: u64, padded: bool },
+    /// The value is this number, with spaces behind it up to this length.
+    Counts { number: u64, length: usize },
 }
 
 /// What is known of an item that was there at first.

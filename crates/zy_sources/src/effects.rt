@@ -68,6 +68,9 @@ pub fn left_by(one: &Observed, key: u32) -> Trace {
     if !changes(one) {
         return Trace::Nothing;
     }
+    if let Shown::Failure = one.shown {
+        return Trace::Hash(absence_hash(key));
+    }
     match &one.call {
         Call::Set { value, .. } | Call::Add { value, .. } | Call::Replace { value, .. } => {
             Trace::Hash(value_hash(key, value.bytes()))
