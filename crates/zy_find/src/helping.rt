@@ -3,7 +3,7 @@
 use crate::pass::{Given, Pass};
 use zy_base::NoMemory;
 use zy_refute::Observed;
-use zy_search::{Sight, fits_after, held_after};
+use zy_search::{Sight, decide_after, held_after};
 use zy_sources::changes;
 
 /// How many calls that wait at a key are looked at for one that comes before another.
@@ -63,14 +63,14 @@ impl Pass {
             Some(held) => held.sight(),
             None => own.held.sight(),
         };
-        let fits = fits_after(sight, one);
+        let fits = decide_after(sight, one).is_some();
         drop(after);
         Ok(fits)
     }
 
     // A flush that waits, after which the answer of a call can be so.
     fn helping_flush(&self, given: Given<'_>, shard: u32, one: &Observed) -> Option<u32> {
-        if !fits_after(Sight::Nothing, one) {
+        if decide_after(Sight::Nothing, one).is_none() {
             return None;
         }
         let flushes = given.links.sorted.flushes.as_slice();

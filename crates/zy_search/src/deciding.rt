@@ -57,8 +57,3 @@ pub fn decide_after(sight: Sight<'_>, one: &Observed) -> Option<Decided> {
         Call::Tally => Some(Decided::plain(Change::Keeps)),
     }
 }
-
-/// Checks whether the answer of a call can be so at a key that has this, if nothing is lost.
-pub fn fits_after(sight: Sight<'_>, one: &Observed) -> bool {
-    decide_after(sight, one).is_some()
-}

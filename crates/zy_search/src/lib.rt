@@ -3,7 +3,6 @@
 #![tactic(auto)]
 
 mod after;
-mod chain;
 mod counting;
 mod decided;
 mod deciding;
@@ -18,7 +17,7 @@ mod words;
 
 pub use after::held_after;
 pub use decided::{Change, Decided, First, Unique};
-pub use deciding::{decide, decide_after, fits_after};
+pub use deciding::{decide, decide_after};
 pub use first::{FirstItem, first_item};
 pub use held::{AT_FIRST, Held, Known, Sight};
 pub use searching::{Listed, look_for};

@@ -1,14 +1,13 @@
 //! A search through the calls at a key: which are made, and what the key has.
 
 use crate::after::held_after;
-use crate::chain::Chain;
 use crate::decided::Decided;
 use crate::held::Held;
 use crate::needs::Needs;
 use crate::searching::Listed;
 use std::alloc::Global;
 use zy_base::NoMemory;
-use zy_sources::{NONE, at, put, small};
+use zy_sources::{Chain, NONE, at, put, small};
 
 // A unique that a made call showed, and what was noted of it before.
 #[derive(Clone, Copy)]

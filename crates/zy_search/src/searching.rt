@@ -182,7 +182,9 @@ impl Search {
                 && until <= time_at(listed.calls.links.times.since.as_slice(), call);
             if !late && !self.is_blocked(offset) {
                 looked.best = better(looked.best, self.chance(listed, offset, one, from));
-                if is_only(looked.best) {
+                if let Some(best) = looked.best
+                    && best.only
+                {
                     break;
                 }
             }
@@ -243,14 +245,6 @@ impl Search {
             },
             _ => true,
         }
-    }
-}
-
-// Checks whether a call is chosen beside which no other is worth trying.
-fn is_only(best: Option<Chosen>) -> bool {
-    match best {
-        Some(chosen) => chosen.only,
-        None => false,
     }
 }
 

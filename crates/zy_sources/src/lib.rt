@@ -2,11 +2,13 @@
 //! promised of it: it only leads a search for an order.
 #![tactic(auto)]
 
+mod chain;
 mod effects;
 mod floors;
 mod hashing;
 mod keys;
 mod links;
+mod looked;
 mod numbers;
 mod overs;
 mod reach;
@@ -15,6 +17,7 @@ mod sorted;
 mod sources;
 mod table;
 
+pub use chain::Chain;
 pub use effects::{changes, expected, found_another};
 pub use hashing::{mixed, unique_hash};
 pub use keys::Keys;

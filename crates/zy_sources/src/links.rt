@@ -3,12 +3,13 @@
 use crate::effects::found_another;
 use crate::floors::floors_of;
 use crate::keys::{Keys, keys_of};
+use crate::looked::Looked;
 use crate::numbers::{NONE, at, small, time_at};
 use crate::overs::{Overs, overs_of};
 use crate::reach::{Reached, Times, times_of};
 use crate::sessions::are_of_one_session;
 use crate::sorted::{Sorted, sorted_of};
-use crate::sources::{Looked, sources_of};
+use crate::sources::sources_of;
 use std::alloc::Global;
 use std::collections::BTreeSet;
 use zy_base::{Blob, NoMemory};

@@ -5,7 +5,7 @@ use crate::effects::{
     needed_by, needs_absence,
 };
 use crate::hashing::{unique_hash, unknown_hash, value_hash};
-use crate::keys::Keys;
+use crate::looked::{Found, Looked, Reader};
 use crate::numbers::{NONE, at, put, small, time_at};
 use crate::sessions::end_of;
 use crate::table::Table;
@@ -18,36 +18,6 @@ const SEVERAL: u32 = NONE - 1;
 
 // How many calls that made the same are looked at for each that found it.
 const MOST: usize = 64;
-
-/// What sources are looked for in.
-#[derive(Clone, Copy)]
-pub(crate) struct Looked<'a> {
-    pub(crate) observed: &'a [Observed],
-    pub(crate) keys: &'a Keys,
-    pub(crate) floors: &'a [u64],
-    pub(crate) by_end: &'a [u32],
-    pub(crate) by_sent: &'a [u32],
-    /// Items may be there at first.
-    pub(crate) warm: bool,
-    /// There are flushes, by which items may go without a call at their key.
-    pub(crate) flushed: bool,
-}
-
-impl Looked<'_> {
-    // The number of a call's key, or `NONE`.
-    fn key_of(self, call: u32) -> u32 {
-        at(self.keys.of.as_slice(), call)
-    }
-
-    // Checks whether the item of a key may go without a call at the key.
-    fn may_go(self, key: u32) -> bool {
-        let forgets = match self.keys.forget.get(key as usize) {
-            Some(forgets) => *forgets,
-            None => true,
-        };
-        forgets || self.flushed
-    }
-}
 
 // The calls that made each thing.
 #[derive(Drop)]
@@ -301,29 +271,5 @@ impl Made {
             maker = at(self.before.as_slice(), maker);
         }
         (only, count)
-    }
-}
-
-// What a call found.
-#[derive(Clone, Copy)]
-enum Found<'a> {
-    Value(&'a [u8]),
-    // A number, which its answer tells.
-    Number,
-    Absence,
-}
-
-// A call that found something: its floor and its end.
-#[derive(Clone, Copy)]
-struct Reader {
-    call: u32,
-    floor: u64,
-    end: u64,
-}
-
-impl Reader {
-    // Checks whether it can have found what a call made.
-    fn may_find(self, maker: u32, other: &Observed) -> bool {
-        maker != self.call && self.floor < end_of(other) && other.sent < self.end
     }
 }

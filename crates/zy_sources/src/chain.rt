@@ -1,8 +1,8 @@
 //! The calls of a list that are not made, as a chain.
 
+use crate::numbers::small;
 use std::alloc::Global;
 use zy_base::NoMemory;
-use zy_sources::small;
 
 // A call of the list, or the two ends of the chain.
 #[derive(Clone, Copy)]
@@ -21,13 +21,13 @@ const ALONE: Link = Link {
 /// The calls of a list that are not made, in the order of the list. The chain begins and ends at the length
 /// of the list.
 #[derive(Drop)]
-pub(crate) struct Chain {
+pub struct Chain {
     links: Vec<Link>,
 }
 
 impl Chain {
     /// Chains all calls of a list of this length. May answer `NoMemory`.
-    pub(crate) fn new(alloc: Global, count: usize) -> Result<Chain, NoMemory> {
+    pub fn new(alloc: Global, count: usize) -> Result<Chain, NoMemory> {
         let links = Vec::from_elem(alloc, ALONE, count.saturating_add(1))?;
         let mut chain = Chain { links };
         let mut last = small(count);
@@ -63,12 +63,12 @@ impl Chain {
     }
 
     /// Returns the call after a call; the length of the list is before the first, and after the last.
-    pub(crate) fn after(&self, offset: u32) -> u32 {
+    pub fn after(&self, offset: u32) -> u32 {
         self.link(offset).next
     }
 
     /// Checks whether a call is made; what is no call does not count.
-    pub(crate) fn is_open(&self, offset: u32) -> bool {
+    pub fn is_open(&self, offset: u32) -> bool {
         match self.links.get(offset as usize) {
             Some(link) => !link.made,
             None => false,
@@ -76,14 +76,14 @@ impl Chain {
     }
 
     /// Takes a call out.
-    pub(crate) fn take(&mut self, offset: u32) {
+    pub fn take(&mut self, offset: u32) {
         let Link { next, back, .. } = self.link(offset);
         self.join(back, next);
         self.set(offset, true);
     }
 
     /// Puts the call back that was taken out last.
-    pub(crate) fn put_back(&mut self, offset: u32) {
+    pub fn put_back(&mut self, offset: u32) {
         let Link { next, back, .. } = self.link(offset);
         self.join(back, offset);
         self.join(offset, next);
