@@ -6,6 +6,9 @@ use zy_refute::Observed;
 use zy_search::{Decided, FirstItem, Held, first_item, held_after};
 use zy_sources::{Keys, NONE, expected, found_another, mixed, unique_hash};
 
+// How many uniques are noted that an item does not have.
+const MOST_OTHERS: usize = 64;
+
 /// A key while calls are made.
 #[derive(Drop)]
 pub(crate) struct AtKey {
@@ -111,7 +114,8 @@ impl AtKey {
         if decided.stores() || (self.held.is_nothing() && !was_nothing) {
             self.maker = call;
             self.others.clear();
-        } else if found_another(one)
+        } else if self.others.len() < MOST_OTHERS
+            && found_another(one)
             && let Some(unique) = expected(one)
         {
             self.others.push(unique)?;

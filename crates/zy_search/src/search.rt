@@ -2,30 +2,50 @@
 
 use crate::after::held_after;
 use crate::decided::Decided;
-use crate::held::Held;
+use crate::held::{Held, Sight};
 use crate::needs::Needs;
 use crate::searching::Listed;
 use std::alloc::Global;
 use zy_base::NoMemory;
-use zy_sources::{Chain, NONE, at, put, small};
+use zy_sources::{Chain, NONE, at, expected, found_another, small};
+
+// What is noted of a unique: the number of calls that were made before an item was shown to have it, and
+// before one was shown not to have it, or `NONE`.
+#[derive(Clone, Copy)]
+struct Mark {
+    shown: u32,
+    denied: u32,
+}
+
+const NO_MARK: Mark = Mark {
+    shown: NONE,
+    denied: NONE,
+};
 
 // A unique that a made call showed, and what was noted of it before.
 #[derive(Clone, Copy)]
-struct Shown {
+struct Noted {
     number: u32,
-    before: u32,
+    before: Mark,
     made: u32,
+}
+
+// The offset of the call that made what the key has, and the number of calls that were made before it.
+#[derive(Clone, Copy)]
+struct Maker {
+    offset: u32,
+    since: u32,
 }
 
 /// What the made calls left.
 #[derive(Drop)]
 struct Trail {
-    /// What the key had before each of the made ones that changed it, and the offset of the call that made it.
+    /// What the key had before each of the made ones that changed it, and the call that made it.
     before: Vec<Option<Held>>,
-    makers: Vec<u32>,
-    /// The number of calls that were made before each unique was shown, or `NONE`.
-    shown_at: Vec<u32>,
-    shown: Vec<Shown>,
+    makers: Vec<Maker>,
+    /// What is noted of each unique, and what was noted before.
+    marks: Vec<Mark>,
+    noted: Vec<Noted>,
     /// The number of calls that were made before each loss.
     losses: Vec<u32>,
 }
@@ -36,6 +56,8 @@ pub(crate) struct Search {
     pub(crate) held: Held,
     /// The offset of the call that made what the key has; the length of the list is that of an earlier call.
     pub(crate) maker: u32,
+    /// The number of calls that were made before that one.
+    since: u32,
     /// The offsets of the made ones, in their order.
     pub(crate) order: Vec<u32>,
     trail: Trail,
@@ -50,8 +72,8 @@ impl Search {
     /// Begins before any call. May answer `NoMemory`.
     pub(crate) fn begin(alloc: Global, listed: Listed<'_>, kept: bool) -> Result<Search, NoMemory> {
         let needs = Needs::new(alloc, listed.calls, listed.list, listed.maker, kept)?;
-        let shown_at = match Vec::from_elem(alloc, NONE, needs.count_of_uniques()) {
-            Ok(shown_at) => shown_at,
+        let marks = match Vec::from_elem(alloc, NO_MARK, needs.count_of_uniques()) {
+            Ok(marks) => marks,
             Err(_) => {
                 drop(needs);
                 return Err(NoMemory);
@@ -60,8 +82,8 @@ impl Search {
         let trail = Trail {
             before: Vec::new(alloc),
             makers: Vec::new(alloc),
-            shown_at,
-            shown: Vec::new(alloc),
+            marks,
+            noted: Vec::new(alloc),
             losses: Vec::new(alloc),
         };
         Search::from_parts(alloc, listed, kept, needs, trail)
@@ -79,6 +101,7 @@ impl Search {
             (Ok(held), Ok(chain)) => Ok(Search {
                 held,
                 maker: small(listed.list.len()),
+                since: 0,
                 order: Vec::new(alloc),
                 trail,
                 chain,
@@ -101,14 +124,15 @@ impl Search {
         self.chain.is_open(self.needs.prior_of(offset))
     }
 
-    /// Checks whether another item was shown to have a unique, since the last loss.
-    pub(crate) fn is_shown(&self, unique: u64) -> bool {
+    /// Checks whether another item was shown to have a unique since the last loss, or this item not to have it.
+    pub(crate) fn is_taken(&self, unique: u64) -> bool {
         let since = match self.trail.losses.last() {
             Some(made) => *made,
             None => 0,
         };
-        let known = at(self.trail.shown_at.as_slice(), self.needs.number_of(unique));
-        known != NONE && since <= known
+        let mark = self.trail.mark(self.needs.number_of(unique));
+        (mark.shown != NONE && since <= mark.shown)
+            || (mark.denied != NONE && self.since <= mark.denied)
     }
 
     /// Makes a call. May answer `NoMemory`.
@@ -119,10 +143,14 @@ impl Search {
         offset: u32,
         decided: Decided,
     ) -> Result<(), NoMemory> {
-        self.trail.makers.push(self.maker)?;
-        self.note(decided)?;
+        self.trail.makers.push(Maker {
+            offset: self.maker,
+            since: self.since,
+        })?;
+        self.note(listed, offset, decided)?;
         if !decided.keeps(self.held.sight()) {
             self.maker = offset;
+            self.since = small(self.order.len());
         }
         self.change(alloc, listed, offset, decided)?;
         self.order.push(offset)?;
@@ -155,22 +183,48 @@ impl Search {
     }
 
     // Notes what a call shows.
-    fn note(&mut self, decided: Decided) -> Result<(), NoMemory> {
+    fn note(&mut self, listed: Listed<'_>, offset: u32, decided: Decided) -> Result<(), NoMemory> {
         let made = small(self.order.len());
         if decided.lost {
             self.trail.losses.push(made)?;
         }
-        if let Some(shown) = decided.shown {
-            let number = self.needs.number_of(shown.unique);
-            let before = at(self.trail.shown_at.as_slice(), number);
-            self.trail.shown.push(Shown {
-                number,
-                before,
-                made,
-            })?;
-            put(self.trail.shown_at.as_mut_slice(), number, made);
+        let denied = self.denied(listed, offset);
+        let unique = match decided.shown {
+            Some(shown) => Some(shown.unique),
+            None => denied,
+        };
+        let Some(unique) = unique else {
+            return Ok(());
+        };
+        let number = self.needs.number_of(unique);
+        let before = self.trail.mark(number);
+        self.trail.noted.push(Noted {
+            number,
+            before,
+            made,
+        })?;
+        if let Some(own) = self.trail.marks.get_mut(number as usize) {
+            if denied.is_some() {
+                own.denied = made;
+            } else {
+                own.shown = made;
+            }
         }
         Ok(())
+    }
+
+    /// Returns the unique that a call says that the item does not have, if the item's is not known, and a call
+    /// that found it is not made.
+    pub(crate) fn denied(&self, listed: Listed<'_>, offset: u32) -> Option<u64> {
+        match (listed.calls.get(at(listed.list, offset)), self.held.sight()) {
+            (Some(one), Sight::Item(known)) if known.unique.is_none() && found_another(one) => {
+                match expected(one) {
+                    Some(unique) if !self.needs.may_leave(unique, offset) => Some(unique),
+                    _ => None,
+                }
+            }
+            _ => None,
+        }
     }
 
     /// Takes calls back, until this number is left.
@@ -192,7 +246,8 @@ impl Search {
             other => drop(other),
         }
         if let Some(maker) = self.trail.makers.pop() {
-            self.maker = maker;
+            self.maker = maker.offset;
+            self.since = maker.since;
         }
         self.trail.forget(small(self.order.len()));
         self.needs.miss(offset);
@@ -201,13 +256,23 @@ impl Search {
 }
 
 impl Trail {
+    // What is noted of a unique.
+    fn mark(&self, number: u32) -> Mark {
+        match self.marks.get(number as usize) {
+            Some(mark) => *mark,
+            None => NO_MARK,
+        }
+    }
+
     // Nothing is noted of the call that was made after this number of others.
     fn forget(&mut self, made: u32) {
-        if let Some(shown) = self.shown.last().copied()
-            && shown.made == made
+        if let Some(noted) = self.noted.last().copied()
+            && noted.made == made
         {
-            put(self.shown_at.as_mut_slice(), shown.number, shown.before);
-            let _ = self.shown.pop();
+            if let Some(own) = self.marks.get_mut(noted.number as usize) {
+                *own = noted.before;
+            }
+            let _ = self.noted.pop();
         }
         if let Some(last) = self.losses.last().copied()
             && last == made

@@ -212,7 +212,10 @@ impl Search {
         let Some(decided) = decide(self.held.sight(), one, true, listed.forget) else {
             return None;
         };
-        let only = !changing && decided.is_quiet() && !decided.tells(self.held.sight());
+        let only = !changing
+            && decided.is_quiet()
+            && !decided.tells(self.held.sight())
+            && self.denied(listed, offset).is_none();
         if (!only && rank < from) || !self.may_be(offset, decided) {
             return None;
         }
@@ -227,7 +230,7 @@ impl Search {
     // Checks whether nothing that is known forbids what was decided of a call.
     fn may_be(&self, offset: u32, decided: Decided) -> bool {
         let twice = match decided.shown {
-            Some(shown) => !decided.lost && self.is_shown(shown.unique),
+            Some(shown) => !decided.lost && self.is_taken(shown.unique),
             None => false,
         };
         if decided.keeps(self.held.sight()) {
