@@ -27,14 +27,17 @@ pub fn first_item(
 ) -> Result<Option<FirstItem>, NoMemory> {
     match first {
         First::Unsaid => Ok(None),
-        First::Some => made(0, Blob::copy_of(alloc, &UNSEEN)?),
+        First::Some => Ok(Some(FirstItem {
+            flags: 0,
+            value: Blob::copy_of(alloc, &UNSEEN)?,
+        })),
         First::Number(number) => numbered(alloc, number),
         First::Shown => match glimpse_of(&one.shown) {
             Some(glimpse) => match glimpse.value {
-                Some(value) => made(
-                    glimpse.flags.unwrap_or(0),
-                    Blob::copy_of(alloc, inner(sight, value.bytes()))?,
-                ),
+                Some(value) => Ok(Some(FirstItem {
+                    flags: glimpse.flags.unwrap_or(0),
+                    value: Blob::copy_of(alloc, inner(sight, value.bytes()))?,
+                })),
                 None => Ok(None),
             },
             None => Ok(None),
@@ -42,15 +45,11 @@ pub fn first_item(
     }
 }
 
-fn made(flags: u32, value: Blob) -> Result<Option<FirstItem>, NoMemory> {
-    Ok(Some(FirstItem { flags, value }))
-}
-
 // An item whose value is a number.
 fn numbered(alloc: Global, number: u64) -> Result<Option<FirstItem>, NoMemory> {
     let mut value = Blob::new(alloc);
     match number_text(&mut value, number) {
-        Ok(()) => made(0, value),
+        Ok(()) => Ok(Some(FirstItem { flags: 0, value })),
         Err(refused) => {
             drop(value);
             Err(refused)

@@ -8,7 +8,7 @@ use crate::search::Search;
 use std::alloc::Global;
 use zy_base::NoMemory;
 use zy_refute::Observed;
-use zy_sources::{Calls, at, changes, end_of, small, time_at};
+use zy_sources::{Calls, at, changes, end_of, small};
 
 /// The calls at a key, by their sendings, and for each call of the recording its rank: of two that can be
 /// next, the one with the lower rank is tried first.
@@ -177,9 +177,12 @@ impl Search {
                 break;
             }
             looked.count = looked.count.saturating_add(1);
-            until = until.min(self.due(listed, call, one));
-            let late = self.kept
-                && until <= time_at(listed.calls.links.times.since.as_slice(), call);
+            until = until.min(if self.kept {
+                listed.calls.due(call)
+            } else {
+                end_of(one)
+            });
+            let late = self.kept && until <= listed.calls.since(call);
             if !late && !self.is_blocked(offset) {
                 looked.best = better(looked.best, self.chance(listed, offset, one, from));
                 if let Some(best) = looked.best
@@ -191,15 +194,6 @@ impl Search {
             offset = self.chain.after(offset);
         }
         looked
-    }
-
-    // The moment before which a call must be made.
-    fn due(&self, listed: Listed<'_>, call: u32, one: &Observed) -> u64 {
-        if self.kept {
-            time_at(listed.calls.links.times.due.as_slice(), call)
-        } else {
-            end_of(one)
-        }
     }
 
     // A call as the next one, if it can be.
