@@ -38,7 +38,7 @@ impl Pass {
             other = self.after(other);
         }
         if best.is_none() {
-            best = self.helping_flush(given, own.shard, wanting);
+            best = self.helping_flush(given, call, own.shard, wanting);
         }
         Ok(best)
     }
@@ -69,7 +69,13 @@ impl Pass {
     }
 
     // A flush that waits, after which the answer of a call can be so.
-    fn helping_flush(&self, given: Given<'_>, shard: u32, one: &Observed) -> Option<u32> {
+    fn helping_flush(
+        &self,
+        given: Given<'_>,
+        call: u32,
+        shard: u32,
+        one: &Observed,
+    ) -> Option<u32> {
         if decide_after(Sight::Nothing, one).is_none() {
             return None;
         }
@@ -82,7 +88,7 @@ impl Pass {
             if self.now <= other.sent {
                 break;
             }
-            if other.shard == shard && self.waits(flush) {
+            if other.shard == shard && self.may_precede(given, flush, call) {
                 return Some(flush);
             }
         }
