@@ -11,9 +11,14 @@ fn recorded(conn: u32, did: Did, sent: u64, ended: u64) -> Recorded {
     }
 }
 
-// Checks whether this order of connections is found.
+// Checks whether this order of connections is found, from an empty store.
 fn is_found(alloc: Global, calls: &[Recorded], wanted: &[u32]) -> bool {
-    match found_in(alloc, calls) {
+    is_found_from(alloc, false, calls, wanted)
+}
+
+// Checks whether this order of connections is found; if `warm`, the key may have an item at first.
+fn is_found_from(alloc: Global, warm: bool, calls: &[Recorded], wanted: &[u32]) -> bool {
+    match found_in(alloc, warm, calls) {
         Ok(Some(conns)) => {
             let same = conns.as_slice() == wanted;
             drop(conns);
@@ -92,5 +97,27 @@ fn a_stale_read_has_no_order(rt: HostRuntime) {
         recorded(1, Did::Set(b'b'), 4, 6),
         recorded(2, Did::Got(b'a'), 7, 9),
     ];
-    assert!(rt; matches!(found_in(rt.alloc(), &calls), Ok(None)));
+    assert!(rt; matches!(found_in(rt.alloc(), false, &calls), Ok(None)));
+}
+
+#[test]
+fn an_append_that_failed_leaves_the_item_or_takes_it_away(rt: HostRuntime) {
+    let calls = [
+        recorded(0, Did::Set(b'a'), 1, 3),
+        recorded(1, Did::Failed(b'b'), 4, 6),
+        recorded(2, Did::Missed, 7, 9),
+    ];
+    assert!(rt; is_found(rt.alloc(), &calls, &[0, 1, 2]));
+}
+
+#[test]
+fn a_first_item_is_what_remains_of_a_joined_value(rt: HostRuntime) {
+    let calls = [
+        recorded(0, Did::Appended(b'a'), 1, 3),
+        recorded(1, Did::Got(b'a'), 4, 6),
+        recorded(2, Did::Got(b'b'), 7, 9),
+        recorded(3, Did::Set(b'b'), 5, 8),
+    ];
+    assert!(rt; is_found_from(rt.alloc(), true, &calls, &[0, 1, 3, 2]));
+    assert!(rt; matches!(found_in(rt.alloc(), false, &calls), Ok(None)));
 }

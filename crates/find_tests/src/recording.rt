@@ -21,6 +21,10 @@ pub(crate) enum Did {
     NotAdded(u8),
     /// A deletion of an item.
     Deleted,
+    /// An append of this value.
+    Appended(u8),
+    /// An append of this value that failed.
+    Failed(u8),
 }
 
 /// A call of a connection: what it does, and the moments of its sending and its end.
@@ -63,6 +67,13 @@ fn call_of(alloc: Global, did: Did) -> Result<Call, NoMemory> {
                 Err(refused)
             }
         },
+        Did::Appended(value) | Did::Failed(value) => match byte(alloc, value) {
+            Ok(value) => Ok(Call::Append { key, value }),
+            Err(refused) => {
+                drop(key);
+                Err(refused)
+            }
+        },
     }
 }
 
@@ -74,7 +85,8 @@ fn shown_of(alloc: Global, did: Did) -> Result<Shown, NoMemory> {
             value: byte(alloc, value)?,
         },
         Did::Missed => CallReply::Miss,
-        Did::Set(_) => CallReply::Stored,
+        Did::Set(_) | Did::Appended(_) => CallReply::Stored,
+        Did::Failed(_) => return Ok(Shown::Failure),
         Did::NotAdded(_) => CallReply::NotStored,
         Did::Deleted => CallReply::Deleted,
     };
@@ -110,14 +122,19 @@ fn conn_of(placement: &Placement) -> u32 {
     placement.name.conn
 }
 
-/// Returns the connections of the calls in the order that is found; none if none is.
-pub(crate) fn found_in(alloc: Global, recorded: &[Recorded]) -> Result<Option<Vec<u32>>, NoMemory> {
+/// Returns the connections of the calls in the order that is found; none if none is. If `warm`, the key may
+/// have an item at first.
+pub(crate) fn found_in(
+    alloc: Global,
+    warm: bool,
+    recorded: &[Recorded],
+) -> Result<Option<Vec<u32>>, NoMemory> {
     let mut calls = Vec::new(alloc);
     for one in recorded {
         calls.push(observed(alloc, *one)?)?;
     }
     let rules = Rules {
-        warm: false,
+        warm,
         forget: false,
     };
     let lasting = BTreeSet::new(alloc);

@@ -1,13 +1,13 @@
 //! A key while calls are made.
 
-use crate::deciding::First;
-use crate::held::Held;
-use crate::order::Rules;
-use crate::small::NONE;
 use std::alloc::Global;
-use std::collections::BTreeSet;
-use zy_base::{Blob, NoMemory};
+use zy_base::NoMemory;
 use zy_refute::Observed;
+use zy_search::{Decided, FirstItem, Held, first_item, held_after};
+use zy_sources::{Keys, NONE, expected, found_another, mixed, unique_hash};
+
+// How many uniques are noted that an item does not have.
+const MOST_OTHERS: usize = 64;
 
 /// A key while calls are made.
 #[derive(Drop)]
@@ -23,45 +23,119 @@ pub(crate) struct AtKey {
     pub(crate) head: u32,
     pub(crate) tail: u32,
     pub(crate) shard: u32,
-    /// What may happen at the key.
-    pub(crate) rules: Rules,
+    /// Its item may be lost between any two calls.
+    pub(crate) forget: bool,
+    /// The number of losses.
+    losses: u32,
     /// The item that was there at first, if a call told, and its unique.
-    pub(crate) first: Option<First>,
+    pub(crate) first: Option<FirstItem>,
     pub(crate) unique: Option<u64>,
 }
 
-/// All keys, before any call.
+/// Returns all keys, before any call. May answer `NoMemory`.
 pub(crate) fn keys_at_first(
     alloc: Global,
-    rules: Rules,
-    lasting: &BTreeSet<Blob>,
+    warm: bool,
     observed: &[Observed],
-    first: &[u32],
+    known: &Keys,
 ) -> Result<Vec<AtKey>, NoMemory> {
-    let mut keys = Vec::with_capacity(alloc, first.len())?;
-    for call in first {
-        let Some(one) = observed.get(*call as usize) else {
-            continue;
+    let mut keys = Vec::new(alloc);
+    match add_keys(alloc, warm, observed, known, &mut keys) {
+        Ok(()) => Ok(keys),
+        Err(refused) => {
+            drop(keys);
+            Err(refused)
+        }
+    }
+}
+
+fn add_keys(
+    alloc: Global,
+    warm: bool,
+    observed: &[Observed],
+    known: &Keys,
+    keys: &mut Vec<AtKey>,
+) -> Result<(), NoMemory> {
+    for number in 0..known.first.len() {
+        let call = known.first[number];
+        let shard = match observed.get(call as usize) {
+            Some(one) => one.shard,
+            None => NONE,
         };
-        let lasts = match one.call.key() {
-            Some(key) => lasting.contains(key),
+        let forget = match known.forget.get(number) {
+            Some(forget) => *forget,
             None => false,
         };
-        keys.push(AtKey {
-            call: *call,
-            held: if rules.warm { Held::Any } else { Held::Nothing },
-            maker: NONE,
-            others: Vec::new(alloc),
-            head: NONE,
-            tail: NONE,
-            shard: one.shard,
-            rules: Rules {
-                warm: rules.warm,
-                forget: rules.forget || lasts,
-            },
-            first: None,
-            unique: None,
-        })?;
+        keys.push(at_first(alloc, warm, call, shard, forget))?;
     }
-    Ok(keys)
+    Ok(())
+}
+
+// A key before any call.
+fn at_first(alloc: Global, warm: bool, call: u32, shard: u32, forget: bool) -> AtKey {
+    AtKey {
+        call,
+        held: Held::at_first(warm),
+        maker: NONE,
+        others: Vec::new(alloc),
+        head: NONE,
+        tail: NONE,
+        shard,
+        forget,
+        losses: 0,
+        first: None,
+        unique: None,
+    }
+}
+
+impl AtKey {
+    // The hash of a unique of the key, since its last loss.
+    pub(crate) fn unique_hash(&self, key: u32, unique: u64) -> u64 {
+        mixed(unique_hash(key, unique), self.losses as u64)
+    }
+
+    // Makes a call, at this offset of the order.
+    pub(crate) fn take(
+        &mut self,
+        alloc: Global,
+        call: u32,
+        one: &Observed,
+        decided: Decided,
+        place: usize,
+    ) -> Result<(), NoMemory> {
+        self.begin_with(first_item(alloc, self.held.sight(), one, decided.first)?);
+        let was_nothing = self.held.is_nothing();
+        if let Some(held) = held_after(alloc, self.held.sight(), one, decided, place)? {
+            drop(std::mem::replace(&mut self.held, held));
+        }
+        if decided.lost {
+            self.losses = self.losses.saturating_add(1);
+        }
+        if decided.stores() || (self.held.is_nothing() && !was_nothing) {
+            self.maker = call;
+            self.others.clear();
+        } else if self.others.len() < MOST_OTHERS
+            && found_another(one)
+            && let Some(unique) = expected(one)
+        {
+            self.others.push(unique)?;
+        }
+        Ok(())
+    }
+
+    // Notes the item that was there at first, if a call tells.
+    fn begin_with(&mut self, first: Option<FirstItem>) {
+        if first.is_some() {
+            drop(std::mem::replace(&mut self.first, first));
+        } else {
+            drop(first);
+        }
+    }
+
+    // Says that the key has this, whoever made it.
+    pub(crate) fn hold(&mut self, held: Held) {
+        drop(std::mem::replace(&mut self.held, held));
+        self.maker = NONE;
+        self.others.clear();
+    }
 }

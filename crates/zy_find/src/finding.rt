@@ -1,26 +1,42 @@
 //! Looking for an order of all calls.
 
 use crate::at_key::AtKey;
-use crate::deciding::First;
 use crate::learned::Learned;
-use crate::links::links_of;
 use crate::order::{Began, Found, Rules};
 use crate::pass::{Given, Pass};
 use crate::settling::{Settled, settle};
-use crate::small::small;
 use mc_calls::Item;
 use std::alloc::Global;
 use std::collections::BTreeSet;
 use zy_base::{Blob, NoMemory};
 use zy_refute::Observed;
+use zy_search::FirstItem;
+use zy_sources::{Links, links_of};
 use zy_verdict::Order;
 
-// How often all calls are gone through.
+// How often all calls are made.
 const ROUNDS: usize = 12;
 
+// How many calls are looked at in a search, for each call that is recorded, and besides.
+const MOST_LOOKED: usize = 32;
+
+const SOME_LOOKED: usize = 1 << 22;
+
+// How many calls are looked at for a step.
+const LOOKED_PER_STEP: usize = 8;
+
+// What a pass comes to.
+#[derive(Drop)]
+enum Passed {
+    /// This was found.
+    Found(Found),
+    /// It failed, and this was settled.
+    Settled(Settled),
+}
+
 /// Looks for an order of the calls of a recording. The calls of each session stand together, in their
-/// order. The items of the keys in `lasting` may be lost whatever the rules say. At most `most` steps
-/// are taken at a key for each of its calls. May answer `NoMemory`.
+/// order. The items of the keys in `lasting` may be lost whatever the rules say. At most `most` steps are
+/// taken at a key for each of its calls. May answer `NoMemory`.
 pub fn find(
     alloc: Global,
     rules: Rules,
@@ -28,109 +44,144 @@ pub fn find(
     observed: &[Observed],
     most: usize,
 ) -> Result<Found, NoMemory> {
-    let links = links_of(alloc, rules, observed)?;
+    let links = links_of(alloc, rules.warm, rules.forget, lasting, observed)?;
+    let found = find_with(alloc, rules.warm, observed, &links, most);
+    drop(links);
+    found
+}
+
+// Looks for an order with what is known of the calls.
+fn find_with(
+    alloc: Global,
+    warm: bool,
+    observed: &[Observed],
+    links: &Links,
+    most: usize,
+) -> Result<Found, NoMemory> {
     let mut learned = Learned::new(alloc, observed.len())?;
-    let mut found = Found::Nothing {
-        calls: Vec::new(alloc),
-    };
-    for _ in 0..ROUNDS {
+    let found = find_learning(alloc, warm, observed, links, &mut learned, most);
+    drop(learned);
+    found
+}
+
+// Makes all calls until no call fails or nothing new is learned.
+fn find_learning(
+    alloc: Global,
+    warm: bool,
+    observed: &[Observed],
+    links: &Links,
+    learned: &mut Learned,
+    most: usize,
+) -> Result<Found, NoMemory> {
+    let steps = most.saturating_mul(LOOKED_PER_STEP);
+    let mut left = SOME_LOOKED.saturating_add(observed.len().saturating_mul(MOST_LOOKED));
+    for round in 0..ROUNDS {
         let given = Given {
             observed,
-            links: &links,
-            learned: &learned,
+            links,
+            learned,
         };
-        let mut pass = Pass::new(alloc, rules, lasting, given)?;
-        pass.run(given)?;
-        if pass.failures.is_empty() {
-            drop(std::mem::replace(&mut found, pass.into_found(given)?));
-            break;
-        }
-        let settled = settle(alloc, given, &pass, most)?;
-        drop(pass);
-        let Settled {
-            pieces,
-            amiss,
-            tried,
-        } = settled;
-        for call in &tried {
-            learned.fail(small(*call));
-        }
-        for piece in &pieces {
-            learned.learn(observed, piece);
-        }
-        let ends = pieces.is_empty() || !amiss.is_empty();
-        drop(pieces);
-        let calls = if ends { amiss } else { tried };
-        drop(std::mem::replace(&mut found, Found::Nothing { calls }));
+        let settled = match pass_once(alloc, warm, given, steps, left)? {
+            Passed::Found(found) => return Ok(found),
+            Passed::Settled(settled) => settled,
+        };
+        left = settled.left;
+        let ends = settled.ends() || round + 1 == ROUNDS;
+        learned.learn_all(observed, &settled);
+        let calls = settled.into_calls();
         if ends {
-            break;
+            return Ok(Found::Nothing { calls });
+        }
+        drop(calls);
+    }
+    Ok(Found::Nothing {
+        calls: Vec::new(alloc),
+    })
+}
+
+// Makes all calls once. If some failed, the calls around them are settled.
+fn pass_once(
+    alloc: Global,
+    warm: bool,
+    given: Given<'_>,
+    steps: usize,
+    left: usize,
+) -> Result<Passed, NoMemory> {
+    let mut pass = Pass::new(alloc, warm, given)?;
+    match pass.run(given) {
+        Ok(()) if pass.failures.is_empty() => Ok(Passed::Found(pass.into_found(given)?)),
+        Ok(()) => {
+            let settled = settle(alloc, given, &pass, steps, left);
+            drop(pass);
+            Ok(Passed::Settled(settled?))
+        }
+        Err(refused) => {
+            drop(pass);
+            Err(refused)
         }
     }
-    drop(learned);
-    drop(links);
-    Ok(found)
 }
 
 impl Pass {
     // Returns the order, with the items that the store begins with.
     fn into_found(self, given: Given<'_>) -> Result<Found, NoMemory> {
-        let Pass {
-            alloc,
-            keys,
-            progress,
-            next,
-            back,
-            order,
-            made,
-            wanted,
-            now: _,
-            unique: last,
-            shown,
-            failures,
-        } = self;
-        drop(failures);
-        drop(progress);
-        drop(next);
-        drop(back);
-        drop(made);
-        drop(wanted);
-        drop(shown);
-        let mut unique = last;
-        let mut began = Vec::new(alloc);
-        for own in keys {
-            let AtKey {
-                held,
-                others,
-                call,
-                first,
-                unique: shown,
-                ..
-            } = own;
-            drop(held);
-            drop(others);
-            let key = given
-                .observed
-                .get(call as usize)
-                .and_then(|one| one.call.key());
-            match (first, key) {
-                (Some(First { flags, value }), Some(key)) => {
-                    unique = unique.saturating_add(1);
-                    let item = Item {
-                        flags,
-                        unique: shown.unwrap_or(unique),
-                        value,
-                    };
-                    began.push(Began {
-                        key: key.copy()?,
-                        item,
-                    })?;
-                }
-                (first, _) => drop(first),
+        let mut pass = self;
+        let mut began = Vec::new(pass.alloc);
+        match pass.begin_into(given, &mut began) {
+            Ok(()) => {
+                let none = Vec::new(pass.alloc);
+                let order = std::mem::replace(&mut pass.order, none);
+                drop(pass);
+                Ok(Found::Ordered {
+                    order: Order::from_vec(order),
+                    began,
+                })
+            }
+            Err(refused) => {
+                drop(pass);
+                drop(began);
+                Err(refused)
             }
         }
-        Ok(Found::Ordered {
-            order: Order::from_vec(order),
-            began,
-        })
+    }
+
+    // Takes the items that the store begins with; those whose uniques no answer showed have others.
+    fn begin_into(&mut self, given: Given<'_>, began: &mut Vec<Began>) -> Result<(), NoMemory> {
+        let mut unique = self.unique;
+        for own in &mut self.keys {
+            unique = unique.saturating_add(1);
+            if let Some(one) = own.take_began(given, unique)? {
+                began.push(one)?;
+            }
+        }
+        Ok(())
+    }
+}
+
+impl AtKey {
+    // Takes the item that was there at first, if there was one; it has this unique if no answer showed its
+    // own.
+    fn take_began(&mut self, given: Given<'_>, last: u64) -> Result<Option<Began>, NoMemory> {
+        let key = match given.get(self.call) {
+            Some(one) => match one.call.key() {
+                Some(key) => key.copy()?,
+                None => return Ok(None),
+            },
+            None => return Ok(None),
+        };
+        match std::mem::replace(&mut self.first, None) {
+            Some(FirstItem { flags, value }) => {
+                let item = Item {
+                    flags,
+                    unique: self.unique.unwrap_or(last),
+                    value,
+                };
+                Ok(Some(Began { key, item }))
+            }
+            None => {
+                drop(key);
+                Ok(None)
+            }
+        }
     }
 }

@@ -1,11 +1,10 @@
 //! The calls of the keys at which a pass failed.
 
 use crate::pass::{Given, Pass};
-use crate::sessions::end_of;
-use crate::small::{NONE, at, put, small};
 use mc_calls::Call;
 use std::alloc::Global;
 use zy_base::NoMemory;
+use zy_sources::{NONE, at, end_of, put, small};
 
 /// The calls of a key.
 #[derive(Drop)]
@@ -13,7 +12,7 @@ pub(crate) struct KeyList {
     key: u32,
     /// All, by their sendings.
     pub(crate) sent: Vec<u32>,
-    /// Those that were made, in their order, and for each how many of all were made before it.
+    /// Those that were made, in their order, and for each the number of all calls that were made before it.
     pub(crate) made: Vec<u32>,
     places: Vec<usize>,
 }
@@ -22,12 +21,12 @@ pub(crate) struct KeyList {
 #[derive(Drop)]
 pub(crate) struct KeyLists {
     pub(crate) lists: Vec<KeyList>,
-    /// For each key its place among the lists, or `NONE`.
+    /// For each key the offset of its list, or `NONE`.
     pub(crate) places: Vec<u32>,
 }
 
 impl KeyList {
-    // How many of its calls were made before that many of all.
+    // Returns how many of its calls were made before this number of all calls.
     pub(crate) fn made_before(&self, count: usize) -> usize {
         let mut low = 0;
         let mut high = self.places.len();
@@ -44,12 +43,12 @@ impl KeyList {
         low
     }
 
-    // The moment at which a call ended, or at which so many others behind it were sent.
-    pub(crate) fn end_of(&self, given: Given<'_>, call: u32, behind: usize) -> u64 {
+    // Returns the moment at which this number of calls and one more were sent after a call had ended.
+    pub(crate) fn end_of(&self, given: Given<'_>, call: u32, count: usize) -> u64 {
         let Some(one) = given.observed.get(call as usize) else {
             return u64::MAX;
         };
-        let mut left = behind;
+        let mut left = count;
         for other in &self.sent {
             if let Some(later) = given.observed.get(*other as usize)
                 && end_of(one) <= later.sent
@@ -64,38 +63,50 @@ impl KeyList {
     }
 }
 
-/// The calls of the keys at which a pass failed.
+/// Returns the calls of the keys at which a pass failed. May answer `NoMemory`.
 pub(crate) fn lists_of(alloc: Global, given: Given<'_>, pass: &Pass) -> Result<KeyLists, NoMemory> {
     let mut lists = KeyLists {
         lists: Vec::new(alloc),
         places: Vec::from_elem(alloc, NONE, pass.keys.len())?,
     };
-    for failure in &pass.failures {
-        let place = at(lists.places.as_slice(), failure.key);
-        if place == NONE && (failure.key as usize) < pass.keys.len() {
-            put(
-                lists.places.as_mut_slice(),
-                failure.key,
-                small(lists.lists.len()),
-            );
-            lists.lists.push(KeyList {
-                key: failure.key,
+    match lists.fill(alloc, given, pass) {
+        Ok(()) => Ok(lists),
+        Err(refused) => {
+            drop(lists);
+            Err(refused)
+        }
+    }
+}
+
+impl KeyLists {
+    // Adds the calls of the keys at which a pass failed.
+    fn fill(&mut self, alloc: Global, given: Given<'_>, pass: &Pass) -> Result<(), NoMemory> {
+        for failure in &pass.failures {
+            self.add_key(alloc, pass, failure.key)?;
+        }
+        for call in &given.links.sorted.by_sent {
+            self.add(given, pass, *call, None)?;
+        }
+        for place in 0..pass.made.len() {
+            self.add(given, pass, pass.made[place], Some(place))?;
+        }
+        Ok(())
+    }
+
+    // Adds a list for a key, if there is none.
+    fn add_key(&mut self, alloc: Global, pass: &Pass, key: u32) -> Result<(), NoMemory> {
+        if at(self.places.as_slice(), key) == NONE && (key as usize) < pass.keys.len() {
+            put(self.places.as_mut_slice(), key, small(self.lists.len()));
+            self.lists.push(KeyList {
+                key,
                 sent: Vec::new(alloc),
                 made: Vec::new(alloc),
                 places: Vec::new(alloc),
             })?;
         }
+        Ok(())
     }
-    for call in &given.links.by_sent {
-        lists.add(given, pass, *call, None)?;
-    }
-    for place in 0..pass.made.len() {
-        lists.add(given, pass, pass.made[place], Some(place))?;
-    }
-    Ok(lists)
-}
 
-impl KeyLists {
     // Adds a call to the lists that it belongs to.
     fn add(
         &mut self,
@@ -104,7 +115,7 @@ impl KeyLists {
         call: u32,
         made: Option<usize>,
     ) -> Result<(), NoMemory> {
-        let key = at(given.links.keys.of.as_slice(), call);
+        let key = given.key_of(call);
         if key != NONE {
             let place = at(self.places.as_slice(), key);
             if let Some(list) = self.lists.get_mut(place as usize) {

@@ -1,64 +1,89 @@
 //! What was learned from passes that failed.
 
-use crate::effects::changes;
-use crate::settling::Piece;
-use crate::small::{NONE, at, put, small};
+use crate::settling::{Piece, Settled};
 use std::alloc::Global;
 use zy_base::NoMemory;
 use zy_refute::Observed;
+use zy_sources::{NONE, at, changes, small};
+
+// What was learned of a call.
+#[derive(Clone, Copy)]
+struct Lesson {
+    /// The change that comes before it at its key, or `NONE`.
+    after: u32,
+    /// The change that comes after it if it changes nothing, or `NONE`.
+    until: u32,
+    /// How often it failed.
+    failed: u32,
+}
+
+const NO_LESSON: Lesson = Lesson {
+    after: NONE,
+    until: NONE,
+    failed: 0,
+};
 
 /// What was learned from passes that failed: which calls come before which, and how often a call failed.
 #[derive(Drop)]
 pub(crate) struct Learned {
-    /// The change that comes before a call at its key, or `NONE`.
-    after: Vec<u32>,
-    /// The change that comes behind a call that changes nothing, or `NONE`.
-    until: Vec<u32>,
-    /// How often a call failed.
-    failed: Vec<u32>,
+    lessons: Vec<Lesson>,
 }
 
 impl Learned {
     // Begins with nothing.
     pub(crate) fn new(alloc: Global, count: usize) -> Result<Learned, NoMemory> {
         Ok(Learned {
-            after: Vec::from_elem(alloc, NONE, count)?,
-            until: Vec::from_elem(alloc, NONE, count)?,
-            failed: Vec::from_elem(alloc, 0u32, count)?,
+            lessons: Vec::from_elem(alloc, NO_LESSON, count)?,
         })
+    }
+
+    fn of(&self, call: u32) -> Lesson {
+        match self.lessons.get(call as usize) {
+            Some(lesson) => *lesson,
+            None => NO_LESSON,
+        }
     }
 
     // The change that comes before a call, or `NONE`.
     pub(crate) fn before(&self, call: u32) -> u32 {
-        at(self.after.as_slice(), call)
+        self.of(call).after
     }
 
     // Checks whether a call that changes nothing comes before a change.
     pub(crate) fn comes_before(&self, call: u32, change: u32) -> bool {
-        at(self.until.as_slice(), call) == change
+        self.of(call).until == change
     }
 
     // How often a call failed.
     pub(crate) fn failures(&self, call: u32) -> u32 {
-        match self.failed.get(call as usize) {
-            Some(failed) => *failed,
-            None => 0,
+        self.of(call).failed
+    }
+
+    // Learns what was settled.
+    pub(crate) fn learn_all(&mut self, observed: &[Observed], settled: &Settled) {
+        for call in &settled.tried {
+            self.fail(small(*call));
+        }
+        for piece in &settled.pieces {
+            self.learn(observed, piece);
         }
     }
 
     // A call failed.
-    pub(crate) fn fail(&mut self, call: u32) {
-        if let Some(failed) = self.failed.get_mut(call as usize) {
-            *failed = failed.saturating_add(1);
+    fn fail(&mut self, call: u32) {
+        if let Some(own) = self.lessons.get_mut(call as usize) {
+            own.failed = own.failed.saturating_add(1);
         }
     }
 
     // Learns a piece of the order at a key.
-    pub(crate) fn learn(&mut self, observed: &[Observed], piece: &Piece) {
+    fn learn(&mut self, observed: &[Observed], piece: &Piece) {
         let mut last = piece.last;
         for call in &piece.calls {
-            put(self.after.as_mut_slice(), *call, last);
-            put(self.until.as_mut_slice(), *call, NONE);
+            if let Some(own) = self.lessons.get_mut(*call as usize) {
+                own.after = last;
+                own.until = NONE;
+            }
             if let Some(one) = observed.get(*call as usize)
                 && changes(one)
             {
@@ -74,8 +99,8 @@ impl Learned {
                 && changes(one)
             {
                 next = call;
-            } else {
-                put(self.until.as_mut_slice(), call, next);
+            } else if let Some(own) = self.lessons.get_mut(call as usize) {
+                own.until = next;
             }
         }
     }

@@ -2,31 +2,19 @@
 //! promised of the order: who uses it checks it.
 #![tactic(auto)]
 
+mod around;
 mod at_key;
 mod before;
-mod deciding;
-mod effects;
 mod finding;
-mod floors;
-mod hashing;
-mod held;
+mod helping;
 mod key_lists;
-mod keys;
 mod learned;
-mod links;
 mod making;
-mod needs;
 mod order;
-mod overs;
 mod pass;
 mod passing;
-mod reach;
-mod searching;
-mod sessions;
 mod settling;
-mod small;
-mod sources;
-mod table;
+mod waiting;
 
 pub use finding::find;
 pub use order::{Began, Found, Rules};

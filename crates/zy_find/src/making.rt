@@ -1,62 +1,43 @@
 //! Making a call in the order that grows.
 
 use crate::at_key::AtKey;
-use crate::deciding::{Decided, decide};
-use crate::effects::{expected, found_another};
-use crate::hashing::unique_hash;
-use crate::held::{AT_FIRST, Held};
-use crate::order::Rules;
 use crate::pass::{Given, Pass, Progress};
-use crate::small::{NONE, at, small};
 use mc_calls::Call;
 use zy_base::NoMemory;
 use zy_refute::Observed;
+use zy_search::{AT_FIRST, Decided, Held, decide};
+use zy_sources::{NONE, at, found_another, small};
 use zy_verdict::{Choice, Placement};
 
+// The number of an item that was there at first, among the offsets of those that store items.
+const FIRST: u32 = NONE - 1;
+
 impl Pass {
-    // Returns what the key of a call would have after it, if its answer can be so now.
-    pub(crate) fn decide(
-        &self,
-        given: Given<'_>,
-        call: u32,
-        may_lose: bool,
-    ) -> Result<Option<Decided>, NoMemory> {
-        let key = at(given.links.keys.of.as_slice(), call);
-        match (
-            given.observed.get(call as usize),
-            self.keys.get(key as usize),
-        ) {
-            (Some(one), Some(own)) => {
-                if found_another(one)
-                    && own.maker != NONE
-                    && at(given.links.source.as_slice(), call) == own.maker
-                {
-                    return Ok(None);
-                }
-                let rules = Rules {
-                    warm: own.rules.warm,
-                    forget: own.rules.forget && may_lose,
-                };
-                let place = self.order.len();
-                let found = decide(self.alloc, rules, may_lose, &own.held, one, place)?;
-                match found {
-                    Some(decided) if !self.may_show(own, &decided) => {
-                        drop(decided);
-                        Ok(None)
-                    }
-                    other => Ok(other),
-                }
-            }
-            _ => Ok(None),
+    // What a call would do at its key, if its answer can be so now.
+    pub(crate) fn decide(&self, given: Given<'_>, call: u32, may_lose: bool) -> Option<Decided> {
+        let key = given.key_of(call);
+        let (Some(one), Some(own)) = (given.get(call), self.keys.get(key as usize)) else {
+            return None;
+        };
+        if found_another(one)
+            && own.maker != NONE
+            && at(given.links.makers.source.as_slice(), call) == own.maker
+        {
+            return None;
+        }
+        match decide(own.held.sight(), one, may_lose, own.forget) {
+            Some(decided) if self.may_show(key, own, decided) => Some(decided),
+            _ => None,
         }
     }
 
     // Checks whether the item that is shown to have a unique can have it.
-    fn may_show(&self, own: &AtKey, decided: &Decided) -> bool {
+    fn may_show(&self, key: u32, own: &AtKey, decided: Decided) -> bool {
         match decided.shown {
-            Some((origin, unique)) => {
-                let known = self.shown.get(unique_hash(0, unique));
-                (known == NONE || known == small(origin)) && !own.others.contains(&unique)
+            Some(shown) => {
+                let known = self.shown.get(own.unique_hash(key, shown.unique));
+                (known == NONE || known == number_of(shown.origin))
+                    && !own.others.contains(&shown.unique)
             }
             None => true,
         }
@@ -69,49 +50,31 @@ impl Pass {
         call: u32,
         decided: Decided,
     ) -> Result<(), NoMemory> {
-        let Decided {
-            held,
-            choice,
-            lost,
-            shown,
-            unpadded,
-            gone,
-            began,
-        } = decided;
-        let key = at(given.links.keys.of.as_slice(), call);
+        let key = given.key_of(call);
         let place = self.order.len();
-        let stores = is_stored_at(&held, place);
-        if let Some((origin, unique)) = shown {
-            self.show(key, origin, unique);
-            self.shown.put(unique_hash(0, unique), small(origin))?;
+        self.note(key, decided)?;
+        if let (Some(own), Some(one)) = (self.keys.get_mut(key as usize), given.get(call)) {
+            own.take(self.alloc, call, one, decided, place)?;
         }
-        if let Some(origin) = unpadded {
+        self.place(given, call, decided.stores(), decided.choice, decided.lost)
+    }
+
+    // Notes what a call shows of the item that its key had.
+    fn note(&mut self, key: u32, decided: Decided) -> Result<(), NoMemory> {
+        if let Some(shown) = decided.shown {
+            self.show(key, shown.origin, shown.unique);
+            if let Some(own) = self.keys.get(key as usize) {
+                let hash = own.unique_hash(key, shown.unique);
+                self.shown.put(hash, number_of(shown.origin))?;
+            }
+        }
+        if let Some(origin) = decided.unpadded {
             self.choose(origin, Choice::Plain);
         }
-        if let Some(origin) = gone {
+        if let Some(origin) = decided.gone {
             self.choose(origin, Choice::FailedAndGone);
         }
-        if let Some(own) = self.keys.get_mut(key as usize) {
-            if stores || (matches!(held, Held::Nothing) && !matches!(own.held, Held::Nothing)) {
-                own.maker = call;
-                own.others.clear();
-            } else if let Some(one) = given.observed.get(call as usize)
-                && found_another(one)
-                && let Some(unique) = expected(one)
-            {
-                own.others.push(unique)?;
-            }
-            drop(std::mem::replace(&mut own.held, held));
-            if own.first.is_none() {
-                drop(std::mem::replace(&mut own.first, began));
-            } else {
-                drop(began);
-            }
-        } else {
-            drop(held);
-            drop(began);
-        }
-        self.place(given, call, stores, choice, lost)
+        Ok(())
     }
 
     // Puts a call at the end of the order.
@@ -128,7 +91,7 @@ impl Pass {
             self.unique = self.unique.saturating_add(1);
             unique = self.unique;
         }
-        if let Some(one) = given.observed.get(call as usize) {
+        if let Some(one) = given.get(call) {
             self.order.push(Placement {
                 name: one.name,
                 unique,
@@ -138,8 +101,7 @@ impl Pass {
             self.made.push(call)?;
         }
         self.set(call, Progress::Made);
-        let key = at(given.links.keys.of.as_slice(), call);
-        self.unlink(key, call);
+        self.unlink(given.key_of(call), call);
         Ok(())
     }
 
@@ -153,12 +115,13 @@ impl Pass {
         if matches!(one.call, Call::Flush) {
             for own in &mut self.keys {
                 if own.shard == one.shard {
-                    drop(std::mem::replace(&mut own.held, Held::Nothing));
-                    own.maker = NONE;
+                    own.hold(Held::Nothing);
                 }
             }
         }
-        self.place(given, call, false, Choice::Plain, false)
+        self.place(given, call, false, Choice::Plain, false)?;
+        self.pass_flushes(given);
+        Ok(())
     }
 
     // Makes a call whatever its answer is.
@@ -166,7 +129,7 @@ impl Pass {
         self.place(given, call, false, Choice::Plain, false)
     }
 
-    // Says the unique of the item that was stored at a place of the order, or of the first item of a key.
+    // Says the unique of the item that was stored at an offset of the order, or of the first item of a key.
     fn show(&mut self, key: u32, origin: usize, unique: u64) {
         if origin == AT_FIRST {
             if let Some(own) = self.keys.get_mut(key as usize) {
@@ -184,10 +147,11 @@ impl Pass {
     }
 }
 
-// Checks whether a key has an item that was stored at a place.
-fn is_stored_at(held: &Held, place: usize) -> bool {
-    match held {
-        Held::Item(known) => known.origin == Some(place),
-        _ => false,
+// The number of the item that was stored at an offset of the order.
+fn number_of(origin: usize) -> u32 {
+    if origin == AT_FIRST {
+        FIRST
+    } else {
+        small(origin)
     }
 }

@@ -2,14 +2,10 @@
 
 use crate::at_key::{AtKey, keys_at_first};
 use crate::learned::Learned;
-use crate::links::Links;
-use crate::order::Rules;
-use crate::small::{NONE, at, put, time_at};
-use crate::table::Table;
 use std::alloc::Global;
-use std::collections::BTreeSet;
-use zy_base::{Blob, NoMemory};
+use zy_base::NoMemory;
 use zy_refute::Observed;
+use zy_sources::{Calls, Links, NONE, Table, at};
 use zy_verdict::Placement;
 
 /// What is given: the calls, what is known of them, and what was learned from earlier passes.
@@ -39,25 +35,40 @@ pub(crate) enum Progress {
     Made,
 }
 
+/// A call: how far it is, and of those that wait at its key the next and the one before, by their sendings.
+#[derive(Clone, Copy)]
+pub(crate) struct Standing {
+    progress: Progress,
+    next: u32,
+    back: u32,
+}
+
+const WAITS: Standing = Standing {
+    progress: Progress::Waits,
+    next: NONE,
+    back: NONE,
+};
+
 /// An order of calls that grows.
 #[derive(Drop)]
 pub(crate) struct Pass {
     pub(crate) alloc: Global,
+    /// Items may be there at first.
+    pub(crate) warm: bool,
     pub(crate) keys: Vec<AtKey>,
-    pub(crate) progress: Vec<Progress>,
-    /// The calls that wait at each key, by their sendings: for each call the next and the one before.
-    pub(crate) next: Vec<u32>,
-    pub(crate) back: Vec<u32>,
+    pub(crate) calls: Vec<Standing>,
     /// The calls that are made, and these by their offsets.
     pub(crate) order: Vec<Placement>,
     pub(crate) made: Vec<u32>,
-    /// The calls that are wanted; each waits for the one behind it.
+    /// The number of the first flushes that are made.
+    pub(crate) flushed: usize,
+    /// The calls that are wanted; each waits for the one after it.
     pub(crate) wanted: Vec<u32>,
     /// The end of the first wanted call: what is made now must be sent before it.
     pub(crate) now: u64,
     /// The last unique that was given to an item whose unique no answer showed.
     pub(crate) unique: u64,
-    /// The places of the items whose uniques answers showed, by these.
+    /// The offsets of the calls whose items' uniques answers showed, by these.
     pub(crate) shown: Table,
     /// The calls whose answers could not be so, or that could not be made in their turn: the first of them.
     pub(crate) failures: Vec<Failure>,
@@ -66,91 +77,173 @@ pub(crate) struct Pass {
 // Uniques that no answer showed are counted from here, far above those of a server.
 const FIRST_UNIQUE: u64 = 1 << 63;
 
-impl Pass {
-    // Begins before any call.
-    pub(crate) fn new(
-        alloc: Global,
-        rules: Rules,
-        lasting: &BTreeSet<Blob>,
-        given: Given<'_>,
-    ) -> Result<Pass, NoMemory> {
-        let count = given.observed.len();
-        let first = given.links.keys.first.as_slice();
-        let mut pass = Pass {
-            alloc,
-            keys: keys_at_first(alloc, rules, lasting, given.observed, first)?,
-            progress: Vec::from_elem(alloc, Progress::Waits, count)?,
-            next: Vec::from_elem(alloc, NONE, count)?,
-            back: Vec::from_elem(alloc, NONE, count)?,
-            order: Vec::with_capacity(alloc, count)?,
-            made: Vec::with_capacity(alloc, count)?,
-            wanted: Vec::new(alloc),
-            now: 0,
-            unique: FIRST_UNIQUE,
-            shown: Table::new(alloc)?,
-            failures: Vec::new(alloc),
-        };
-        for call in &given.links.by_sent {
-            pass.append(given, *call);
+impl<'a> Given<'a> {
+    // The calls, and what is known of them.
+    pub(crate) fn calls(self) -> Calls<'a> {
+        Calls {
+            observed: self.observed,
+            links: self.links,
         }
-        Ok(pass)
     }
 
-    // Adds a call behind those that wait at its key.
+    // A call.
+    pub(crate) fn get(self, call: u32) -> Option<&'a Observed> {
+        self.observed.get(call as usize)
+    }
+
+    // The number of a call's key, or `NONE`.
+    pub(crate) fn key_of(self, call: u32) -> u32 {
+        at(self.links.keys.of.as_slice(), call)
+    }
+
+    // The call before a call in its session, or `NONE`.
+    pub(crate) fn before(self, call: u32) -> u32 {
+        self.calls().before(call)
+    }
+
+    // The call that made what a call found, or `NONE`.
+    pub(crate) fn source_of(self, call: u32) -> u32 {
+        self.calls().source_of(call)
+    }
+}
+
+impl Pass {
+    // Begins before any call.
+    pub(crate) fn new(alloc: Global, warm: bool, given: Given<'_>) -> Result<Pass, NoMemory> {
+        let keys = keys_at_first(alloc, warm, given.observed, &given.links.keys)?;
+        match Table::new(alloc) {
+            Ok(shown) => Pass::with_calls(alloc, warm, given, keys, shown),
+            Err(refused) => {
+                drop(keys);
+                Err(refused)
+            }
+        }
+    }
+
+    // Begins with all calls, which wait.
+    fn with_calls(
+        alloc: Global,
+        warm: bool,
+        given: Given<'_>,
+        keys: Vec<AtKey>,
+        shown: Table,
+    ) -> Result<Pass, NoMemory> {
+        match Vec::from_elem(alloc, WAITS, given.observed.len()) {
+            Ok(calls) => {
+                let mut pass = Pass {
+                    alloc,
+                    warm,
+                    keys,
+                    calls,
+                    order: Vec::new(alloc),
+                    made: Vec::new(alloc),
+                    flushed: 0,
+                    wanted: Vec::new(alloc),
+                    now: 0,
+                    unique: FIRST_UNIQUE,
+                    shown,
+                    failures: Vec::new(alloc),
+                };
+                for call in &given.links.sorted.by_sent {
+                    pass.append(given, *call);
+                }
+                Ok(pass)
+            }
+            Err(_) => {
+                drop(keys);
+                drop(shown);
+                Err(NoMemory)
+            }
+        }
+    }
+
+    // Adds a call after those that wait at its key.
     fn append(&mut self, given: Given<'_>, call: u32) {
-        let key = at(given.links.keys.of.as_slice(), call);
+        let key = given.key_of(call);
         if let Some(own) = self.keys.get_mut(key as usize) {
             let tail = own.tail;
             own.tail = call;
             if tail == NONE {
                 own.head = call;
             }
-            put(self.back.as_mut_slice(), call, tail);
-            put(self.next.as_mut_slice(), tail, call);
+            self.join(tail, call);
         }
     }
 
     // Takes a call out of those that wait at its key.
     pub(crate) fn unlink(&mut self, key: u32, call: u32) {
-        let before = at(self.back.as_slice(), call);
-        let behind = at(self.next.as_slice(), call);
+        let (before, after) = match self.calls.get(call as usize) {
+            Some(standing) => (standing.back, standing.next),
+            None => return,
+        };
         if let Some(own) = self.keys.get_mut(key as usize) {
             if own.head == call {
-                own.head = behind;
+                own.head = after;
             }
             if own.tail == call {
                 own.tail = before;
             }
         }
-        put(self.next.as_mut_slice(), before, behind);
-        put(self.back.as_mut_slice(), behind, before);
+        self.join(before, after);
+    }
+
+    // One call that waits at a key comes right after another one.
+    fn join(&mut self, before: u32, after: u32) {
+        if let Some(own) = self.calls.get_mut(before as usize) {
+            own.next = after;
+        }
+        if let Some(own) = self.calls.get_mut(after as usize) {
+            own.back = before;
+        }
+    }
+
+    // The call that waits at a key after another one, or `NONE`.
+    pub(crate) fn after(&self, call: u32) -> u32 {
+        match self.calls.get(call as usize) {
+            Some(standing) => standing.next,
+            None => NONE,
+        }
+    }
+
+    // Passes over the flushes that are made.
+    pub(crate) fn pass_flushes(&mut self, given: Given<'_>) {
+        for _ in self.flushed..given.links.sorted.flushes.len() {
+            let flush = match given.links.sorted.flushes.get(self.flushed) {
+                Some(flush) => *flush,
+                None => NONE,
+            };
+            if !self.is_made(flush) {
+                break;
+            }
+            self.flushed = self.flushed.saturating_add(1);
+        }
     }
 
     // Checks whether a call waits, and is not wanted yet.
     pub(crate) fn waits(&self, call: u32) -> bool {
-        match self.progress.get(call as usize) {
-            Some(progress) => *progress == Progress::Waits,
+        match self.calls.get(call as usize) {
+            Some(standing) => standing.progress == Progress::Waits,
             None => false,
         }
     }
 
     // Checks whether a call is made; what is no call counts as made.
     pub(crate) fn is_made(&self, call: u32) -> bool {
-        match self.progress.get(call as usize) {
-            Some(progress) => *progress == Progress::Made,
+        match self.calls.get(call as usize) {
+            Some(standing) => standing.progress == Progress::Made,
             None => true,
         }
     }
 
     // Says how far a call is.
     pub(crate) fn set(&mut self, call: u32, progress: Progress) {
-        if let Some(own) = self.progress.get_mut(call as usize) {
-            *own = progress;
+        if let Some(own) = self.calls.get_mut(call as usize) {
+            own.progress = progress;
         }
     }
 
     // Checks whether a call was sent early enough to be made now.
     pub(crate) fn is_sent(&self, given: Given<'_>, call: u32) -> bool {
-        time_at(given.links.since.as_slice(), call) < self.now
+        given.calls().since(call) < self.now
     }
 }

@@ -1,14 +1,10 @@
 //! Making all calls, each at the last moment or when another one needs it.
 
 use crate::before::Before;
-use crate::effects::changes;
-use crate::held::Held;
-use crate::links::call_before;
 use crate::pass::{Failure, Given, Pass, Progress};
-use crate::sessions::end_of;
-use crate::small::{NONE, at, time_at};
 use zy_base::NoMemory;
-use zy_refute::Observed;
+use zy_search::Held;
+use zy_sources::end_of;
 
 // How many failures of a pass are noted.
 const MOST_FAILURES: usize = 1024;
@@ -16,35 +12,41 @@ const MOST_FAILURES: usize = 1024;
 impl Pass {
     // Makes all sure calls, and those that they need.
     pub(crate) fn run(&mut self, given: Given<'_>) -> Result<(), NoMemory> {
-        for call in &given.links.by_end {
-            if let Some(one) = given.observed.get(*call as usize)
+        for call in &given.links.sorted.by_end {
+            if let Some(one) = given.get(*call)
                 && self.waits(*call)
             {
                 self.now = end_of(one);
                 self.want(*call)?;
-                for _ in 0..usize::MAX {
-                    let Some(last) = self.wanted.last().copied() else {
-                        break;
-                    };
-                    self.step(given, last)?;
-                }
+                self.run_wanted(given)?;
             }
         }
         self.run_rest(given)
     }
 
+    // Makes all wanted calls, and those that they need.
+    fn run_wanted(&mut self, given: Given<'_>) -> Result<(), NoMemory> {
+        for _ in 0..usize::MAX {
+            let Some(last) = self.wanted.last().copied() else {
+                break;
+            };
+            self.step(given, last)?;
+        }
+        Ok(())
+    }
+
     // Makes the calls that need not occur at the end, if their answers can be so then.
     fn run_rest(&mut self, given: Given<'_>) -> Result<(), NoMemory> {
         self.now = u64::MAX;
-        for call in &given.links.by_sent {
-            if !self.waits(*call) || !self.is_made(call_before(given.observed, *call)) {
+        for call in &given.links.sorted.by_sent {
+            if !self.waits(*call) || !self.is_made(given.before(*call)) {
                 continue;
             }
-            if let Some(one) = given.observed.get(*call as usize)
+            if let Some(one) = given.get(*call)
                 && one.call.key().is_none()
             {
                 self.make_keyless(given, *call, one)?;
-            } else if let Some(decided) = self.decide(given, *call, true)? {
+            } else if let Some(decided) = self.decide(given, *call, true) {
                 self.make(given, *call, decided)?;
             }
         }
@@ -63,31 +65,26 @@ impl Pass {
         match self.before(given, call)? {
             Before::Call(other) => self.want(other),
             Before::Never => self.give_up(given, call),
-            Before::Nothing => {
-                let Some(one) = given.observed.get(call as usize) else {
+            Before::Nothing => match given.get(call) {
+                Some(one) if one.call.key().is_none() => {
                     let _ = self.wanted.pop();
-                    return Ok(());
-                };
-                let key = at(given.links.keys.of.as_slice(), call);
-                if key == NONE {
-                    let _ = self.wanted.pop();
-                    return self.make_keyless(given, call, one);
+                    self.make_keyless(given, call, one)
                 }
-                self.step_at(given, key, call)
-            }
+                _ => self.step_at(given, call),
+            },
         }
     }
 
     // The same, if nothing is known to come before the call.
-    fn step_at(&mut self, given: Given<'_>, key: u32, call: u32) -> Result<(), NoMemory> {
-        if let Some(decided) = self.decide(given, call, false)? {
+    fn step_at(&mut self, given: Given<'_>, call: u32) -> Result<(), NoMemory> {
+        if let Some(decided) = self.decide(given, call, false) {
             let _ = self.wanted.pop();
             return self.make(given, call, decided);
         }
-        if let Some(helper) = self.helper(given, key, call)? {
+        if let Some(helper) = self.helper(given, call)? {
             return self.want(helper);
         }
-        if let Some(decided) = self.decide(given, call, true)? {
+        if let Some(decided) = self.decide(given, call, true) {
             let _ = self.wanted.pop();
             return self.make(given, call, decided);
         }
@@ -96,7 +93,7 @@ impl Pass {
 
     // Notes that a call failed, and makes it as if nothing was known of its key.
     fn give_up(&mut self, given: Given<'_>, call: u32) -> Result<(), NoMemory> {
-        let key = at(given.links.keys.of.as_slice(), call);
+        let key = given.key_of(call);
         let _ = self.wanted.pop();
         if self.failures.len() < MOST_FAILURES {
             self.failures.push(Failure {
@@ -106,90 +103,11 @@ impl Pass {
             })?;
         }
         if let Some(own) = self.keys.get_mut(key as usize) {
-            drop(std::mem::replace(&mut own.held, Held::Any));
-            own.maker = NONE;
-            own.others.clear();
+            own.hold(Held::Any);
         }
-        match self.decide(given, call, true)? {
+        match self.decide(given, call, true) {
             Some(decided) => self.make(given, call, decided),
             None => self.make_blindly(given, call),
         }
-    }
-
-    // A change that waits, can be made now, and after which the answer of a call can be so.
-    fn helper(&self, given: Given<'_>, key: u32, call: u32) -> Result<Option<u32>, NoMemory> {
-        let Some(own) = self.keys.get(key as usize) else {
-            return Ok(None);
-        };
-        let Some(wanting) = given.observed.get(call as usize) else {
-            return Ok(None);
-        };
-        let mut best = None;
-        let mut least = u64::MAX;
-        let mut other = own.head;
-        for _ in 0..given.observed.len() {
-            let Some(one) = given.observed.get(other as usize) else {
-                break;
-            };
-            if self.now <= one.sent {
-                break;
-            }
-            let due = time_at(given.links.due.as_slice(), other);
-            if changes(one)
-                && self.may_precede(given, other, call)
-                && (best.is_none() || due < least)
-                && self.helps(given, other, wanting)?
-            {
-                best = Some(other);
-                least = due;
-            }
-            other = at(self.next.as_slice(), other);
-        }
-        if best.is_none() {
-            best = self.helping_flush(given, own.shard, wanting)?;
-        }
-        Ok(best)
-    }
-
-    // Checks whether a change can be made now, and then the answer of a call can be so.
-    pub(crate) fn helps(
-        &self,
-        given: Given<'_>,
-        change: u32,
-        one: &Observed,
-    ) -> Result<bool, NoMemory> {
-        let Some(decided) = self.decide(given, change, false)? else {
-            return Ok(false);
-        };
-        let then = crate::deciding::fits_after(self.alloc, &decided.held, one, self.order.len());
-        drop(decided);
-        then
-    }
-
-    // A flush that waits, after which the answer of a call can be so.
-    fn helping_flush(
-        &self,
-        given: Given<'_>,
-        shard: u32,
-        one: &Observed,
-    ) -> Result<Option<u32>, NoMemory> {
-        if !crate::deciding::fits_after(
-            self.alloc,
-            &crate::held::Held::Nothing,
-            one,
-            self.order.len(),
-        )? {
-            return Ok(None);
-        }
-        for flush in &given.links.flushes {
-            if let Some(other) = given.observed.get(*flush as usize)
-                && other.shard == shard
-                && other.sent < self.now
-                && self.waits(*flush)
-            {
-                return Ok(Some(*flush));
-            }
-        }
-        Ok(None)
     }
 }

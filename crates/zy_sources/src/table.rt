@@ -1,6 +1,6 @@
 //! A table of small numbers by hashes.
 
-use crate::small::NONE;
+use crate::numbers::NONE;
 use std::alloc::Global;
 use zy_base::NoMemory;
 
@@ -17,15 +17,15 @@ const EMPTY: Slot = Slot {
 
 /// Small numbers by hashes.
 #[derive(Drop)]
-pub(crate) struct Table {
+pub struct Table {
     alloc: Global,
     slots: Vec<Slot>,
     count: usize,
 }
 
 impl Table {
-    // Begins without a number.
-    pub(crate) fn new(alloc: Global) -> Result<Table, NoMemory> {
+    /// Begins without a number. May answer `NoMemory`.
+    pub fn new(alloc: Global) -> Result<Table, NoMemory> {
         Ok(Table {
             alloc,
             slots: Vec::from_elem(alloc, EMPTY, 256)?,
@@ -50,16 +50,16 @@ impl Table {
         place
     }
 
-    // Returns the number of a hash; `NONE` if it has none.
-    pub(crate) fn get(&self, hash: u64) -> u32 {
+    /// Returns the number of a hash; `NONE` if it has none.
+    pub fn get(&self, hash: u64) -> u32 {
         match self.slots.get(self.slot(hash)) {
             Some(slot) if slot.hash == hash => slot.number,
             _ => NONE,
         }
     }
 
-    // Gives a hash a number.
-    pub(crate) fn put(&mut self, hash: u64, number: u32) -> Result<(), NoMemory> {
+    /// Gives a hash a number. May answer `NoMemory`.
+    pub fn put(&mut self, hash: u64, number: u32) -> Result<(), NoMemory> {
         if self.slots.len() <= self.count.saturating_mul(2) {
             self.grow()?;
         }

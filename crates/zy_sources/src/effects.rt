@@ -7,7 +7,7 @@ use zy_base::Blob;
 use zy_refute::Observed;
 
 /// Checks whether a call may change what its key has.
-pub(crate) fn changes(one: &Observed) -> bool {
+pub fn changes(one: &Observed) -> bool {
     match &one.shown {
         Shown::Reply { reply } => matches!(
             reply,
@@ -21,7 +21,7 @@ pub(crate) fn changes(one: &Observed) -> bool {
 }
 
 /// Checks whether a call surely changes what its key has.
-pub(crate) fn surely_changes(one: &Observed) -> bool {
+pub fn surely_changes(one: &Observed) -> bool {
     match &one.shown {
         Shown::Nothing | Shown::NoFailure => matches!(
             one.call,
@@ -33,7 +33,7 @@ pub(crate) fn surely_changes(one: &Observed) -> bool {
 }
 
 /// Checks whether a call was told that the item has another unique.
-pub(crate) fn found_another(one: &Observed) -> bool {
+pub fn found_another(one: &Observed) -> bool {
     matches!(
         one.shown,
         Shown::Reply {
@@ -44,7 +44,7 @@ pub(crate) fn found_another(one: &Observed) -> bool {
 
 /// What a call leaves or needs, as far as its answer shows it.
 #[derive(Clone, Copy, PartialEq, Eq)]
-pub(crate) enum Trace {
+pub enum Trace {
     /// What has this hash: a value, or no item.
     Hash(u64),
     /// A value that is not known.
@@ -64,9 +64,12 @@ fn counted(one: &Observed) -> Option<u64> {
 }
 
 /// Returns what a call leaves.
-pub(crate) fn left_by(one: &Observed, key: u32) -> Trace {
+pub fn left_by(one: &Observed, key: u32) -> Trace {
     if !changes(one) {
         return Trace::Nothing;
+    }
+    if let Shown::Failure = one.shown {
+        return Trace::Hash(absence_hash(key));
     }
     match &one.call {
         Call::Set { value, .. } | Call::Add { value, .. } | Call::Replace { value, .. } => {
@@ -84,7 +87,7 @@ pub(crate) fn left_by(one: &Observed, key: u32) -> Trace {
 }
 
 /// Returns what a call needs.
-pub(crate) fn needed_by(one: &Observed, key: u32) -> Trace {
+pub fn needed_by(one: &Observed, key: u32) -> Trace {
     match &one.shown {
         Shown::HitWith { value } => Trace::Hash(value_hash(key, value.bytes())),
         Shown::Reply {
@@ -113,7 +116,7 @@ pub(crate) fn needed_by(one: &Observed, key: u32) -> Trace {
 }
 
 /// Checks whether a call needs that there is no item.
-pub(crate) fn needs_absence(one: &Observed) -> bool {
+pub fn needs_absence(one: &Observed) -> bool {
     match &one.shown {
         Shown::Reply {
             reply: CallReply::Miss | CallReply::NotFound,
@@ -126,7 +129,7 @@ pub(crate) fn needs_absence(one: &Observed) -> bool {
 }
 
 /// Returns the value that a call found, if its answer shows it.
-pub(crate) fn found_by(one: &Observed) -> Option<&Blob> {
+pub fn found_by(one: &Observed) -> Option<&Blob> {
     match &one.shown {
         Shown::HitWith { value } => Some(value),
         Shown::Reply {
@@ -137,7 +140,7 @@ pub(crate) fn found_by(one: &Observed) -> Option<&Blob> {
 }
 
 /// Checks whether a call that joins or counts may have left a value.
-pub(crate) fn may_leave(one: &Observed, value: &[u8]) -> bool {
+pub fn may_leave(one: &Observed, value: &[u8]) -> bool {
     match &one.call {
         Call::Append { value: piece, .. } => value.ends_with(piece.bytes()),
         Call::Prepend { value: piece, .. } => value.starts_with(piece.bytes()),
@@ -147,12 +150,12 @@ pub(crate) fn may_leave(one: &Observed, value: &[u8]) -> bool {
 }
 
 /// Checks whether a call counts.
-pub(crate) fn is_counting(one: &Observed) -> bool {
+pub fn is_counting(one: &Observed) -> bool {
     matches!(one.call, Call::Incr { .. } | Call::Decr { .. })
 }
 
 /// Returns what a call that joins a piece to a value must have found to leave this; none if it is no such call.
-pub(crate) fn joined_to<'a>(one: &Observed, value: &'a [u8]) -> Option<&'a [u8]> {
+pub fn joined_to<'a>(one: &Observed, value: &'a [u8]) -> Option<&'a [u8]> {
     match &one.call {
         Call::Append { value: piece, .. } => {
             value.get(..value.len().saturating_sub(piece.bytes().len()))
@@ -163,7 +166,7 @@ pub(crate) fn joined_to<'a>(one: &Observed, value: &'a [u8]) -> Option<&'a [u8]>
 }
 
 /// Returns the unique that the item of a call must have, or must not have if it found another.
-pub(crate) fn expected(one: &Observed) -> Option<u64> {
+pub fn expected(one: &Observed) -> Option<u64> {
     match (&one.call, &one.shown) {
         (
             Call::Cas { unique, .. },

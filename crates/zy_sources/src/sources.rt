@@ -5,78 +5,77 @@ use crate::effects::{
     needed_by, needs_absence,
 };
 use crate::hashing::{unique_hash, unknown_hash, value_hash};
+use crate::looked::{Found, Looked, Reader};
+use crate::numbers::{NONE, at, put, small, time_at};
 use crate::sessions::end_of;
-use crate::small::{NONE, at, put, small, time_at};
 use crate::table::Table;
 use std::alloc::Global;
 use zy_base::NoMemory;
 use zy_refute::Observed;
 
+// No call: several made items with a unique.
+const SEVERAL: u32 = NONE - 1;
+
 // How many calls that made the same are looked at for each that found it.
 const MOST: usize = 64;
 
-/// What sources are looked for in.
-#[derive(Clone, Copy)]
-pub(crate) struct Looked<'a> {
-    pub(crate) observed: &'a [Observed],
-    pub(crate) keys: &'a [u32],
-    pub(crate) floors: &'a [u64],
-    pub(crate) by_end: &'a [u32],
-    pub(crate) by_sent: &'a [u32],
-    /// Items may be there at first.
-    pub(crate) warm: bool,
-    /// Items may go without a call at their key.
-    pub(crate) may_go: bool,
-}
-
 // The calls that made each thing.
 #[derive(Drop)]
-struct Makers {
+struct Made {
     /// The last call that made what has a hash.
     last: Table,
+    /// The call that made the item with a unique.
+    uniques: Table,
     /// For each call the one before it that made the same.
     before: Vec<u32>,
     /// For each call the last end of it and of those before it.
     until: Vec<u64>,
+    /// The number of calls that are added, of those by their sendings.
+    sent: usize,
 }
 
-/// For each call the call that made what it found, if only one can have; for one that found an item with
-/// another unique, the call that made the item that it named.
+// For each call the call that made what it found, if only one can have; for one that found an item with
+// another unique, the call that made the item that it named.
 pub(crate) fn sources_of(alloc: Global, looked: Looked<'_>) -> Result<Vec<u32>, NoMemory> {
-    let count = looked.observed.len();
-    let mut makers = Makers {
-        last: Table::new(alloc)?,
-        before: Vec::from_elem(alloc, NONE, count)?,
-        until: Vec::from_elem(alloc, 0u64, count)?,
-    };
-    let mut sources = Vec::from_elem(alloc, NONE, count)?;
-    let mut uniques = Table::new(alloc)?;
-    let mut sent = 0;
-    for call in looked.by_end {
-        let Some(one) = looked.observed.get(*call as usize) else {
-            continue;
-        };
-        for _ in sent..looked.by_sent.len() {
-            let maker = at(looked.by_sent, small(sent));
-            match looked.observed.get(maker as usize) {
-                Some(other) if other.sent < end_of(one) => makers.add(looked, maker, other)?,
-                _ => break,
-            }
-            sent = sent.saturating_add(1);
-        }
-        let source = makers.source(looked, *call, one);
-        if source != NONE {
-            put(sources.as_mut_slice(), *call, source);
-            if let Some(unique) = one.unique {
-                uniques.put(unique_hash(at(looked.keys, *call), unique), source)?;
-            }
-            makers.join_sources(looked, sources.as_mut_slice(), *call, one);
+    let mut sources = Vec::from_elem(alloc, NONE, looked.observed.len())?;
+    match find_sources(alloc, looked, sources.as_mut_slice()) {
+        Ok(()) => Ok(sources),
+        Err(refused) => {
+            drop(sources);
+            Err(refused)
         }
     }
-    drop(makers);
-    by_unique(looked, sources.as_mut_slice(), &uniques);
-    drop(uniques);
-    Ok(sources)
+}
+
+// Finds the sources.
+fn find_sources(alloc: Global, looked: Looked<'_>, sources: &mut [u32]) -> Result<(), NoMemory> {
+    let count = looked.observed.len();
+    let mut made = Made {
+        last: Table::new(alloc)?,
+        uniques: Table::new(alloc)?,
+        before: Vec::from_elem(alloc, NONE, count)?,
+        until: Vec::from_elem(alloc, 0u64, count)?,
+        sent: 0,
+    };
+    let found = made.find_all(looked, sources);
+    if found.is_ok() {
+        by_unique(looked, sources, &made.uniques);
+    }
+    drop(made);
+    found
+}
+
+// Notes the call that made the item with a unique; two calls show that the unique does not tell.
+fn name_source(uniques: &mut Table, hash: u64, source: u32) -> Result<(), NoMemory> {
+    let known = uniques.get(hash);
+    uniques.put(
+        hash,
+        if known == NONE || known == source {
+            source
+        } else {
+            SEVERAL
+        },
+    )
 }
 
 // Finds sources by uniques.
@@ -84,11 +83,14 @@ fn by_unique(looked: Looked<'_>, sources: &mut [u32], uniques: &Table) {
     for call in 0..looked.observed.len() {
         let one = &looked.observed[call];
         if let Some(unique) = expected(one) {
-            let maker = uniques.get(unique_hash(at(looked.keys, small(call)), unique));
+            let maker = uniques.get(unique_hash(looked.key_of(small(call)), unique));
             let early = match looked.observed.get(maker as usize) {
                 Some(other) => other.sent < end_of(one),
                 None => false,
             };
+            if maker == SEVERAL {
+                continue;
+            }
             if found_another(one) || (early && maker != small(call)) {
                 put(sources, small(call), maker);
             }
@@ -96,10 +98,57 @@ fn by_unique(looked: Looked<'_>, sources: &mut [u32], uniques: &Table) {
     }
 }
 
-impl Makers {
+impl Made {
+    // Finds the source of each sure call.
+    fn find_all(&mut self, looked: Looked<'_>, sources: &mut [u32]) -> Result<(), NoMemory> {
+        for call in looked.by_end {
+            if let Some(one) = looked.observed.get(*call as usize) {
+                self.add_sent(looked, end_of(one))?;
+                self.find(looked, sources, *call, one)?;
+            }
+        }
+        Ok(())
+    }
+
+    // Adds the calls that were sent before a moment.
+    fn add_sent(&mut self, looked: Looked<'_>, end: u64) -> Result<(), NoMemory> {
+        for _ in self.sent..looked.by_sent.len() {
+            let maker = at(looked.by_sent, small(self.sent));
+            match looked.observed.get(maker as usize) {
+                Some(other) if other.sent < end => self.add(looked, maker, other)?,
+                _ => break,
+            }
+            self.sent = self.sent.saturating_add(1);
+        }
+        Ok(())
+    }
+
+    // Finds the source of a call.
+    fn find(
+        &mut self,
+        looked: Looked<'_>,
+        sources: &mut [u32],
+        call: u32,
+        one: &Observed,
+    ) -> Result<(), NoMemory> {
+        let source = self.source(looked, call, one);
+        if source == NONE {
+            return Ok(());
+        }
+        put(sources, call, source);
+        self.join_sources(looked, sources, call, one);
+        match one.unique {
+            Some(unique) => {
+                let hash = unique_hash(looked.key_of(call), unique);
+                name_source(&mut self.uniques, hash, source)
+            }
+            None => Ok(()),
+        }
+    }
+
     // Adds a call that was sent after those before.
     fn add(&mut self, looked: Looked<'_>, call: u32, one: &Observed) -> Result<(), NoMemory> {
-        let key = at(looked.keys, call);
+        let key = looked.key_of(call);
         let hash = match left_by(one, key) {
             Trace::Hash(hash) => hash,
             Trace::Unknown => unknown_hash(key),
@@ -119,7 +168,7 @@ impl Makers {
 
     // The call that made what a call found, if only one can have.
     fn source(&self, looked: Looked<'_>, call: u32, one: &Observed) -> u32 {
-        let Trace::Hash(hash) = needed_by(one, at(looked.keys, call)) else {
+        let Trace::Hash(hash) = needed_by(one, looked.key_of(call)) else {
             return NONE;
         };
         let found = match found_by(one) {
@@ -147,7 +196,7 @@ impl Makers {
             if at(sources, maker) != NONE {
                 break;
             }
-            let hash = value_hash(at(looked.keys, maker), rest);
+            let hash = value_hash(looked.key_of(maker), rest);
             let source = self.maker_of(looked, maker, other, hash, Found::Value(rest));
             put(sources, maker, source);
             maker = source;
@@ -164,10 +213,10 @@ impl Makers {
         hash: u64,
         found: Found<'_>,
     ) -> u32 {
-        let key = at(looked.keys, call);
+        let key = looked.key_of(call);
         let floor = time_at(looked.floors, call);
         let absent = matches!(found, Found::Absence);
-        if (absent && (looked.may_go || floor == 0)) || (looked.warm && floor == 0) {
+        if (absent && (looked.may_go(key) || floor == 0)) || (looked.warm && floor == 0) {
             return NONE;
         }
         let reader = Reader {
@@ -222,29 +271,5 @@ impl Makers {
             maker = at(self.before.as_slice(), maker);
         }
         (only, count)
-    }
-}
-
-// What a call found.
-#[derive(Clone, Copy)]
-enum Found<'a> {
-    Value(&'a [u8]),
-    // A number, which its answer tells.
-    Number,
-    Absence,
-}
-
-// A call that found something: its floor and its end.
-#[derive(Clone, Copy)]
-struct Reader {
-    call: u32,
-    floor: u64,
-    end: u64,
-}
-
-impl Reader {
-    // Checks whether it can have found what a call made.
-    fn may_find(self, maker: u32, other: &Observed) -> bool {
-        maker != self.call && self.floor < end_of(other) && other.sent < self.end
     }
 }
