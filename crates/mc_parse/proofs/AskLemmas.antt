@@ -1,7 +1,7 @@
 -- What the words after a name ask for.
 use Rattle.std.proofs.Common.{◌≡◌, ℕ, ◌≤◌, Bool, true, false, if◌then◌else◌, List, [], ◌∷◌, length, refl, arith}
 use Rattle.std.proofs.lemmas.Bool.{true≢false}
-use Rattle.std.specs.Prelude.{Option, None, Some, IfSome, option_map}
+use Rattle.std.specs.Prelude.{Option, None, Some, IfSome, option_map, ⊤}
 use Rattle.zy_base.specs.Number.{number_of}
 use Rattle.mc_parse.specs.declared.name.Name.{Name}
 use Rattle.mc_parse.specs.declared.name.Name.TheVariants.{Store, Cas, Get, Delete, Count, Verbosity, Flush, Quit}
@@ -34,7 +34,7 @@ ask_width ask = 0
 -- it asks for no items
 abbrev pub GetsNone : Ask → Type 0
 GetsNone (gets keys unique) = ⊥
-GetsNone ask = Unit {0}
+GetsNone ask = ⊤
 
 -- ---- the words after a name
 

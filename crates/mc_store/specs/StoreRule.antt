@@ -1,6 +1,6 @@
 -- The rule of the store, which holds between any two steps of any number of passes.
 -- No public clause cites this module.
-use Rattle.std.specs.Prelude.{◌≡◌, ℕ, suc, ◌+◌, ◌*◌, ◌/◌, ◌^◌, ◌<◌, ◌≤◌, List, [], ◌∷◌, length, false, slice_index}
+use Rattle.std.specs.Prelude.{◌≡◌, ℕ, suc, ◌+◌, ◌*◌, ◌/◌, ◌^◌, ◌<◌, ◌≤◌, List, [], ◌∷◌, length, false, slice_index, ⊤}
 use Rattle.std.specs.Prelude as std
 use mathlib.Core.Option.{Option, some}
 use lib.ListN.{get_elem?}
@@ -76,7 +76,7 @@ module _ (histories : ℕ → List Entry) (places : ℕ → Place) (calls : ℕ 
   -- the root knows which passes are out, and the calls of all others; a pass knows its seat, its calls and what it
   -- has taken
   abbrev pub Knows : View → Type 0
-  Knows Spent = Unit {0}
+  Knows Spent = ⊤
   Knows (Root given joined) =
       (seat ≡ 0)
       × ((conn : ℕ) → is_out conn given joined ≡ false → (seats conn ≡ 0) × (calls conn ≡ calls_of conn joined))

@@ -1,6 +1,6 @@
 -- What the next command keeps as it begins, for values that are given by equations.
 use Rattle.std.proofs.Common.{◌≡◌, ◌≢◌, ◌⊎◌, inl, inr, ℕ, Bool, ◌+◌, ◌<◌, ◌≤◌, ◌^◌, List, [], ◌∷◌, ◌++◌, length, Some, Result, Ok, Err, IfOk, slice_get, refl, sym, ap, ◌∙◌, subst, arith}
-use Rattle.std.specs.Prelude.{OnErr}
+use Rattle.std.specs.Prelude.{OnErr, ⊤}
 use Rattle.std.proofs.lemmas.List.{length-map}
 use Rattle.mc_calls.specs.declared.call.Call.{Call}
 use Rattle.mc_calls.specs.declared.call.Call.TheVariants.{Set as SetCall}
@@ -104,14 +104,14 @@ module _ (p q : Passed) (r r' : RingName) (taken taken' known known' : List Fram
     made_on : {E : Type 0} (made : Result Made E) → IsMade (with p (going command calls [])) (with q (going command calls replies')) made → StepsOn first (with q (going command calls replies'))
     made_on made on = goes_on first (with p (going command calls [])) (with q (going command calls replies')) (goes_to (going command calls [])) on.goes
 
-    none_made : IsUnmade p q replies' → IsMade {E = Unit {0}} (with p (going command calls [])) (with q (going command calls replies')) (Err tt)
+    none_made : IsUnmade p q replies' → IsMade {E = ⊤} (with p (going command calls [])) (with q (going command calls replies')) (Err tt)
     none_made unmade = is_made p q r' taken' known' (going command calls []) batch.finished sh batch.texts command calls [] replies' kept_going refl pass (Err tt) (unmade.same, unmade.none)
 
     module _ (asked : ShardCall) (only : calls ≡ asked ∷ []) where
       there : slice_get calls 0 ≡ Some asked
       there = ap (λ (l : List ShardCall). slice_get l 0) only
 
-      one_made : IsMadeAlone batch.finished asked p q replies' → IsMade {E = Unit {0}} (with p (going command calls [])) (with q (going command calls replies')) (Ok Mades.Call)
+      one_made : IsMadeAlone batch.finished asked p q replies' → IsMade {E = ⊤} (with p (going command calls [])) (with q (going command calls replies')) (Ok Mades.Call)
       one_made alone =
           is_made p q r' taken' known' (going command calls []) batch.finished sh batch.texts command calls [] replies' kept_going refl pass (Ok Mades.Call)
           (asked, there, alone.entry, alone.part, alone.entered, alone.replied)
@@ -128,7 +128,7 @@ module _ (p q : Passed) (r r' : RingName) (taken taken' known known' : List Fram
 
       stopped_begun : (end : HoldEnd) → Makes batch.finished calls [] p replies' q (Mades.Stopped end) → IsBegun first (with q (going command calls replies')) (Ok (Stopped end))
       stopped_begun end stops =
-          let on : IsMade {E = Unit {0}} (with p (going command calls [])) (with q (going command calls replies')) (Ok (Mades.Stopped end)) =
+          let on : IsMade {E = ⊤} (with p (going command calls [])) (with q (going command calls replies')) (Ok (Mades.Stopped end)) =
           is_made p q r' taken' known' (going command calls []) batch.finished sh batch.texts command calls [] replies' kept_going refl pass (Ok (Mades.Stopped end)) stops in record {
             kept = on.kept;
             goes = made_on (Ok (Mades.Stopped end)) on;
@@ -160,7 +160,7 @@ module _ (p q : Passed) (r r' : RingName) (taken taken' known known' : List Fram
         held (Err x) = refl
 
     read_begun : (result : Result Begins NoMemory) → IsRead p.table.slots frame p batch q begun' replies' batch' result → IsBegun first last result
-    read_begun (Ok Going) read = going_on {E = Unit {0}} (Err tt) (Ok Going) read.reads read.batch_is (none_made replies' read.unmade) (tt, refl)
+    read_begun (Ok Going) read = going_on {E = ⊤} (Err tt) (Ok Going) read.reads read.batch_is (none_made replies' read.unmade) (tt, refl)
     read_begun (Ok Finished) read = absurd read.reads
     read_begun (Ok (Stopped end)) read = absurd read.reads
     read_begun (Err none) read =
@@ -180,7 +180,7 @@ module _ (p q : Passed) (r r' : RingName) (taken taken' known known' : List Fram
       where
         by : (IsMadeAlone batch.finished tried.asked p q replies' ⊎ IsUnmade p q replies') → IsBegun first last (Err none)
         by (inl alone) = going_on (Ok Mades.Call) (Err none) tried.begun_is tried.tries.1 (one_made replies' tried.asked tried.only alone) tt
-        by (inr unmade) = going_on {E = Unit {0}} (Err tt) (Err none) tried.begun_is tried.tries.1 (none_made replies' unmade) tt
+        by (inr unmade) = going_on {E = ⊤} (Err tt) (Err none) tried.begun_is tried.tries.1 (none_made replies' unmade) tt
 
     pub begun_as : (shards : ℕ) (result : Result Begins NoMemory) → shards ≡ p.table.slots → StartsTo shards frame p batch q begun' replies' batch' result → IsBegun first last result
     begun_as shards result same starts = by (subst (λ n. StartsTo n frame p batch q begun' replies' batch' result) same starts)

@@ -1,5 +1,5 @@
 -- A connection, when all of it is served.
-use Rattle.std.specs.Prelude.{◌≡◌, ℕ, ◌+◌, ◌-◌, List, [], ◌∷◌, length, take, drop}
+use Rattle.std.specs.Prelude.{◌≡◌, ℕ, ◌+◌, ◌-◌, List, [], ◌∷◌, length, take, drop, ⊤}
 use Rattle.std.specs.List.{concat}
 use Rattle.mc_calls.specs.declared.entry.Entry.{Entry}
 use Rattle.mc_calls.specs.declared.hold.Hold.{Hold}
@@ -40,7 +40,7 @@ session_texts stops texts = cut_from 0 stops texts
 
 -- every hold is of this connection
 abbrev pub AreOf : ℕ → List Hold → Type 0
-AreOf conn [] = Unit {0}
+AreOf conn [] = ⊤
 AreOf conn (h ∷ hs) = (h.conn ≡ conn) × AreOf conn hs
 
 -- ---- a connection

@@ -1,5 +1,5 @@
 -- What cores kept and the ends of their receive rings have shown.
-use Rattle.std.specs.Prelude.{◌≡◌, List, [], ◌∷◌, ◌++◌}
+use Rattle.std.specs.Prelude.{◌≡◌, List, [], ◌∷◌, ◌++◌, ⊤}
 use Rattle.zy_rx.specs.declared.rx.Rx.{Rx}
 use Rattle.zy_rx.specs.Ring.{Offering}
 use Rattle.zy_core.specs.Core.{Cored, CoreKeeps}
@@ -13,6 +13,6 @@ pub record HasShown (inlet : Offering) (c : Cored) : Type 0 where
 
 -- the same holds of each core and its inlet
 abbrev pub HaveShown : List Offering → List Cored → Type 0
-HaveShown [] [] = Unit {0}
+HaveShown [] [] = ⊤
 HaveShown (inlet ∷ inlets) (core ∷ cores) = HasShown inlet core × HaveShown inlets cores
 HaveShown inlets cores = ⊥
