@@ -2,7 +2,6 @@ pub mod OwnerLemmas
 pub mod KnownLemmas
 pub mod FollowLemmas
 pub mod HandLemmas
-pub mod RoleLemmas
 pub mod MoveLemmas
 pub mod LookLemmas
 pub mod TakeLemmas

@@ -11,7 +11,6 @@ use Rattle.atomic_table.specs.Table.{Act, step, stepped, keeps, carried_after, V
 use Rattle.atomic_table.proofs.Lists.{one_turn}
 use Rattle.zy_shuffle.proofs.HandLemmas.{fetch_act, fetches}
 use Rattle.zy_shuffle.proofs.MoveLemmas.{looked_on}
-use Rattle.zy_shuffle.proofs.RoleLemmas.{reheld, role_is}
 use Rattle.zy_shuffle.specs.Hand.{emptied}
 use Rattle.zy_shuffle.specs.Holder.{Holder, at_bell, bell, core_count, cores, in_hand, in_queue, nobody, weight}
 use Rattle.zy_shuffle.specs.ShuffleRule.{RingState, IsNote, IsRole, IsRung, Knows, Lies, ShuffleRule}
@@ -19,7 +18,8 @@ use Rattle.zy_shuffle.specs.HomeRole.{IsActive, with_bells, with_stored}
 use Rattle.zy_shuffle.specs.Step.{Seated, fronted, fronting, noting, noting_bells, saw_bells, saw_cell, saw_head, saw_tail, stored_cell, storing}
 use Rattle.zy_shuffle.specs.View.{head_step, plain_step, tail_step, traced, try_step}
 use Rattle.zy_shuffle.specs.Word.{bell_at, cell}
-use Rattle.zy_shuffle.specs.declared.ring.view.Role.TheVariants.{Core, Home}
+use Rattle.zy_shuffle.specs.declared.ring.view.Role.{Role}
+use Rattle.zy_shuffle.specs.declared.ring.view.Role.TheVariants.{Closed, Core, Home, Spent, Start}
 use Rattle.zy_shuffle.specs.declared.ring.view.Trace.{Trace}
 use Rattle.zy_shuffle.specs.declared.ring.view.View.{View}
 use Rattle.zy_table.proofs.MemberLemmas.{front_distinct, front_in}
@@ -104,6 +104,15 @@ module _ {T M : Type 0} (mark : T → M) (label : T → Name) where
       let h = (r.each_seat id v at).hand q e in
       subst (λ (x : Holder). Lies mark label s.homes r.marks r.name q x) h.1 (r.each_place q h.0).lies
 
+  -- the role of an active seat does not depend on a hand
+  pub reheld : (ws : List ℕ) (m head tail : ℕ) (holders : ℕ → Holder) (marks : ℕ → std.Option M) (z : Name) (count j : ℕ) (hand hand' : List ℕ) (tag : Name) (kept : List (ℕ × T)) (x : Role) → IsActive x
+      → IsRole mark label ws m head tail holders marks z count j hand tag kept x → IsRole mark label ws m head tail holders marks z count j hand' tag kept x
+  reheld ws m head tail holders marks z count j hand hand' tag kept Spent a h = absurd a
+  reheld ws m head tail holders marks z count j hand hand' tag kept Start a h = absurd a
+  reheld ws m head tail holders marks z count j hand hand' tag kept Core a h = h
+  reheld ws m head tail holders marks z count j hand hand' tag kept (Home t st nt out) a h = h
+  reheld ws m head tail holders marks z count j hand hand' tag kept (Closed gone) a h = absurd a
+
   pub fronts : (n id p : ℕ) (me : Seated T) → me.1 ≡ emptied me.0.hand → IsActive me.0.role → is_in p me.0.hand ≡ true → Allows (ShuffleRule mark label) n id me 0 (λ y. y) (λ y m. fronted p me y m)
   fronts n id p me out active has s r wide at _ =
       let y : ℕ = get_or s.words 0 0 in
@@ -119,7 +128,7 @@ module _ {T M : Type 0} (mark : T → M) (label : T → Name) where
         head_seen = omega arith;
         tail_seen = k.tail_seen;
         note = k.note;
-        role = reheld r id me.0 at active v'.hand;
+        role = reheld s.words (length s.homes) r.head r.tail r.holders r.marks r.name (cores s.views) id hand v'.hand me.0.label me.0.kept me.0.role active k.role;
       } in
       subst (λ (cs : List (ℕ × std.Option T)). (w : View T) × (a : Act (std.Option T)) × Valid s.homes cs a × ShuffleRule mark label (stepped s 0 y id cs w a) × fronted p me y (w, carried_after cs a)) (sym out) (
         v',
@@ -156,7 +165,7 @@ module _ {T M : Type 0} (mark : T → M) (label : T → Name) where
       let near = mine.0 in
       let v' : View T = storing p me.0 in
       let f = fetches s.homes p hand has k.apart (out_with s r id me.0 at) in
-      let home = role_is r id me.0 at role in
+      let home = subst (λ x. IsRole mark label s.words m r.head r.tail r.holders r.marks r.name (cores s.views) id me.0.hand me.0.label me.0.kept x) role k.role in
       let t_is : t ≡ r.tail = home.2 in
       let i_is : i ≡ 32 + r.tail % m = is ∙ ap (λ (x : ℕ × ℕ). 32 + x.0 % x.1) (λ j. (t_is j, sym wide j)) in
       let wide_is = r.wide in
@@ -220,7 +229,7 @@ module _ {T M : Type 0} (mark : T → M) (label : T → Name) where
       let c : ℕ = i - (32 + n) in
       let w_is : c ≡ w = omega arith in
       let v' : View T = noting_bells c y me.0 in
-      let home = role_is r id me.0 at role in
+      let home = subst (λ x. IsRole mark label s.words m r.head r.tail r.holders r.marks r.name (cores s.views) id me.0.hand me.0.label me.0.kept x) role k.role in
       let role' : with_bells (std.Some (c, y)) me.0.role ≡ Home t st (std.Some (c, y)) out = ap (with_bells (std.Some (c, y))) role in
       let rung : IsRung m r.holders (std.Some (c, y)) = λ b lt one.
       let q : ℕ = 64 * c + b in

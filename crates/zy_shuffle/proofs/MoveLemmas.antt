@@ -9,8 +9,7 @@ use Rattle.atomic_table.proofs.Lists.{at_set, set_here, set_else}
 use Rattle.zy_shuffle.specs.Follow.{Follows}
 use Rattle.zy_shuffle.proofs.FollowLemmas.{follows_else}
 use Rattle.zy_shuffle.proofs.KnownLemmas.{not_spent, known_same}
-use Rattle.zy_shuffle.proofs.HandLemmas.{cores_set}
-use Rattle.zy_shuffle.proofs.RoleLemmas.{lone, other_core}
+use Rattle.zy_shuffle.proofs.HandLemmas.{cores_at, cores_set}
 use Rattle.zy_shuffle.specs.Holder.{Holder, at_bell, bell, core_count, cores, in_hand, in_queue, nobody, weight}
 use Rattle.zy_shuffle.specs.ShuffleRule.{RingState, InQueue, IsNote, IsRole, IsRung, IsStored, Knows, Lies, PlaceRule, ShuffleRule}
 use Rattle.zy_shuffle.specs.HomeRole.{IsActive}
@@ -27,6 +26,23 @@ use Rattle.zy_table.specs.Sum.{sum_below}
 use Rattle.zy_table.specs.declared.name.Name.{Name}
 
 module _ {T M : Type 0} (mark : T → M) (label : T → Name) where
+  -- while another seat is active, no seat is at its start or its end
+  lone : (ws : List ℕ) (m head tail : ℕ) (holders : ℕ → Holder) (marks : ℕ → std.Option M) (z : Name) (count id j : ℕ) (v : View T) (x : Role) → IsActive x → IsRole mark label ws m head tail holders marks z count id v.hand v.label v.kept x → core_count x ≤ count
+      → j ≢ id → j ≡ 0 → count ≡ 0 → ⊥
+  lone ws m head tail holders marks z count id j v Spent a h c ne e f = a
+  lone ws m head tail holders marks z count id j v Start a h c ne e f = a
+  lone ws m head tail holders marks z count id j v Core a h c ne e f = omega arith
+  lone ws m head tail holders marks z count id j v (Home t st nt out) a h c ne e f = ne (e ∙ sym h.0)
+  lone ws m head tail holders marks z count id j v (Closed gone) a h c ne e f = a
+
+  -- each active seat other than the home's is a core's
+  other_core : (ws : List ℕ) (m head tail : ℕ) (holders : ℕ → Holder) (marks : ℕ → std.Option M) (z : Name) (count id j : ℕ) (v : View T) (x : Role) → IsActive x → IsRole mark label ws m head tail holders marks z count id v.hand v.label v.kept x → j ≢ id → j ≡ 0 → x ≡ Core
+  other_core ws m head tail holders marks z count id j v Spent a h ne e = absurd a
+  other_core ws m head tail holders marks z count id j v Start a h ne e = absurd a
+  other_core ws m head tail holders marks z count id j v Core a h ne e = refl
+  other_core ws m head tail holders marks z count id j v (Home t st nt out) a h ne e = absurd (ne (e ∙ sym h.0))
+  other_core ws m head tail holders marks z count id j v (Closed gone) a h ne e = absurd a
+
   lies_else : (hs hs' : List (Option (std.Option T))) (marks marks' : ℕ → std.Option M) (z : Name) (q : ℕ) (x : Holder) → get_elem? hs' q ≡ get_elem? hs q → marks' q ≡ marks q → Lies mark label hs marks z q x → Lies mark label hs' marks' z q x
   lies_else hs hs' marks marks' z q nobody e f h = e ∙ h
   lies_else hs hs' marks marks' z q (in_queue k) e f h = (h.0, e ∙ h.1, f ∙ h.2, h.3)
@@ -90,10 +106,10 @@ module _ {T M : Type 0} (mark : T → M) (label : T → Name) where
     module _ (h : Move) where
       others_role : (j : ℕ) (u : View T) (x : Role) → j ≢ id → IsRole mark label s.words Size r.head r.tail r.holders r.marks r.name (cores s.views) j u.hand u.label u.kept x → IsRole mark label Ws Size head' tail' Holders Marks r.name (cores s.views) j u.hand u.label u.kept x
       others_role j u Spent ne k = k
-      others_role j u Start ne k = absurd (lone r id v h.at h.active j ne k.0 k.1)
+      others_role j u Start ne k = absurd (lone s.words Size r.head r.tail r.holders r.marks r.name (cores s.views) id j v v.role h.active (r.each_seat id v h.at).role (cores_at s.views id v h.at) ne k.0 k.1)
       others_role j u Core ne k = k
       others_role j u (Home t st nt out) ne k =
-          let q = h.quiet (other_core r id v h.at h.active j ne k.0) in
+          let q = h.quiet (other_core s.words Size r.head r.tail r.holders r.marks r.name (cores s.views) id j v v.role h.active (r.each_seat id v h.at).role ne k.0) in
           let here : r.head ≤ r.tail = (let a = r.sums in omega arith) in (
             k.0,
             k.1,
@@ -108,7 +124,7 @@ module _ {T M : Type 0} (mark : T → M) (label : T → Name) where
           stored : (st : std.Option ℕ) → tail' ≡ r.tail → cell Ws Size r.tail ≡ cell s.words Size r.tail → IsStored s.words r.head r.tail Size st → IsStored Ws head' tail' Size st
           stored std.None e c k = tt
           stored (std.Some y) e c k = ap (cell Ws Size) e ∙ c ∙ k
-      others_role j u (Closed gone) ne k = absurd (lone r id v h.at h.active j ne k.0 k.1)
+      others_role j u (Closed gone) ne k = absurd (lone s.words Size r.head r.tail r.holders r.marks r.name (cores s.views) id j v v.role h.active (r.each_seat id v h.at).role (cores_at s.views id v h.at) ne k.0 k.1)
 
       others : (j : ℕ) (u : View T) → j ≢ id → Knows mark label s.words Size r.head r.tail r.holders r.marks r.name (cores s.views) j u → Knows mark label Ws Size head' tail' Holders Marks r.name (cores s.views) j u
       others j u ne k =
@@ -186,16 +202,16 @@ module _ {T M : Type 0} (mark : T → M) (label : T → Name) where
     module _ (h : Look) where
       lookers_role : (j : ℕ) (u : View T) (x : Role) → j ≢ id → IsRole mark label s.words Zize r.head r.tail r.holders r.marks r.name (cores s.views) j u.hand u.label u.kept x → IsRole mark label Wz Zize r.head r.tail r.holders r.marks r.name (cores s.views) j u.hand u.label u.kept x
       lookers_role j u Spent ne k = k
-      lookers_role j u Start ne k = absurd (lone r id v h.at h.active j ne k.0 k.1)
+      lookers_role j u Start ne k = absurd (lone s.words Zize r.head r.tail r.holders r.marks r.name (cores s.views) id j v v.role h.active (r.each_seat id v h.at).role (cores_at s.views id v h.at) ne k.0 k.1)
       lookers_role j u Core ne k = k
       lookers_role j u (Home t st nt out) ne k =
-          let q = h.quiet (other_core r id v h.at h.active j ne k.0) in
+          let q = h.quiet (other_core s.words Zize r.head r.tail r.holders r.marks r.name (cores s.views) id j v v.role h.active (r.each_seat id v h.at).role ne k.0) in
           (k.0, k.1, k.2, k.3, stored st q k.4, k.5, k.6, k.7)
         where
           stored : (st : std.Option ℕ) → cell Wz Zize r.tail ≡ cell s.words Zize r.tail → IsStored s.words r.head r.tail Zize st → IsStored Wz r.head r.tail Zize st
           stored std.None c k = tt
           stored (std.Some y) c k = c ∙ k
-      lookers_role j u (Closed gone) ne k = absurd (lone r id v h.at h.active j ne k.0 k.1)
+      lookers_role j u (Closed gone) ne k = absurd (lone s.words Zize r.head r.tail r.holders r.marks r.name (cores s.views) id j v v.role h.active (r.each_seat id v h.at).role (cores_at s.views id v h.at) ne k.0 k.1)
 
       lookers : (j : ℕ) (u : View T) → j ≢ id → Knows mark label s.words Zize r.head r.tail r.holders r.marks r.name (cores s.views) j u → Knows mark label Wz Zize r.head r.tail r.holders r.marks r.name (cores s.views) j u
       lookers j u ne k = record {

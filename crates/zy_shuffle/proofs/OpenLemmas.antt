@@ -13,7 +13,7 @@ use Rattle.std.specs.Int.{bit_at}
 use Rattle.std.proofs.lemmas.Nat.Bits.{bit_at-zero}
 use Rattle.atomic_table.specs.Table.{step, opening, carried_after, homes_after, Allows}
 use Rattle.atomic_table.proofs.Lists.{at_set, set_here}
-use Rattle.zy_shuffle.proofs.HandLemmas.{below_distinct, below_in, cores_set, in_below, take_act, takes_all}
+use Rattle.zy_shuffle.proofs.HandLemmas.{below_distinct, below_in, cores_at, cores_set, in_below, take_act, takes_all}
 use Rattle.zy_shuffle.specs.Hand.{below_then, emptied}
 use Rattle.zy_shuffle.specs.Holder.{Holder, bell, cores, in_hand, nobody, weight}
 use Rattle.zy_shuffle.specs.ShuffleRule.{Knows, ShuffleRule}
@@ -27,8 +27,7 @@ use Rattle.zy_table.specs.Member.{is_in}
 use Rattle.zy_table.specs.Name.{no_name}
 use Rattle.zy_table.specs.Sum.{sum_below}
 use Rattle.zy_table.specs.declared.name.Name.{Name}
-use Rattle.zy_shuffle.proofs.IdleLemmas.{idle_knows, shut_slot}
-use Rattle.zy_shuffle.proofs.RoleLemmas.{alone}
+use Rattle.zy_shuffle.proofs.IdleLemmas.{alone, idle_knows, shut_slot}
 
 module _ {T M : Type 0} (mark : T → M) (label : T → Name) where
   -- the first load of the home, which takes all slots and names the label
@@ -87,7 +86,7 @@ module _ {T M : Type 0} (mark : T → M) (label : T → Name) where
             (λ (x : (j ≢ id) × (get_elem? s.views j ≡ some u)).
             let old = r.each_seat j u x.1 in
             idle_knows mark label s.words m r.head r.tail r.head r.tail r.holders holders' r.marks marks' r.name z (cores s.views) 0 j u (omega arith) (omega arith) old.note
-            (alone r j u x.1 role.1 (λ e. x.0 (e ∙ sym role.0))) old)
+            (alone mark label s.words m r.head r.tail r.holders r.marks r.name (cores s.views) j u u.role (cores_at s.views j u x.1) role.1 (λ e. x.0 (e ∙ sym role.0)) old.role) old)
             (at_set s.views id j v' u e));
         live = λ q j lt e. let here : j ≡ id = cc in (v', ap (get_elem? (set s.views id v')) here ∙ set_here s.views id v' (at_below s.views id start at), all_in q (omega arith));
       } in (

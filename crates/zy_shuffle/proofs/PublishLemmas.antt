@@ -1,7 +1,6 @@
 -- The store of the tail: it puts a place at the end of the queue.
 use Rattle.zy_shuffle.proofs.FollowLemmas.{follows_publish, publication_seat}
 use Rattle.zy_shuffle.proofs.KnownLemmas.{between, since_is, may_follow, known_more}
-use Rattle.zy_shuffle.proofs.RoleLemmas.{role_is}
 use Rattle.zy_shuffle.specs.declared.ring.view.Event.{Event}
 use Rattle.std.proofs.Common.{◌≡◌, ◌≢◌, ℕ, ◌+◌, ◌/◌, ◌%◌, ◌<◌, ◌≤◌, List, ◌∷◌, ◌++◌, length, set, true, true≢false, refl, sym, ap, ◌∙◌, subst, arith, length-set, get_or-set_other, get_or-set_same}
 use Rattle.std.specs.Prelude as std
@@ -38,7 +37,7 @@ module _ {T M : Type 0} (before : Before) (mark : T → M) (label : T → Name) 
       let k = r.each_seat id v at in
       let ws' : List ℕ = set s.words 16 new in
       let ks : List ℕ = rest_of v.hand in
-      let home = role_is r id v at role in
+      let home = subst (λ x. IsRole mark label s.words m r.head r.tail r.holders r.marks r.name (cores s.views) id v.hand v.label v.kept x) role k.role in
       let t_is : t ≡ r.tail = home.2 in
       let has : is_in p v.hand ≡ true = ap (is_in p) front ∙ in_front p ks in
       let mine = k.hand p has in

@@ -10,7 +10,6 @@ use Rattle.atomic_table.proofs.Lists.{at_set, set_here, set_else, at_longer}
 use Rattle.zy_shuffle.proofs.FollowLemmas.{follows_else}
 use Rattle.zy_shuffle.proofs.KnownLemmas.{known_added, known_same, known_joined}
 use Rattle.zy_shuffle.proofs.HandLemmas.{cores_set, cores_snoc}
-use Rattle.zy_shuffle.proofs.RoleLemmas.{role_is}
 use Rattle.zy_shuffle.specs.Holder.{Holder, in_hand, core_count, cores}
 use Rattle.zy_shuffle.specs.Run.{IsKnown}
 use Rattle.zy_shuffle.specs.ShuffleRule.{IsRole, Knows, RingState, ShuffleRule}
@@ -73,7 +72,7 @@ module _ {T M : Type 0} (mark : T → M) (label : T → Name) where
   splits id t out st nt v is_home s r at =
       let m : ℕ = length s.homes in
       let k = r.each_seat id v at in
-      let home = role_is r id v at is_home in
+      let home = subst (λ x. IsRole mark label s.words m r.head r.tail r.holders r.marks r.name (cores s.views) id v.hand v.label v.kept x) is_home k.role in
       let left : View T = splitting v in
       let right : View T = newcomer v in
       let views' : List (View T) = set s.views id left in
@@ -117,7 +116,7 @@ module _ {T M : Type 0} (mark : T → M) (label : T → Name) where
   joins id other t out st nt v w is_home is_core empty s r at apart there =
       let m : ℕ = length s.homes in
       let k = r.each_seat id v at in
-      let home = role_is r id v at is_home in
+      let home = subst (λ x. IsRole mark label s.words m r.head r.tail r.holders r.marks r.name (cores s.views) id v.hand v.label v.kept x) is_home k.role in
       let both : View T = taken_in v w in
       let views1 : List (View T) = set s.views id both in
       let views' : List (View T) = set views1 other spent in
