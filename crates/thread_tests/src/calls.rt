@@ -6,7 +6,7 @@ ghost use Rattle.mc_store.specs.Pass.{passed, rooted};
 ghost use Rattle.mc_store.specs.View.{untraced};
 
 use crate::judging::{judge, no_memory};
-use mc_calls::{Call, Entry, Tag};
+use mc_calls::{Call, Tag};
 use mc_history::{Histories, History};
 use mc_store::{Pass, Root, StoreTable};
 use std::alloc::Global;
