@@ -1,6 +1,6 @@
 -- A call touches its own key only, and depends on the item of that key only.
 use Rattle.std.proofs.Common.{◌≡◌, ℕ, ◌+◌, Bool, true, false, cond, List, [], refl, sym, ap, ◌∙◌, subst}
-use Rattle.std.specs.Prelude.{is_some, unwrap_or, Option, None, Some, ⊤}
+use Rattle.std.specs.Prelude.{is_some, unwrap_or, Option, None, Some}
 use Rattle.std.specs.Ordering.{nat_cmp, is_eq}
 use Rattle.std.specs.declared.cmp.Ordering.{Ordering}
 use Rattle.std.specs.declared.cmp.Ordering.TheVariants.{Less, Equal, Greater}
@@ -23,10 +23,10 @@ use Rattle.mc_allows.specs.Steps.{is_same, is_own_key, is_about}
 
 -- an effect is on this key, or on all keys where there is none
 abbrev pub IsFor : Option (List ℕ) → Effect → Type 0
-IsFor on keeps = ⊤
+IsFor on keeps = Unit {0}
 IsFor None (stores key flags value) = ⊥
 IsFor None (removes key) = ⊥
-IsFor None empties = ⊤
+IsFor None empties = Unit {0}
 IsFor (Some on) (stores key flags value) = key ≡ on
 IsFor (Some on) (removes key) = key ≡ on
 IsFor (Some on) empties = ⊥

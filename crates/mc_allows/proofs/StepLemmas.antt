@@ -1,5 +1,5 @@
 -- What a shard answers to a call, and what the call's key has after it, is allowed; so are all steps at a key.
-use Rattle.std.specs.Prelude.{Option, None, Some, nat_lt, ◌==◌, ⊤}
+use Rattle.std.specs.Prelude.{Option, None, Some, nat_lt, ◌==◌}
 use Rattle.std.proofs.Common.{◌≡◌, ◌⊎◌, inl, inr, ℕ, ◌+◌, ◌-◌, ◌%◌, ◌^◌, ◌<◌, ◌≤◌, Bool, true, false, cond, List, [], ◌∷◌, ◌++◌, length, refl, sym, ap, ◌∙◌, subst, arith, eq-eqb}
 use Rattle.std.specs.FinMap.{get, get-empty}
 use Rattle.std.specs.Ordering.{nat_cmp}
@@ -163,7 +163,7 @@ next_unique shards number state = unique_of shards number (state.count + 1)
 
 -- each unique is below this number
 abbrev AreUnder : ℕ → List ℕ → Type 0
-AreUnder bound [] = ⊤
+AreUnder bound [] = Unit {0}
 AreUnder bound (x ∷ xs) = (x < bound) × AreUnder bound xs
 
 still_under : (bound more : ℕ) → bound ≤ more → (uniques : List ℕ) → AreUnder bound uniques → AreUnder more uniques

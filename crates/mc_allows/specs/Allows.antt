@@ -1,8 +1,8 @@
 -- What a memcached may answer to a call, and what the key of the call has after it: memcached's protocol.txt, "Storage
 -- commands", "Retrieval command", "Deletion", "Increment/Decrement". It chooses the CAS values, may pad a number that
 -- became shorter, and may fail to store.
-use Rattle.std.specs.Prelude.{◌≡◌, ◌⊎◌, ℕ, ◌+◌, ◌-◌, ◌%◌, ◌^◌, ◌<◌, nat_lt, Bool, true, false, ◌&&◌, ◌||◌, List, ◌++◌}
-use Rattle.std.specs.Prelude.{length, Option, None, Some}
+use Rattle.std.specs.Prelude.{◌≡◌, ◌⊎◌, ℕ, ◌+◌, ◌-◌, ◌%◌, ◌^◌, ◌<◌, nat_lt, Bool, true, false, ◌&&◌, ◌||◌, List, ◌++◌, length}
+use Rattle.std.specs.Prelude.{Option, None, Some}
 use Rattle.mc_calls.specs.declared.item.Item.{Item}
 use Rattle.mc_calls.specs.declared.call.Call.{Call}
 use Rattle.mc_calls.specs.declared.call.Call.TheVariants.{Get, Set, Add, Replace, Append, Prepend, Cas, Incr, Decr}
@@ -100,5 +100,4 @@ Allows before call Failed after = (may_fail call ≡ true) × ((after ≡ before
 
 -- a call that gets no answer may fail only if the server may forget items, or if its value is long
 abbrev pub may_fail_quietly : Bool → Call → Bool
-may_fail_quietly may_forget call =
-    may_fail call && (may_forget || nat_lt sure_limit (length (value_part (parts_of call))))
+may_fail_quietly may_forget call = may_fail call && (may_forget || nat_lt sure_limit (length (value_part (parts_of call))))

@@ -1,6 +1,6 @@
 -- What an answer shows of what was said to a call, what this needs of the item before the call, and what it surely
 -- leaves. These tables are part of the program: laws hold them against `Allows`.
-use Rattle.std.specs.Prelude.{◌≡◌, ℕ, zero, suc, ◌+◌, ◌-◌, ◌%◌, ◌^◌, nat_lt, if◌then◌else◌, Bool, true, false, ⊤}
+use Rattle.std.specs.Prelude.{◌≡◌, ℕ, zero, suc, ◌+◌, ◌-◌, ◌%◌, ◌^◌, nat_lt, if◌then◌else◌, Bool, true, false}
 use Rattle.mc_calls.specs.declared.call.Call.{Call}
 use Rattle.mc_calls.specs.declared.call.Call.TheVariants as Calls
 use Rattle.mc_calls.specs.declared.call_reply.CallReply.{CallReply}
@@ -11,8 +11,8 @@ use Rattle.mc_allows.specs.declared.said.Said.TheVariants.{Replied, Failed}
 use Rattle.mc_allows.specs.declared.shown.Shown.{Shown}
 use Rattle.mc_allows.specs.declared.shown.Shown.TheVariants.{Nothing, NoFailure, Reply, SomeHit, HitWith, Failure}
 use Rattle.mc_allows.specs.declared.fact.Fact.{Fact}
-use Rattle.mc_allows.specs.declared.fact.Fact.TheVariants.{Unknown, Never, Absent, Present, Item, Value, Number}
-use Rattle.mc_allows.specs.declared.fact.Fact.TheVariants.{Counted, Ending, Beginning}
+use Rattle.mc_allows.specs.declared.fact.Fact.TheVariants.{Unknown, Never, Absent, Present, Item, Value, Number, Counted}
+use Rattle.mc_allows.specs.declared.fact.Fact.TheVariants.{Ending, Beginning}
 
 -- ---- what is shown
 
@@ -24,10 +24,10 @@ may_have_failed shown = false
 
 -- the call may have got this reply, by what is shown
 abbrev pub SuitsReply : Shown → CallReply → Type 0
-SuitsReply Nothing reply = ⊤
-SuitsReply NoFailure reply = ⊤
+SuitsReply Nothing reply = Unit {0}
+SuitsReply NoFailure reply = Unit {0}
 SuitsReply (Reply shown) reply = told reply ≡ told shown
-SuitsReply SomeHit (Replies.Hit flags unique value) = ⊤
+SuitsReply SomeHit (Replies.Hit flags unique value) = Unit {0}
 SuitsReply SomeHit reply = ⊥
 SuitsReply (HitWith shown) (Replies.Hit flags unique value) = value ≡ shown
 SuitsReply (HitWith shown) reply = ⊥

@@ -1,5 +1,5 @@
 -- Chains of steps at one key: calls with what was said to them, and losses.
-use Rattle.std.specs.Prelude.{◌≡◌, ◌⊎◌, ℕ, Bool, true, false, List, [], ◌∷◌, filter, Option, None, Some, ⊤}
+use Rattle.std.specs.Prelude.{◌≡◌, ◌⊎◌, ℕ, Bool, true, false, List, [], ◌∷◌, filter, Option, None, Some}
 use Rattle.std.specs.Ordering.{nat_cmp, eq_by_cmp}
 use Rattle.std.specs.Cmp.Lexicographic.{slice_cmp}
 use Rattle.mc_calls.specs.declared.item.Item.{Item}
@@ -47,7 +47,7 @@ MayLose forget first before = (forget ≡ true) ⊎ ((item : Item) × (first ≡
 
 -- each step is allowed, if the key has this before them; an item that was there first may be lost while it is there
 abbrev pub AreAllowed : Bool → Option Item → Option Item → List KeyStep → Type 0
-AreAllowed forget first before [] = ⊤
+AreAllowed forget first before [] = Unit {0}
 AreAllowed forget first before (made name call said after ∷ steps) =
     Allows before call said after × AreAllowed forget first after steps
 AreAllowed forget first before (lost ∷ steps) = MayLose forget first before × AreAllowed forget None None steps
@@ -68,12 +68,12 @@ unique_stored said after = None
 
 -- a unique is none of these
 abbrev pub IsNoneOf : List ℕ → ℕ → Type 0
-IsNoneOf [] unique = ⊤
+IsNoneOf [] unique = Unit {0}
 IsNoneOf (x ∷ xs) unique = (unique ≡ x → ⊥) × IsNoneOf xs unique
 
 -- a unique that is given is none of these
 abbrev pub IsNewUnique : List ℕ → Option ℕ → Type 0
-IsNewUnique before None = ⊤
+IsNewUnique before None = Unit {0}
 IsNewUnique before (Some unique) = IsNoneOf before unique
 
 -- these uniques, and the one that is given
@@ -83,10 +83,9 @@ uniques_with before (Some unique) = unique ∷ before
 
 -- each item that is stored, joined or counted has a unique that no item had since the last loss
 abbrev pub HaveNewUniques : List ℕ → List KeyStep → Type 0
-HaveNewUniques before [] = ⊤
+HaveNewUniques before [] = Unit {0}
 HaveNewUniques before (made name call said after ∷ steps) =
-    IsNewUnique before (unique_stored said after)
-    × HaveNewUniques (uniques_with before (unique_stored said after)) steps
+    IsNewUnique before (unique_stored said after) × HaveNewUniques (uniques_with before (unique_stored said after)) steps
 HaveNewUniques before (lost ∷ steps) = HaveNewUniques [] steps
 
 -- the unique of what a key has at first
@@ -103,7 +102,7 @@ pub record IsAllowedChain (forget : Bool) (first : Option Item) (steps : List Ke
 
 -- the steps are the calls of these entries, named in this way, with their replies
 abbrev pub AreSteps : (Tag → CallName) → List Entry → List KeyStep → Type 0
-AreSteps name [] [] = ⊤
+AreSteps name [] [] = Unit {0}
 AreSteps name (e ∷ es) (made own call (Replied reply) after ∷ steps) =
     (own ≡ name e.tag) × (call ≡ e.call) × (reply ≡ e.reply) × AreSteps name es steps
 AreSteps name es steps = ⊥

@@ -1,6 +1,5 @@
 -- Where groups of cores are while threads drive them. No public clause cites this module.
-use Rattle.std.specs.Prelude.{ℕ, ◌+◌, nat_lt, List, [], ◌∷◌, map, Bool, true, false, ◌&&◌, ◌||◌, not, if◌then◌else◌}
-use Rattle.std.specs.Prelude.{Vec, ⊤}
+use Rattle.std.specs.Prelude.{ℕ, ◌+◌, nat_lt, List, [], ◌∷◌, map, Bool, true, false, ◌&&◌, ◌||◌, not, if◌then◌else◌, Vec, ⊤}
 use Rattle.zy_rounds.specs.declared.feeding.Step.{Step}
 use Rattle.zy_drive.specs.declared.tending.Next.{Next}
 use Rattle.zy_drive.specs.declared.tending.Next.TheVariants.{Made, Broken, Stopped}

@@ -1,6 +1,6 @@
 -- What was read of a capture, in pieces: the records that were cut, the bytes, and why it is read no further.
-use Rattle.std.specs.Prelude.{◌≡◌, ◌⊎◌, ◌↔◌, ℕ, ◌<◌, ◌≤◌, List, [], ◌∷◌, ◌++◌, length, Option, None, Some, IfSome}
-use Rattle.std.specs.Prelude.{Result, Ok, Err, Bool, true, false, ⊤}
+use Rattle.std.specs.Prelude.{◌≡◌, ◌⊎◌, ◌↔◌, ℕ, ◌<◌, ◌≤◌, List, [], ◌∷◌, ◌++◌, length, Option, None, Some, IfSome, Result}
+use Rattle.std.specs.Prelude.{Ok, Err, Bool, true, false, ⊤}
 use Rattle.std.specs.Io.KnownBytes.{IsAtEnd}
 use Rattle.zy_base.specs.Outside.{Rose}
 use Rattle.zy_read.specs.declared.stop.Stop.{Stop}

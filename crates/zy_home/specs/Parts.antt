@@ -1,5 +1,5 @@
 -- The parts of which a home is made.
-use Rattle.std.specs.Prelude.{◌≡◌, ℕ, List, [], ◌∷◌, length, map, ⊤}
+use Rattle.std.specs.Prelude.{◌≡◌, ℕ, List, [], ◌∷◌, length, map}
 use Rattle.std.specs.List.{AllByRecursion}
 use Rattle.zy_rx.specs.Ring.{RingName}
 use Rattle.zy_shuffle.specs.Pass.{HasAll}
@@ -54,7 +54,7 @@ pub record AreParts (core cores count : ℕ) (parts : HomeParts) : Type 0 where
 
 -- the links of new connections, of these blocks with these inlets
 abbrev pub AreFresh : List Blocked → List EventInlet → List Link → Type 0
-AreFresh [] [] [] = ⊤
+AreFresh [] [] [] = Unit {0}
 AreFresh (block ∷ blocks) (inlet ∷ inlets) (link ∷ links) =
     IsFresh block.work.conn inlet link × AreFresh blocks inlets links
 AreFresh blocks inlets links = ⊥

@@ -1,8 +1,7 @@
 //! The reader of recorded packets.
 ghost use Rattle.std.specs.Prelude.{◌≡◌, ◌<◌, ◌≤◌, [], ◌∷◌, length, take, None, IsOk};
 ghost use Rattle.zy_pcap.specs.Steps.{file_limit};
-ghost use Rattle.zy_pcap.specs.Standing.{StandsForFile, FeedsFile, FeedsFileAs, TellsFileFault, TellsLastingFault};
-ghost use Rattle.zy_pcap.specs.Standing.{FinishesBy};
+ghost use Rattle.zy_pcap.specs.Standing.{StandsForFile, FeedsFile, FeedsFileAs, TellsFileFault, TellsLastingFault, FinishesBy};
 ghost use Rattle.zy_pcap.specs.Moves.{frame_read};
 ghost use Rattle.zy_pcap.specs.Step.{AnswersByte, MeetsFrame, PlaceIs};
 

@@ -1,5 +1,5 @@
 -- What an order of calls at a key must be, as far as the rules need it.
-use Rattle.std.specs.Prelude.{◌≡◌, ◌⊎◌, ℕ, true, false, List, [], ◌∷◌, ◌++◌, Option, None, Some, ⊤}
+use Rattle.std.specs.Prelude.{◌≡◌, ◌⊎◌, ℕ, true, false, List, [], ◌∷◌, ◌++◌, Option, None, Some}
 use Rattle.std.specs.List.{slice_get}
 use Rattle.mc_calls.specs.declared.item.Item.{Item}
 use Rattle.mc_calls.specs.declared.call.Call.{Call}
@@ -36,7 +36,7 @@ pub record IsOneOf (calls : List Observed) (name : CallName) (call : Call) (said
 
 -- each step is one of the calls
 abbrev pub AreObserved : List Observed → List KeyStep → Type 0
-AreObserved calls [] = ⊤
+AreObserved calls [] = Unit {0}
 AreObserved calls (made name call said after ∷ steps) = IsOneOf calls name call said × AreObserved calls steps
 AreObserved calls (lost ∷ steps) = AreObserved calls steps
 
@@ -54,13 +54,13 @@ pub record IsLaterStep (calls : List Observed) (name own : CallName) : Type 0 wh
 
 -- these steps may come after the call of this name
 abbrev pub AreLater : List Observed → CallName → List KeyStep → Type 0
-AreLater calls name [] = ⊤
+AreLater calls name [] = Unit {0}
 AreLater calls name (made own call said after ∷ steps) = IsLaterStep calls name own × AreLater calls name steps
 AreLater calls name (lost ∷ steps) = AreLater calls name steps
 
 -- no call is there twice, and none after one that it is surely before
 abbrev pub KeepOrder : List Observed → List KeyStep → Type 0
-KeepOrder calls [] = ⊤
+KeepOrder calls [] = Unit {0}
 KeepOrder calls (made name call said after ∷ steps) = AreLater calls name steps × KeepOrder calls steps
 KeepOrder calls (lost ∷ steps) = KeepOrder calls steps
 

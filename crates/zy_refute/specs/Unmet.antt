@@ -1,5 +1,5 @@
 -- When no call can have made what another one needs.
-use Rattle.std.specs.Prelude.{◌≡◌, ◌⊎◌, ℕ, ◌<◌, true, false, List, ◌++◌, length, Option, None, Some, All, ⊤}
+use Rattle.std.specs.Prelude.{◌≡◌, ◌⊎◌, ℕ, ◌<◌, true, false, List, ◌++◌, length, Option, None, Some, All}
 use Rattle.std.specs.List.{slice_get}
 use Rattle.mc_calls.specs.declared.call.Call.{Call}
 use Rattle.mc_calls.specs.declared.call.Call.TheVariants.{Append, Prepend}
@@ -63,8 +63,7 @@ IsNoMaker store calls fact at x reader g =
 
 -- the same, whatever calls are at these places
 abbrev pub IsNoMakerAt : Store → List Observed → Fact → ℕ → ℕ → Type 0
-IsNoMakerAt store calls fact at reader =
-    (x g : Observed) → slice_get calls at ≡ Some x → slice_get calls reader ≡ Some g
+IsNoMakerAt store calls fact at reader = (x g : Observed) → slice_get calls at ≡ Some x → slice_get calls reader ≡ Some g
     → IsNoMaker store calls fact at x reader g
 
 -- no loss makes the fact
@@ -86,5 +85,5 @@ AreNeverMet store calls needs = All (λ (need : Need). IsNeverMet store calls ne
 
 -- if a call is named, it is one of the calls, and these have no order
 abbrev pub IsRefutation : Store → List Observed → Option ℕ → Type 0
-IsRefutation store calls None = ⊤
+IsRefutation store calls None = Unit {0}
 IsRefutation store calls (Some at) = (at < length calls) × HaveNoOrder store calls

@@ -1,6 +1,5 @@
 -- Turns of cores, each of which takes at most 2^48.
-use Rattle.std.specs.Prelude.{◌≡◌, ◌⊎◌, ℕ, ◌+◌, ◌<◌, ◌≤◌, ◌^◌, nat_lt, if◌then◌else◌, List, [], ◌∷◌, map, Option, Some}
-use Rattle.std.specs.Prelude.{slice_get}
+use Rattle.std.specs.Prelude.{◌≡◌, ◌⊎◌, ℕ, ◌+◌, ◌<◌, ◌≤◌, ◌^◌, nat_lt, if◌then◌else◌, List, [], ◌∷◌, map, Option, Some, slice_get}
 use Rattle.zy_core.specs.Core.{Cored}
 use Rattle.zy_core.specs.declared.turn.Came.{Came}
 use Rattle.zy_core.specs.Turn.{CameTo}

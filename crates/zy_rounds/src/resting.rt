@@ -79,8 +79,8 @@ impl Rester {
         requires fits { EachFits driving.now.shared.now (identities group.old.cores) }
         requires alone { IsAlone self.old.bell.core (identities group.old.cores) }
         requires bells { self.old.bell.bells ≡ driving.now.bells.now }
-        ensures value { IfOk result (GroupWorked (length driving.now.shared.now.rings)
-            (nat_lt self.old.idle self.old.rest) group.old.cores group.new.cores self.old.bell self.new.bell) }
+        ensures value { IfOk result (GroupWorked (length driving.now.shared.now.rings) (nat_lt self.old.idle self.old.rest)
+            group.old.cores group.new.cores self.old.bell self.new.bell) }
         ensures rested { result ≡ Ok Round.Rested → self.old.rest ≤ self.old.idle }
         ensures turns { OnOk result (HaveTurned group.old.cores group.new.cores) }
         ensures err { OnErr result (self.new ≡ self.old) }

@@ -2,8 +2,7 @@
 ghost use Rattle.std.specs.Prelude.{◌≡◌, ◌≢◌, true, false, IfOk, OnOk};
 ghost use Rattle.zy_core.specs.Core.{Fits, identity_of};
 ghost use Rattle.zy_core.specs.Cores.{identities, EachFits, EachSettled};
-ghost use Rattle.zy_rounds.specs.Counting.{have_all_blocks, HasOne, IsUnsettled, SeesOthers, EachNoted, EachNotes};
-ghost use Rattle.zy_rounds.specs.Counting.{some_due};
+ghost use Rattle.zy_rounds.specs.Counting.{have_all_blocks, HasOne, IsUnsettled, SeesOthers, EachNoted, EachNotes, some_due};
 ghost use Rattle.zy_rounds.specs.Turns.{TurnedTo, HasTurned, EachTurned, AllTurned, HaveTurned, SameTurns};
 ghost use Rattle.zy_rounds.specs.Same.{SameCore, SameCores};
 

@@ -1,6 +1,5 @@
 -- Claims by several passes, one after the other. No public clause cites this module.
-use Rattle.std.specs.Prelude.{◌≡◌, ◌≢◌, ◌⊎◌, ℕ, ◌+◌, ◌-◌, ◌%◌, ◌<◌, ◌≤◌, List, Option, Some, None, slice_get, slice_set}
-use Rattle.std.specs.Prelude.{nat_lt, if◌then◌else◌}
+use Rattle.std.specs.Prelude.{◌≡◌, ◌≢◌, ◌⊎◌, ℕ, ◌+◌, ◌-◌, ◌%◌, ◌<◌, ◌≤◌, List, Option, Some, None, slice_get, slice_set, nat_lt, if◌then◌else◌}
 use Rattle.zy_table.specs.declared.name.Name.{Name}
 use Rattle.zy_shuffle.specs.declared.claim.Claim.{Claim}
 use Rattle.zy_shuffle.specs.declared.claim.Claim.TheVariants as claims

@@ -1,6 +1,5 @@
 -- The views of one core's passes on the rings of the others, and the effect of a steal on them.
-use Rattle.std.specs.Prelude.{◌≡◌, ◌≢◌, ℕ, ◌+◌, ◌<◌, List, [], ◌∷◌, length, map, slice_get, slice_set, Option, Some}
-use Rattle.std.specs.Prelude.{None, true, ⊤}
+use Rattle.std.specs.Prelude.{◌≡◌, ◌≢◌, ℕ, ◌+◌, ◌<◌, List, [], ◌∷◌, length, map, slice_get, slice_set, Option, Some, None, true}
 use Rattle.atomic_table.specs.Seated.{TableId}
 use Rattle.zy_table.specs.declared.name.Name.{Name}
 use Rattle.zy_table.specs.Member.{is_in, without}
@@ -62,7 +61,7 @@ seats_of vs = map seat_of vs
 
 -- the passes have this label, and nothing in their hands
 abbrev pub AreIdle : Name → List SeatOf → Type 0
-AreIdle label [] = ⊤
+AreIdle label [] = Unit {0}
 AreIdle label (s ∷ ss) = (s.label ≡ label) × (s.hand ≡ []) × AreIdle label ss
 
 -- ---- blocks in the hand of a pass
@@ -132,11 +131,11 @@ pub record AllLookedOver {T : Type 0} (p q : PassList T) (before after : List (O
 -- if a block was taken, this holds of its core, its place and it
 abbrev pub IfStolen : {T : Type 0} → Stolen T → (ℕ → ℕ → T → Type 0) → Type 0
 IfStolen (Took core place block) P = P core place block
-IfStolen (Nothing looks) P = ⊤
+IfStolen (Nothing looks) P = Unit {0}
 
 -- if nothing was taken, this holds of the looks
 abbrev pub IfNothing : {T : Type 0} → Stolen T → (List (Option Look) → Type 0) → Type 0
-IfNothing (Took core place block) P = ⊤
+IfNothing (Took core place block) P = Unit {0}
 IfNothing (Nothing looks) P = P looks
 
 -- the core is that of one turn of the order. Claims at the cores of earlier turns took nothing, and
