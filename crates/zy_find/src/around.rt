@@ -226,8 +226,10 @@ impl Begun {
         if !decided.keeps(self.held.sight()) {
             self.maker = call;
         }
-        if let Some(held) = held_after(alloc, self.held.sight(), one, decided, place)? {
-            drop(std::mem::replace(&mut self.held, held));
+        let after = held_after(alloc, self.held.sight(), one, decided, place)?;
+        match after {
+            Some(held) => drop(std::mem::replace(&mut self.held, held)),
+            None => {}
         }
         Ok(())
     }

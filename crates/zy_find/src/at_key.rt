@@ -103,18 +103,34 @@ impl AtKey {
         decided: Decided,
         place: usize,
     ) -> Result<(), NoMemory> {
-        self.begin_with(first_item(alloc, self.held.sight(), one, decided.first)?);
+        let first = first_item(alloc, self.held.sight(), one, decided.first)?;
+        self.begin_with(first);
         let was_nothing = self.held.is_nothing();
-        if let Some(held) = held_after(alloc, self.held.sight(), one, decided, place)? {
-            drop(std::mem::replace(&mut self.held, held));
-        }
+        let after = held_after(alloc, self.held.sight(), one, decided, place)?;
+        self.become_held(after);
         if decided.lost {
             self.losses = self.losses.saturating_add(1);
         }
         if decided.stores() || (self.held.is_nothing() && !was_nothing) {
             self.maker = call;
             self.others.clear();
-        } else if self.others.len() < MOST_OTHERS
+            Ok(())
+        } else {
+            self.note_other(one)
+        }
+    }
+
+    // Takes what the key has after a call, if that is something else.
+    fn become_held(&mut self, after: Option<Held>) {
+        match after {
+            Some(held) => drop(std::mem::replace(&mut self.held, held)),
+            None => {}
+        }
+    }
+
+    // Notes the unique that the item does not have, if a call tells.
+    fn note_other(&mut self, one: &Observed) -> Result<(), NoMemory> {
+        if self.others.len() < MOST_OTHERS
             && found_another(one)
             && let Some(unique) = expected(one)
         {
