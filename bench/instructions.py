@@ -40,12 +40,12 @@ ALONE = ["run", "--cores", "1", "--threads", "1"]
 BOTH = [*ALONE, "--out", "both"]
 # For --check, the number of commands and the bounds on the instructions of one: 3 % more than it takes.
 FEW = 20_000
-MOST = {common.GENERATED: {"run": 5_260, "both": 8_400, "check": 9_830},
-        common.CACHE: {"run": 3_330, "both": 4_190, "check": 6_820},
+MOST = {common.GENERATED: {"run": 5_310, "both": 8_630, "check": 10_980},
+        common.CACHE: {"run": 2_810, "both": 3_670, "check": 7_040},
         "recorded": {"linear": 7_710, "judge": 15_420}}
 # The same for resident bytes: 10 % more than it takes. Of few commands they would be those of this script.
 MANY = 100_000
-MOST_BYTES = {common.GENERATED: {"run": 1_250, "check": 1_370}, common.CACHE: {"run": 610, "check": 900}}
+MOST_BYTES = {common.GENERATED: {"run": 810, "check": 1_370}, common.CACHE: {"run": 610, "check": 900}}
 # The groups of bench/figures.json.
 GROUPS = {common.GENERATED: "instructions", common.CACHE: "instructions, cache"}
 # The functions by which a segment is fed.
