@@ -11,7 +11,8 @@ use Rattle.zy_frame.specs.declared.frame_kind.FrameKind.{FrameKind}
 use Rattle.zy_frame.specs.declared.frame_kind.FrameKind.TheVariants.{Line, Block, Large, Long}
 use Rattle.mc_parse.specs.Words.{line_limit}
 use Rattle.zy_frame.specs.Line.{first_line, chomped}
-use Rattle.zy_frame.specs.Frame.{tail_by, frame_of, frame_in, frame_by, IsFrame}
+use Rattle.zy_frame.specs.declared.form.Form.{Form}
+use Rattle.zy_frame.specs.Frame.{tail_by, frame_of, frame_in, frame_by, kind_in, IsFrame}
 use Rattle.zy_frame.proofs.LineLemmas.{first_line-ended}
 use Rattle.zy_frame.proofs.LineEnds.{length-chomped}
 use Rattle.zy_frame.proofs.CutLemmas.{Text, text_of}
@@ -49,3 +50,9 @@ fits_text text t =
 
 pub fits : (kind : FrameKind) → IsFrame kind → Fits kind
 fits kind f = subst Fits (sym f.of_text) (fits_text f.text (text_of f.text f.is_text))
+
+-- ---- by form
+
+-- the same of the bytes of a frame in this form
+pub fits_form : (form is : Form) (line gap : ℕ) (bytes : List ℕ) → form ≡ is → IsFrame (kind_in form line gap bytes) → Fits (kind_in is line gap bytes)
+fits_form form is line gap bytes same f = subst (λ (x : Form). Fits (kind_in x line gap bytes)) same (fits (kind_in form line gap bytes) f)

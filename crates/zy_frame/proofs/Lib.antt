@@ -3,6 +3,7 @@ pub mod CutLemmas
 pub mod GoingOn
 pub mod LineEnds
 pub mod StepLemmas
+pub mod WholeLemmas
 pub mod Feeding
 pub mod CutLaws
 pub mod FrameFits

@@ -75,3 +75,13 @@ pub length-chomped : (line : List ℕ) → length (chomped line) ≤ length line
 length-chomped [] = omega arith
 length-chomped (byte ∷ []) = short_by (byte == carriage_return) byte
 length-chomped (byte ∷ next ∷ bytes) = omega (arith, length-chomped (next ∷ bytes))
+
+gap_by : (test : Bool) (byte : ℕ) → 1 ≤ length (if test then [] else byte ∷ []) + 1
+gap_by true byte = omega arith
+gap_by false byte = omega arith
+
+-- at most one byte shorter
+pub length-chomped_gap : (line : List ℕ) → length line ≤ length (chomped line) + 1
+length-chomped_gap [] = omega arith
+length-chomped_gap (byte ∷ []) = gap_by (byte == carriage_return) byte
+length-chomped_gap (byte ∷ next ∷ bytes) = omega (arith, length-chomped_gap (next ∷ bytes))

@@ -2,7 +2,7 @@
 use Rattle.std.proofs.Common.{◌≡◌, ◌≢◌, ℕ, ◌+◌, ◌-◌, ◌<◌, ◌≤◌, true, false, List, [], ◌∷◌, ◌++◌, length, take, drop, refl, sym, ap, ◌∙◌, arith, append_assoc, append-nil, length-append, ne_eqb}
 use Rattle.std.specs.Prelude.{Option, None, Some, nat_lt, if◌then◌else◌, Bool}
 use Rattle.std.proofs.lemmas.Bool.{ltb-true, ltb-false}
-use Rattle.std.proofs.lemmas.List.{length-take}
+use Rattle.std.proofs.lemmas.List.{length-take, length-drop, drop-drop}
 use Rattle.std.proofs.Math.Seq.{drop-length}
 use Rattle.mc_calls.specs.Shard.{value_limit}
 use Rattle.mc_parse.specs.declared.need.Need.{Need}
@@ -16,8 +16,8 @@ use Rattle.zy_frame.specs.declared.state.State.TheVariants.{Line, Long, Block, L
 use Rattle.mc_parse.specs.Words.{line_limit}
 use Rattle.zy_frame.specs.Line.{IsShort, first_line, chomped, line_feed}
 use Rattle.zy_frame.specs.Frame.{frame_at}
-use Rattle.zy_frame.specs.Progress.{IsAwaited, IsKeptBlock, IsLargeBlock, outcome_of, ends_long, ends_frame, goes_on}
-use Rattle.zy_frame.specs.Steps.{awaited, after_line, after_block, Goes, Moves, Closes, ClosesTo, waiting}
+use Rattle.zy_frame.specs.Progress.{IsAwaited, IsKeptBlock, IsLargeBlock, outcome_of, with_frames, ends_long, ends_frame, goes_on}
+use Rattle.zy_frame.specs.Steps.{awaited, after_line, after_block, Goes, Moves, Closes, ClosesTo, LineAt, waiting}
 use Rattle.zy_frame.proofs.LineLemmas.{ended, spelled, first_line-append, first_line-append_none, first_line-ended}
 use Rattle.zy_frame.proofs.GoingOn.{in_long, long_ends, ends_long-begun_with, ends_frame-part, ends_frame-all, line_ends, quit_ends, block_begins, kept_block, large_block, ends_frame-same}
 
@@ -54,11 +54,6 @@ line_too_long kept bytes s some none long =
       on = λ more. ap outcome_of (sym (append_assoc kept bytes more)) ∙ in_long (kept ++ bytes) more (first_line-append_none kept bytes s.no_feed none) longer
           ∙ ap (λ (x : List ℕ). ends_long (first_line x)) (all_taken bytes more);
     }
-
--- bytes that end a line at a place
-pub record LineAt (bytes : List ℕ) (at : ℕ) : Type 0 where
-  pub within : at < length bytes
-  pub ends : first_line bytes ≡ Some (ended (take at bytes) (drop (at + 1) bytes))
 
 pub front_no_feed : (bytes : List ℕ) (at : ℕ) → LineAt bytes at → first_line (take at bytes) ≡ None
 front_no_feed bytes at h = (spelled bytes (ended (take at bytes) (drop (at + 1) bytes)) h.ends).no_feed
@@ -243,6 +238,38 @@ block_ends line block bytes given whole size left before after keeps all chomps 
 
 pub block_length : (line block bytes : List ℕ) (size left : ℕ) → IsKeptBlock (awaited (wanted line size left)) block → left ≤ length bytes → length (block ++ take left bytes) ≡ size + 2
 block_length line block bytes size left keeps all = omega (arith, length-append block (take left bytes), length-take left bytes, keeps.all)
+
+-- ---- whole requests
+
+-- the bytes of the line are not too long
+pub line_short : (bytes : List ℕ) (at : ℕ) → LineAt bytes at → at ≤ line_limit → IsShort (take at bytes)
+line_short bytes at h short = record { no_feed = front_no_feed bytes at h; short = omega (arith, length-take at bytes) }
+
+whole_goes : (bytes : List ℕ) (at size : ℕ) → LineAt bytes at → IsShort (take at bytes) → need (chomped (take at bytes)) ≡ Needs.Block size → size ≤ value_limit → size + 2 ≤ length (drop (at + 1) bytes)
+    → Goes (Line []) bytes (Line []) (at + 1 + (size + 2)) (Some (Kinds.Block (chomped (take at bytes)) (take (size + 2) (drop (at + 1) bytes))))
+unfolding goes_on
+whole_goes bytes at size h s sized small whole =
+    let line = take at bytes in
+    let rest = drop (at + 1) bytes in
+    let within = h.within in
+    record {
+      keeps = is_short-nil;
+      some = omega arith;
+      within = omega (arith, length-drop (at + 1) bytes);
+      on = λ more. ap outcome_of (split_at [] bytes more at h) ∙ block_begins line (rest ++ more) size s sized ∙ ends_frame-all (size + 2) (frame_at line) rest more whole
+          ∙ ap (λ (f : FrameKind). with_frames (f ∷ []) (outcome_of (drop (size + 2) rest ++ more))) (kept_block line (take (size + 2) rest) size s sized small)
+          ∙ ap (λ (x : List ℕ). with_frames (Kinds.Block (chomped line) (take (size + 2) rest) ∷ []) (outcome_of (x ++ more))) (drop-drop (size + 2) (at + 1) bytes);
+    }
+
+-- a storage line and its block, whose frame was appended
+pub whole_moves : (bytes given block : List ℕ) (at size : ℕ) (before after : List FrameKind) → LineAt bytes at → IsShort (take at bytes) → need (chomped (take at bytes)) ≡ Needs.Block size → size ≤ value_limit
+    → size + 2 ≤ length (drop (at + 1) bytes) → given ≡ chomped (take at bytes) → block ≡ take (size + 2) (drop (at + 1) bytes) → after ≡ before ++ Kinds.Block given block ∷ []
+    → Moves (Line []) (Line []) before after bytes (at + 1 + (size + 2))
+whole_moves bytes given block at size before after h s sized small whole line is appended = record {
+  frame = Some (Kinds.Block (chomped (take at bytes)) (take (size + 2) (drop (at + 1) bytes)));
+  goes = whole_goes bytes at size h s sized small whole;
+  appended = appended ∙ ap (λ (l : List ℕ). before ++ Kinds.Block l block ∷ []) line ∙ ap (λ (l : List ℕ). before ++ Kinds.Block (chomped (take at bytes)) l ∷ []) is;
+}
 
 -- ---- in a block that is too large
 

@@ -1,7 +1,7 @@
 -- Frames: the bytes of a stream that make a frame, and its meaning (docs/PROFILE.md, "Lines and
 -- words" and "Commands").
-use Rattle.std.specs.Prelude.{◌≡◌, ℕ, ◌+◌, nat_lt, if◌then◌else◌, List}
-use Rattle.std.specs.Prelude.{length, Option, None, Some, MatchOption, ⊤}
+use Rattle.std.specs.Prelude.{◌≡◌, ℕ, ◌+◌, ◌≤◌, nat_lt, if◌then◌else◌, List}
+use Rattle.std.specs.Prelude.{length, take, drop, Option, None, Some, MatchOption, ⊤}
 use Rattle.mc_calls.specs.Shard.{value_limit}
 use Rattle.mc_parse.specs.declared.need.Need.{Need}
 use Rattle.mc_parse.specs.declared.need.Need.TheVariants as Needs
@@ -10,6 +10,10 @@ use Rattle.mc_parse.specs.Need.{need}
 use Rattle.mc_parse.specs.Meaning.{line_command, block_command, large_command, long_command}
 use Rattle.zy_frame.specs.declared.frame_kind.FrameKind.{FrameKind}
 use Rattle.zy_frame.specs.declared.frame_kind.FrameKind.TheVariants.{Line, Block, Large, Long}
+use Rattle.zy_frame.specs.declared.form.Form.{Form}
+use Rattle.zy_frame.specs.declared.form.Form.TheVariants as Forms
+use Rattle.zy_frame.specs.declared.parts.Parts.{Parts}
+use Rattle.zy_frame.specs.declared.parts.Parts.TheVariants as Seen
 use Rattle.mc_parse.specs.declared.parsed.Parsed.{Parsed}
 use Rattle.mc_parse.specs.Parsed.{IsParsed}
 use Rattle.mc_parse.specs.Words.{line_limit}
@@ -70,6 +74,28 @@ abbrev pub IsParsedIn : FrameKind → Parsed → Type 0
 IsParsedIn (Line line) parsed = IsParsed line parsed
 IsParsedIn (Block line block) parsed = IsParsed line parsed
 IsParsedIn kind parsed = ⊤
+
+-- ---- the bytes of a frame
+
+-- the frame that these bytes are in this form; if it has a block, its line has `line` bytes, and
+-- `gap` bytes are between line and block
+abbrev pub kind_in : Form → ℕ → ℕ → List ℕ → FrameKind
+kind_in Forms.Line line gap bytes = Line bytes
+kind_in Forms.Block line gap bytes = Block (take line bytes) (drop (line + gap) bytes)
+kind_in Forms.Large line gap bytes = Large bytes
+kind_in Forms.Long line gap bytes = Long
+
+-- the bytes have the parts of this form
+abbrev pub HasParts : Form → ℕ → ℕ → List ℕ → Type 0
+HasParts Forms.Block line gap bytes = line + gap ≤ length bytes
+HasParts form line gap bytes = ⊤
+
+-- the frame with these parts
+abbrev pub parts_seen : Parts → FrameKind
+parts_seen (Seen.Line line) = Line line.now
+parts_seen (Seen.Block line block) = Block line.now block.now
+parts_seen (Seen.Large line) = Large line.now
+parts_seen Seen.Long = Long
 
 -- ---- commands
 

@@ -1,7 +1,7 @@
 -- How a framer's state is seen, and what a step from one to another does. No public clause cites
 -- this module.
 use Rattle.std.specs.Prelude.{◌≡◌, ℕ, ◌+◌, ◌<◌, ◌≤◌, ◌==◌, nat_lt, if◌then◌else◌, Bool, true, false, List, []}
-use Rattle.std.specs.Prelude.{◌∷◌, ◌++◌, length, drop, Option, option_to_list, Result, Ok, Err, ⊤}
+use Rattle.std.specs.Prelude.{◌∷◌, ◌++◌, length, take, drop, Option, Some, option_to_list, Result, Ok, Err, ⊤}
 use Rattle.mc_calls.specs.Shard.{value_limit}
 use Rattle.mc_parse.specs.declared.need.Need.{Need}
 use Rattle.mc_parse.specs.declared.need.Need.TheVariants as Needs
@@ -12,7 +12,7 @@ use Rattle.zy_frame.specs.declared.state.State.{State}
 use Rattle.zy_frame.specs.declared.state.State.TheVariants.{Line, Long, Block, Large, Quit, Refused}
 use Rattle.mc_parse.specs.declared.parsed.Parsed.{Parsed}
 use Rattle.mc_parse.specs.Parsed.{IsParsed}
-use Rattle.zy_frame.specs.Line.{line_feed, chomped}
+use Rattle.zy_frame.specs.Line.{first_line, line_feed, chomped}
 use Rattle.zy_frame.specs.Progress.{Awaited, Progress, in_line, in_long_line, in_block, in_large_block, behind_quit}
 use Rattle.zy_frame.specs.Progress.{without_memory, Keeps, outcome_of, with_frames, goes_on, IsRefused}
 
@@ -60,6 +60,11 @@ IsParsedFor (Block wanted block) parsed = IsParsed (chomped wanted.line) parsed
 IsParsedFor state parsed = ⊤
 
 -- ---- steps
+
+-- the bytes have a line feed at this place, and none before it
+pub record LineAt (bytes : List ℕ) (at : ℕ) : Type 0 where
+  pub within : at < length bytes
+  pub ends : first_line bytes ≡ Some (record { line = take at bytes; after = drop (at + 1) bytes })
 
 -- a step over bytes: some were taken, this frame came, and what follows gives what the next state gives
 pub record Goes (state : State) (bytes : List ℕ) (next : State) (taken : ℕ) (frame : Option FrameKind) : Type 0 where

@@ -7,7 +7,7 @@ ghost use Rattle.mc_parse.specs.Parsed.{IsParsed};
 ghost use Rattle.zy_frame.specs.Line.{chomped};
 ghost use Rattle.zy_frame.specs.Steps.{awaited, after_block, IsParsedFor, Moves};
 
-use crate::frame_kind::FrameKind;
+use crate::frame::Frame;
 use crate::frames::{Frames, append};
 use crate::keeping::keep;
 use crate::line_end::chomp_kept;
@@ -50,7 +50,8 @@ pub(crate) fn take_block(
     chomp_kept(&mut wanted.line);
     let line = mem::replace(&mut wanted.line, Blob::new(alloc));
     let block = mem::replace(block, Blob::new(alloc));
-    append(frames, FrameKind::Block { line, block }, parsed)?;
+    let frame = Frame::joined(line, block, parsed)?;
+    append(frames, frame)?;
     Ok(left)
 }
 
@@ -87,6 +88,6 @@ pub(crate) fn pass_block(
     wanted.left = 0;
     chomp_kept(&mut wanted.line);
     let line = mem::replace(&mut wanted.line, Blob::new(alloc));
-    append(frames, FrameKind::Large { line }, &Parsed::nothing())?;
+    append(frames, Frame::of_large(line))?;
     Ok(left)
 }

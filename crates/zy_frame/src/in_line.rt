@@ -1,14 +1,15 @@
 //! Taking the bytes of lines.
-ghost use Rattle.std.specs.Prelude.{◌≡◌, ◌<◌, ◌≤◌, ◌++◌, None, [], length, take, IfOk, OnErr};
+ghost use Rattle.std.specs.Prelude.{◌≡◌, ◌<◌, None, length, IfOk, OnErr};
 ghost use Rattle.zy_base.specs.Rest.{IsRestOf};
 ghost use Rattle.zy_frame.specs.declared.state.State.TheVariants.{Line};
 ghost use Rattle.zy_frame.specs.Line.{first_line, IsShort};
-ghost use Rattle.zy_frame.specs.Steps.{Goes, ClosesTo, after_line, grown_to, IsParsedFor};
+ghost use Rattle.zy_frame.specs.Steps.{Goes, ClosesTo, LineAt, Moves, after_line, grown_to, IsParsedFor};
 
-use crate::frame_kind::FrameKind;
+use crate::frame::Frame;
 use crate::frames::{Frames, append};
 use crate::keeping::keep;
 use crate::line_end::{chomp, chomp_kept};
+use crate::whole::{Closed, take_request};
 use mc_parse::{Need, Parsed, read_need};
 use std::alloc::Global;
 use std::mem;
@@ -30,8 +31,8 @@ pub(crate) fn grow_line(kept: &mut Blob, bytes: &[u8]) -> Result<bool, NoMemory>
     Ok(false)
 }
 
-// Ends the line at this place, where its line feed is, of the bytes that end a piece. Returns what
-// the line needs; if that is nothing, its frame is appended.
+// Ends the line at this place, where its line feed is, of the bytes that end a piece. The frame of a
+// request that came whole is appended.
 pub(crate) fn end_line(
     alloc: Global,
     kept: &mut Blob,
@@ -40,23 +41,32 @@ pub(crate) fn end_line(
     at: usize,
     parsed: &mut Parsed,
     frames: &mut Frames,
-) -> Result<Need, NoMemory>
+) -> Result<Closed, NoMemory>
     requires short { IsShort kept.old }
     requires rest { IsRestOf bytes.now piece.now }
-    requires within { at ≤ length bytes.now }
-    requires none { first_line (take at bytes.now) ≡ None }
-    ensures value { IfOk result (λ need.
-        ClosesTo (kept.old ++ take at bytes.now) (after_line need (Line kept.new)) frames.old frames.new) }
-    ensures parsed { IfOk result (λ need. IsParsedFor (after_line need (Line kept.new)) parsed.new) }
+    requires line { LineAt bytes.now at }
+    ensures value { IfOk result (λ closed. Moves (Line kept.old)
+        (after_line closed.need (Line kept.new)) frames.old frames.new bytes.now closed.taken) }
+    ensures parsed { IfOk result (λ closed. IsParsedFor (after_line closed.need (Line kept.new)) parsed.new) }
     ensures err { OnErr result (frames.new ≡ frames.old) }
 {
     if kept.bytes().len() + at > LINE_LIMIT {
-        append(frames, FrameKind::Long, &Parsed::nothing())?;
+        append(frames, Frame::long(alloc))?;
         kept.truncate(0);
-        return Ok(Need::Nothing);
+        return Ok(Closed {
+            need: Need::Nothing,
+            taken: at + 1,
+        });
+    }
+    if kept.bytes().is_empty() {
+        return take_request(kept, piece, bytes, at, parsed, frames);
     }
     keep(kept, piece, bytes, at)?;
-    close_line(alloc, kept, parsed, frames)
+    let need = close_line(alloc, kept, parsed, frames)?;
+    Ok(Closed {
+        need,
+        taken: at + 1,
+    })
 }
 
 // Ends a line, which is not too long, with all of its bytes.
@@ -76,7 +86,7 @@ fn close_line(
         Need::Nothing => {
             chomp_kept(kept);
             let line = mem::replace(kept, Blob::new(alloc));
-            append(frames, FrameKind::Line { line }, parsed)?;
+            append(frames, Frame::of_line(line, parsed))?;
             Ok(Need::Nothing)
         }
         need => Ok(need),

@@ -4,7 +4,7 @@ ghost use Rattle.zy_base.specs.Rest.{IsRestOf};
 ghost use Rattle.zy_frame.specs.Progress.{Keeps};
 ghost use Rattle.zy_frame.specs.Steps.{progress_of, IsParsedFor, Moves};
 
-use crate::frame_kind::FrameKind;
+use crate::frame::Frame;
 use crate::frames::{Frames, append};
 use crate::in_frame::{pass_block, take_block};
 use crate::in_line::{end_line, grow_line};
@@ -35,9 +35,9 @@ pub(crate) fn step(
     match state {
         State::Line { kept } => match line_end(bytes) {
             Some(at) => {
-                let need = end_line(alloc, kept, piece, bytes, at, parsed, frames)?;
-                take_line(alloc, state, need);
-                Ok(at + 1)
+                let closed = end_line(alloc, kept, piece, bytes, at, parsed, frames)?;
+                take_line(alloc, state, closed.need);
+                Ok(closed.taken)
             }
             None => {
                 if grow_line(kept, bytes)? {
@@ -48,7 +48,7 @@ pub(crate) fn step(
         },
         State::Long => match line_end(bytes) {
             Some(at) => {
-                append(frames, FrameKind::Long, &Parsed::nothing())?;
+                append(frames, Frame::long(alloc))?;
                 begin_line(alloc, state);
                 Ok(at + 1)
             }

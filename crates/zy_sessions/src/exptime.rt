@@ -8,7 +8,7 @@ ghost use Rattle.zy_verdict.specs.Losses.{is_lasting_flag, key_of_words, key_wit
 
 use mc_meta::{count_spaces, word_length};
 use zy_base::read_number;
-use zy_frame::{Frame, FrameKind};
+use zy_frame::{Frame, Parts};
 
 // A word, and the text after it.
 #[derive(Clone, Copy)]
@@ -21,8 +21,8 @@ struct Split<'a> {
 pub(crate) fn key_with_exptime(frame: &Frame) -> Option<&[u8]>
     ensures value { option_copied result ≡ key_with_exptime frame.now }
 {
-    match &frame.kind {
-        FrameKind::Block { line, .. } => key_of_line(line.bytes()),
+    match frame.parts() {
+        Parts::Block { line, .. } => key_of_line(line),
         _ => None,
     }
 }

@@ -11,7 +11,7 @@ use memchr::memchr;
 use std::alloc::Global;
 use std::collections::BTreeSet;
 use zy_base::{Blob, NoMemory};
-use zy_frame::{Frame, FrameKind, Frames, meaning};
+use zy_frame::{Frame, Frames, Parts, meaning};
 
 /// Appends the commands of these frames, which were sent at this moment, to those of a session.
 pub(crate) fn note_frames(
@@ -114,10 +114,10 @@ fn add_key(alloc: Global, lasting: &mut BTreeSet<Blob>, key: &[u8]) -> Result<()
 // Checks whether a server may take the command of a frame in a way that is not followed: its line
 // has a byte 0, or announces more than 1,048,576 bytes.
 fn is_other(frame: &Frame) -> bool {
-    match &frame.kind {
-        FrameKind::Line { line } | FrameKind::Block { line, .. } => has_zero(line.bytes()),
-        FrameKind::Large { .. } => true,
-        FrameKind::Long => false,
+    match frame.parts() {
+        Parts::Line { line } | Parts::Block { line, .. } => has_zero(line),
+        Parts::Large { .. } => true,
+        Parts::Long => false,
     }
 }
 
