@@ -1,6 +1,6 @@
 -- The calls of a command that is begun, and its replies.
 use Rattle.std.specs.List.{slice_get}
-use Rattle.std.proofs.Common.{◌≡◌, ◌↔◌, ℕ, suc, ◌+◌, ◌<◌, ◌≤◌, Bool, true, false, List, [], ◌∷◌, ◌++◌, length, take, None, Some, refl, sym, ap, ◌∙◌, subst, arith}
+use Rattle.std.proofs.Common.{◌≡◌, ◌↔◌, ℕ, zero, suc, ◌+◌, ◌<◌, ◌≤◌, Bool, true, false, List, [], ◌∷◌, ◌++◌, length, take, Option, None, Some, refl, sym, ap, ◌∙◌, subst, arith}
 use Rattle.std.proofs.lemmas.List.{length-append}
 use Rattle.std.proofs.lemmas.Option.{slice_get_past}
 use Rattle.mc_calls.specs.declared.call_reply.CallReply.{CallReply}
@@ -43,13 +43,20 @@ each_more (call ∷ calls) (r ∷ replies) reply few kind each =
     let on : length (r ∷ replies) + 1 ≡ suc (length replies + 1) = omega arith in
     subst (λ (n : ℕ). AnswerEach (take n (call ∷ calls)) (r ∷ (replies ++ reply ∷ []))) (sym on) (each.0, each_more calls replies reply (omega arith) (λ c is. kind c is) each.1)
 
-pub kept_more : (command : Command) (shards : ℕ) (calls : List ShardCall) (replies : List CallReply) (reply : CallReply) → length replies < length (calls_of shards command)
-    → ((call : ShardCall) → slice_get (calls_of shards command) (length replies) ≡ Some call → MayAnswer call.call reply) → IsPartlyAnswered command shards calls replies → IsPartlyAnswered command shards calls (replies ++ reply ∷ [])
-kept_more command shards calls replies reply few kind kept =
+pub kept_more : (command : Command) (shards : ℕ) (next more : Option ShardCall) (replies : List CallReply) (reply : CallReply) → length replies < length (calls_of shards command)
+    → ((call : ShardCall) → slice_get (calls_of shards command) (length replies) ≡ Some call → MayAnswer call.call reply) → more ≡ slice_get (calls_of shards command) (length replies + 1)
+    → IsPartlyAnswered command shards next replies → IsPartlyAnswered command shards more (replies ++ reply ∷ [])
+kept_more command shards next more replies reply few kind is kept =
     let long : length (replies ++ reply ∷ []) ≡ length replies + 1 = length-append replies (reply ∷ []) in record {
       some = kept.some;
       limit = kept.limit;
-      calls_are = kept.calls_are;
+      next_is = is ∙ ap (λ (n : ℕ). slice_get (calls_of shards command) n) (sym long);
       few = omega arith;
       each = subst (λ (n : ℕ). AnswerEach (take n (calls_of shards command)) (replies ++ reply ∷ [])) (sym long) (each_more (calls_of shards command) replies reply few kind kept.each);
     }
+
+-- if there is no call at a place, the calls before it are all
+pub none_left : (calls : List ShardCall) (part : ℕ) → None ≡ slice_get calls part → part ≤ length calls → length calls ≡ part
+none_left [] part none few = omega (arith, few)
+none_left (call ∷ calls) zero none few = absurd (cc)
+none_left (call ∷ calls) (suc part) none few = ap suc (none_left calls part none (omega (arith, few)))

@@ -9,18 +9,18 @@ ghost use Rattle.zy_check.specs.Begun.{asked_in};
 
 use mc_calls::{CallReply, Replies};
 use mc_history::EntryRef;
-use mc_parse::{Calls, Command, ShardCall, calls};
+use mc_parse::{Command, ShardCall, call_at};
 use mc_reply::reply_text;
-use std::alloc::Global;
 use std::marker::Model;
+use std::mem;
 use zy_base::{Blob, NoMemory};
 
-/// A command with its calls, and the replies to the first of them.
+/// A command, the replies to its first calls, and the call after these, if one is left.
 #[derive(Drop)]
 pub struct Begun {
     command: Command,
     shards: u32,
-    calls: Calls,
+    next: Option<ShardCall>,
     replies: Replies,
 }
 
@@ -31,26 +31,28 @@ impl Model for Begun {
 
     ghost view = { λ b. record { command = b.command; shards = b.shards; replies = b.replies } };
 
-    ghost invariant = { λ b. IsPartlyAnswered b.command b.shards b.calls b.replies };
+    ghost invariant = { λ b. IsPartlyAnswered b.command b.shards b.next b.replies };
 }
 
 impl Begun {
-    /// Makes a command, before any of its calls is answered.
-    pub fn new(alloc: Global, command: Command, shards: u32) -> Result<Begun, NoMemory>
+    /// Makes a command, before any of its calls is answered. Its replies will be in this room.
+    pub fn new(command: Command, shards: u32, room: Vec<CallReply>) -> Result<Begun, NoMemory>
         requires some { 1 ≤ shards }
         requires limit { shards ≤ 256 }
+        requires empty { room.items ≡ [] }
         ensures value { IfOk result (λ begun. begun
             ≡ record { command = command; shards = shards; replies = [] }) }
     {
-        match calls(alloc, &command, shards) {
-            Ok(calls) => Ok(Begun {
+        match call_at(&command, 0, shards) {
+            Ok(next) => Ok(Begun {
                 command,
                 shards,
-                calls,
-                replies: Replies::new(alloc),
+                next,
+                replies: Replies::from_vec(room),
             }),
             Err(refused) => {
                 drop(command);
+                drop(room);
                 Err(refused)
             }
         }
@@ -61,7 +63,10 @@ impl Begun {
         ensures done { result ≡ true → length (asked_in self.now) ≡ length self.now.replies }
         ensures more { result ≡ false → length self.now.replies < length (asked_in self.now) }
     {
-        self.replies.items().len() == self.calls.items().len()
+        match &self.next {
+            Some(_) => false,
+            None => true,
+        }
     }
 
     /// Checks whether an entry is its next call, as the command with this index of a connection.
@@ -69,12 +74,10 @@ impl Begun {
         ensures exact { result ≡ true ↔ slice_get (due_at self.now.shards conn index self.now.command)
             (length self.now.replies) ≡ Some (due_of entry.now) }
     {
-        let part = self.replies.items().len();
-        let calls = self.calls.items();
-        if calls.len() <= part {
-            return false;
+        match &self.next {
+            Some(call) => is_call(entry, conn, index, self.replies.items().len(), call),
+            None => false,
         }
-        is_call(entry, conn, index, part, &calls[part])
     }
 
     /// Takes the reply to its next call.
@@ -87,28 +90,40 @@ impl Begun {
             ≡ record self.old { replies = self.old.replies ++ reply ∷ [] }) }
         ensures err { OnErr result (self.new ≡ self.old) }
     {
+        let part = self.replies.items().len();
+        let next = match call_at(&self.command, part + 1, self.shards) {
+            Ok(next) => next,
+            Err(refused) => {
+                drop(reply);
+                return Err(refused);
+            }
+        };
         match self.replies.push(reply) {
-            Ok(()) => Ok(()),
+            Ok(()) => {
+                drop(mem::replace(&mut self.next, next));
+                Ok(())
+            }
             Err((reply, refused)) => {
                 drop(reply);
+                drop(next);
                 Err(refused)
             }
         }
     }
 
-    /// Makes its text.
-    pub fn text(&self, alloc: Global) -> Result<Blob, NoMemory>
+    /// Appends its text.
+    pub fn add_text(&self, out: &mut Blob) -> Result<(), NoMemory>
         requires done { length (asked_in self.now) ≡ length self.now.replies }
-        ensures value { IfOk result (λ made. made ≡ text self.now.command self.now.replies) }
+        ensures ok { OnOk result (out.new ≡ out.old ++ text self.now.command self.now.replies) }
     {
-        let mut made = Blob::new(alloc);
-        match reply_text(&mut made, &self.command, &self.replies) {
-            Ok(()) => Ok(made),
-            Err(refused) => {
-                drop(made);
-                Err(refused)
-            }
-        }
+        reply_text(out, &self.command, &self.replies)
+    }
+
+    /// Returns the room of its replies.
+    pub fn into_room(self) -> Vec<CallReply> {
+        drop(self.command);
+        drop(self.next);
+        self.replies.into_vec()
     }
 }
 

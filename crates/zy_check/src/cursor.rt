@@ -11,7 +11,7 @@ use zy_frame::{Framer, Frames, meaning};
 
 // How many bytes are cut at a time. The commands that begin and end in a piece wait with its cursor,
 // and each connection has one.
-const PIECE: usize = 512;
+const PIECE: usize = 4096;
 
 /// A place in a stream. Contracts see the unfinished frame of its framer, the frames that wait, and
 /// the number of bytes read.

@@ -6,6 +6,7 @@ ghost use Rattle.mc_calls.specs.Kind.{MayAnswer};
 ghost use Rattle.zy_capture.specs.Streams.{sessions_of};
 ghost use Rattle.mc_parse.specs.declared.shard_call.ShardCall.{ShardCall};
 ghost use Rattle.mc_parse.specs.Calls.{Due, due_at, due_of};
+ghost use Rattle.mc_reply.specs.Text.{text};
 ghost use Rattle.zy_check.specs.Answered.{has_bytes};
 ghost use Rattle.zy_check.specs.Given.{Given, found_output};
 ghost use Rattle.zy_check.specs.Cursor.{HasGivenCommands};
@@ -21,7 +22,12 @@ use mc_calls::CallReply;
 use mc_history::EntryRef;
 use std::alloc::Global;
 use std::mem;
-use zy_base::NoMemory;
+use zy_base::{Blob, NoMemory};
+
+// The most bytes and replies for which room is kept.
+const TEXT_ROOM: usize = 4096;
+
+const REPLY_ROOM: usize = 128;
 
 /// A connection's place in its streams: the session that is read and the place in it, the command
 /// in progress, the number of commands before it, how far its outputs were compared, and which of its
@@ -35,6 +41,9 @@ pub struct Track {
     commands: u64,
     compared: Compared,
     answered: Vec<bool>,
+    // Room for the replies to the next command, and for its text, which those of the last one had.
+    replies: Vec<CallReply>,
+    text: Blob,
 }
 
 impl Track {
@@ -53,6 +62,8 @@ impl Track {
                 differing: None,
             },
             answered: Vec::new(alloc),
+            replies: Vec::new(alloc),
+            text: Blob::new(alloc),
         }
     }
 
@@ -150,13 +161,16 @@ impl Track {
         let Some(commands) = self.commands.checked_add(1) else {
             return Err(NoMemory);
         };
-        let text = begun.text(self.alloc)?;
-        self.compared.add(files.output(conn, self.session), self.session, text.bytes());
-        let noted = note(&mut self.answered, text.bytes());
-        drop(text);
-        noted?;
+        write_text(&mut self.text, begun)?;
+        self.compared.add(
+            files.output(conn, self.session),
+            self.session,
+            self.text.bytes(),
+        );
+        note(&mut self.answered, self.text.bytes())?;
         self.commands = commands;
-        drop(mem::replace(&mut self.begun, None));
+        keep_text_room(&mut self.text, self.alloc);
+        keep_reply_room(&mut self.replies, &mut self.begun);
         Ok(())
     }
 
@@ -174,7 +188,8 @@ impl Track {
         }
         match self.cursor.next(files.stream(conn, self.session))? {
             Some(command) => {
-                let begun = Begun::new(self.alloc, command, files.shards())?;
+                let room = empty_room(&mut self.replies, self.alloc);
+                let begun = Begun::new(command, files.shards(), room)?;
                 drop(mem::replace(&mut self.begun, Some(begun)));
             }
             None => self.end_session(files, conn),
@@ -198,6 +213,45 @@ impl Track {
         self.session += 1;
         drop(mem::replace(&mut self.cursor, Cursor::new(self.alloc)));
     }
+}
+
+// Writes the text of a command whose calls are all answered.
+fn write_text(out: &mut Blob, begun: &Begun) -> Result<(), NoMemory>
+    requires done { length (asked_in begun.now) ≡ length begun.now.replies }
+    ensures value { OnOk result (out.new ≡ text begun.now.command begun.now.replies) }
+{
+    out.truncate(0);
+    begun.add_text(out)
+}
+
+// Lets the room of a text go if it is large.
+fn keep_text_room(room: &mut Blob, alloc: Global) {
+    if room.bytes().len() > TEXT_ROOM {
+        drop(mem::replace(room, Blob::new(alloc)));
+    }
+}
+
+// Ends a command, and keeps the room of its replies.
+fn keep_reply_room(room: &mut Vec<CallReply>, ended: &mut Option<Begun>)
+    ensures none { ended.new ≡ None }
+{
+    match mem::replace(ended, None) {
+        Some(begun) => drop(mem::replace(room, begun.into_room())),
+        None => {}
+    }
+}
+
+// Takes the room of the last replies without them; if it is large, takes none.
+fn empty_room(room: &mut Vec<CallReply>, alloc: Global) -> Vec<CallReply>
+    ensures empty { result.items ≡ [] }
+{
+    let mut taken = mem::replace(room, Vec::new(alloc));
+    if taken.len() > REPLY_ROOM {
+        drop(taken);
+        return Vec::new(alloc);
+    }
+    taken.clear();
+    taken
 }
 
 // Notes whether a command with this text is answered.

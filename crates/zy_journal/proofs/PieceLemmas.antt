@@ -3,15 +3,13 @@ use Rattle.std.proofs.Common.{◌≡◌, ℕ, List, [], ◌∷◌, ◌++◌, ref
 use Rattle.std.specs.Prelude.{Option, None, Some}
 use Rattle.std.specs.Int.{to_be_bytes, w32, w64}
 use Rattle.std.proofs.lemmas.List.{append-nil}
+use Rattle.mc_calls.specs.declared.call.Call.{Call}
+use Rattle.mc_calls.specs.declared.call_reply.CallReply.{CallReply}
 use Rattle.mc_calls.specs.declared.entry.Entry.{Entry}
 use Rattle.mc_calls.specs.Call.{key_of}
 use Rattle.mc_calls.specs.Code.{call_code, call_flags, call_number, call_value, reply_code, reply_flags, reply_number, reply_value, reply_counts}
 use Rattle.zy_journal.specs.Journal.{entry_head, entry_text, call_text, reply_text, field_text, fields_text, key_text, value_text, counts_text}
-use Rattle.zy_journal.specs.Pieces.{lent_bytes, key_head, value_head, fields_head}
-
-key_is : (key : Option (List ℕ)) → field_text key_text key ≡ key_head key ++ lent_bytes key
-key_is None = refl
-key_is (Some key) = refl
+use Rattle.zy_journal.specs.Pieces.{lent_bytes, value_head, fields_head, call_head, reply_head}
 
 value_is : (value : Option (List ℕ)) → field_text value_text value ≡ value_head value ++ lent_bytes value
 value_is None = refl
@@ -25,41 +23,44 @@ fields_are flags number value =
     ∙ ap (λ (l : List ℕ). f ++ l) (sym (append_assoc n (value_head value) (lent_bytes value)))
     ∙ sym (append_assoc f (n ++ value_head value) (lent_bytes value))
 
--- two heads with their bytes, and what follows
-two_heads : (a b c d rest : List ℕ) → ((a ++ b) ++ (c ++ d)) ++ rest ≡ a ++ (b ++ (c ++ (d ++ rest)))
-two_heads a b c d rest =
-    append_assoc (a ++ b) (c ++ d) rest ∙ append_assoc a b ((c ++ d) ++ rest) ∙ ap (λ (l : List ℕ). a ++ (b ++ l)) (append_assoc c d rest)
+call_is : (call : Call) → call_text call ≡ call_head call ++ lent_bytes (call_value call)
+unfolding call_text
+call_is call =
+    let key : List ℕ = field_text key_text (key_of call) in
+    let head : List ℕ = fields_head (call_flags call) (call_number call) (call_value call) in
+    ap (λ (l : List ℕ). call_code call ∷ (key ++ l)) (fields_are (call_flags call) (call_number call) (call_value call))
+    ∙ ap (λ (l : List ℕ). call_code call ∷ l) (sym (append_assoc key head (lent_bytes (call_value call))))
 
-last_head : (a b c : List ℕ) → (a ++ b) ++ (c ++ []) ≡ a ++ (b ++ c)
-last_head a b c = ap (λ (l : List ℕ). (a ++ b) ++ l) (append-nil c) ∙ append_assoc a b c
-
-text_is : (head key_head key fields value counts reply_fields reply : List ℕ) (code reply_code : ℕ)
-    → (head ++ (code ∷ key_head)) ++ (key ++ (fields ++ (value ++ ((reply_code ∷ (counts ++ reply_fields)) ++ (reply ++ [])))))
-    ≡ head ++ ((code ∷ ((key_head ++ key) ++ (fields ++ value))) ++ (reply_code ∷ (counts ++ (reply_fields ++ reply))))
-text_is head kh key fields value counts reply_fields reply code reply_code =
-    append_assoc head (code ∷ kh) (key ++ (fields ++ (value ++ ((reply_code ∷ (counts ++ reply_fields)) ++ (reply ++ [])))))
-    ∙ ap (λ (l : List ℕ). head ++ (code ∷ (kh ++ (key ++ (fields ++ (value ++ (reply_code ∷ l))))))) (last_head counts reply_fields reply)
-    ∙ ap (λ (l : List ℕ). head ++ (code ∷ l)) (sym (two_heads kh key fields value (reply_code ∷ (counts ++ (reply_fields ++ reply)))))
+reply_is : (reply : CallReply) → reply_text reply ≡ reply_head reply ++ lent_bytes (reply_value reply)
+unfolding reply_text
+reply_is reply =
+    let counts : List ℕ = field_text counts_text (reply_counts reply) in
+    let head : List ℕ = fields_head (reply_flags reply) (reply_number reply) (reply_value reply) in
+    ap (λ (l : List ℕ). reply_code reply ∷ (counts ++ l)) (fields_are (reply_flags reply) (reply_number reply) (reply_value reply))
+    ∙ ap (λ (l : List ℕ). reply_code reply ∷ l) (sym (append_assoc counts head (lent_bytes (reply_value reply))))
 
 -- the pieces of an entry, one after the other
-pub pieces_are : (e : Entry) (head key fields value reply reply_bytes : List ℕ) → head ≡ entry_head e ++ (call_code e.call ∷ key_head (key_of e.call)) → key ≡ lent_bytes (key_of e.call)
-    → fields ≡ fields_head (call_flags e.call) (call_number e.call) (call_value e.call) → value ≡ lent_bytes (call_value e.call)
-    → reply ≡ reply_code e.reply ∷ (field_text counts_text (reply_counts e.reply) ++ fields_head (reply_flags e.reply) (reply_number e.reply) (reply_value e.reply)) → reply_bytes ≡ lent_bytes (reply_value e.reply)
-    → head ++ (key ++ (fields ++ (value ++ (reply ++ (reply_bytes ++ []))))) ≡ entry_text e
-unfolding entry_text call_text reply_text
-pieces_are e head key fields value reply reply_bytes one two three four five six =
-    let kh : List ℕ = key_head (key_of e.call) in
-    let kb : List ℕ = lent_bytes (key_of e.call) in
-    let fh : List ℕ = fields_head (call_flags e.call) (call_number e.call) (call_value e.call) in
-    let fb : List ℕ = lent_bytes (call_value e.call) in
-    let counts : List ℕ = field_text counts_text (reply_counts e.reply) in
-    let rh : List ℕ = fields_head (reply_flags e.reply) (reply_number e.reply) (reply_value e.reply) in
-    let rb : List ℕ = lent_bytes (reply_value e.reply) in
-    let rt : List ℕ = fields_text (reply_flags e.reply) (reply_number e.reply) (reply_value e.reply) in
-    let ft : List ℕ = fields_text (call_flags e.call) (call_number e.call) (call_value e.call) in
+pub pieces_are : (e : Entry) (text value reply last : List ℕ) → text ≡ entry_head e ++ call_head e.call → value ≡ lent_bytes (call_value e.call)
+    → reply ≡ reply_head e.reply → last ≡ lent_bytes (reply_value e.reply) → text ++ (value ++ (reply ++ (last ++ []))) ≡ entry_text e
+unfolding entry_text
+pieces_are e text value reply last one two three four =
     let h : List ℕ = entry_head e in
-    (rw (one, two, three, four, five, six) refl)
-    ∙ text_is h kh kb fh fb counts rh rb (call_code e.call) (reply_code e.reply)
-    ∙ ap (λ (l : List ℕ). h ++ ((call_code e.call ∷ ((kh ++ kb) ++ (fh ++ fb))) ++ (reply_code e.reply ∷ (counts ++ l)))) (sym (fields_are (reply_flags e.reply) (reply_number e.reply) (reply_value e.reply)))
-    ∙ ap (λ (l : List ℕ). h ++ ((call_code e.call ∷ ((kh ++ kb) ++ l)) ++ (reply_code e.reply ∷ (counts ++ rt)))) (sym (fields_are (call_flags e.call) (call_number e.call) (call_value e.call)))
-    ∙ ap (λ (l : List ℕ). h ++ ((call_code e.call ∷ (l ++ ft)) ++ (reply_code e.reply ∷ (counts ++ rt)))) (sym (key_is (key_of e.call)))
+    let c : List ℕ = call_head e.call in
+    let v : List ℕ = lent_bytes (call_value e.call) in
+    let r : List ℕ = reply_head e.reply in
+    let b : List ℕ = lent_bytes (reply_value e.reply) in
+    (rw (one, two, three, four, append-nil b) refl)
+    ∙ append_assoc h c (v ++ (r ++ b))
+    ∙ ap (λ (l : List ℕ). h ++ l) (sym (append_assoc c v (r ++ b)))
+    ∙ ap (λ (l : List ℕ). h ++ (l ++ (r ++ b))) (sym (call_is e.call))
+    ∙ ap (λ (l : List ℕ). h ++ (call_text e.call ++ l)) (sym (reply_is e.reply))
+
+-- of a call without a value all but the last bytes are one piece
+pub short_are : (e : Entry) (text last : List ℕ) → call_value e.call ≡ None → text ≡ (entry_head e ++ call_head e.call) ++ reply_head e.reply
+    → last ≡ lent_bytes (reply_value e.reply) → text ++ (last ++ []) ≡ entry_text e
+short_are e text last none one two =
+    let h : List ℕ = entry_head e ++ call_head e.call in
+    let r : List ℕ = reply_head e.reply in
+    ap (λ (l : List ℕ). l ++ (last ++ [])) one
+    ∙ append_assoc h r (last ++ [])
+    ∙ pieces_are e h [] r last refl (sym (ap lent_bytes none)) refl two

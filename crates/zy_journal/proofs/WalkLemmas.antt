@@ -1,5 +1,5 @@
 -- What is left of histories that are walked.
-use Rattle.std.proofs.Common.{◌≡◌, ◌⊎◌, inl, inr, ℕ, zero, suc, ◌+◌, ◌*◌, ◌/◌, ◌%◌, ◌<◌, ◌≤◌, true, List, [], ◌∷◌, drop, length, get_or, set, add-one, replicate, refl, sym, ◌∙◌, ap, subst, arith}
+use Rattle.std.proofs.Common.{◌≡◌, ◌⊎◌, inl, inr, ℕ, zero, suc, ◌+◌, ◌-◌, ◌*◌, ◌^◌, ◌/◌, ◌%◌, ◌<◌, ◌≤◌, true, List, [], ◌∷◌, drop, length, get_or, set, replicate, refl, sym, ◌∙◌, ap, subst, arith}
 use Rattle.std.specs.Prelude.{if◌then◌else◌, Bool, false, Option, None, Some, IfSome}
 use Rattle.std.specs.List.{slice_get}
 use Rattle.std.proofs.Math.Nat.{div-add-mod, mod-lt}
@@ -11,7 +11,7 @@ use Rattle.mc_history.proofs.WalkLemmas.{next_is}
 use Rattle.zy_journal.specs.Merged.{is_earlier}
 use Rattle.zy_journal.specs.declared.heads.Head.{Head}
 use Rattle.zy_journal.specs.declared.heads.Least.{Least}
-use Rattle.zy_journal.specs.Walk.{rests_of, first_stamp, head_of, AreHeads, AreBests, IsFirstOf, IsBest, IsLeastIn, IsLeast, IsTakenAt}
+use Rattle.zy_journal.specs.Walk.{rests_of, first_stamp, head_of, AreHeads, AreQuads, IsFirstOf, IsBest, IsLeastIn, IsLeast, IsTakenAt}
 
 drop_none : (n : ℕ) → drop {A = Entry} n [] ≡ []
 drop_none zero = refl
@@ -202,6 +202,10 @@ module _ (rests : List (List Entry)) (low middle high : ℕ) (start : low ≤ mi
         ];
       }
 
+-- none was found of no lists
+pub none_yet : (rests : List (List Entry)) (low high : ℕ) → high ≤ low → IsLeastIn rests low high (record { found = false; shard = 0; stamp = 2 ^ 64 - 1 })
+none_yet rests low high le = (λ shard from to. absurd (omega (arith, le, from, to)), λ no. refl)
+
 -- the first entry of a list, alone
 single : (rests : List (List Entry)) (shard stamp : ℕ) → head_of rests shard ≡ Some stamp → IsFirstOf rests shard (shard + 1) (record { shard = shard; stamp = stamp })
 single rests shard stamp is = record {
@@ -224,6 +228,11 @@ first_before rests shard high stamp least less is le found = go least.found foun
       is = is;
       first = λ other t from to not there. absurd (let o : Some t ≡ None = sym there ∙ none other (omega (arith, from, not)) to in cc);
     }
+
+-- the best of four lists, by their bounds
+pub quad_there : (rests : List (List Entry)) (quads : List (Option Head)) → AreQuads rests quads → (quad low high : ℕ) → quad < 64 → 4 * quad ≡ low → 4 * quad + 4 ≡ high → IsBest rests low high (get_or quads quad None)
+quad_there rests quads are quad low high less from to =
+    subst (λ n. IsBest rests low n (get_or quads quad None)) to (subst (λ n. IsBest rests n (4 * quad + 4) (get_or quads quad None)) from (are quad less))
 
 -- ---- of all lists
 
@@ -249,30 +258,40 @@ best_kept old new low high (Some head) same best = record {
   first = λ shard stamp from to not is. best.first shard stamp from to not (sym (same shard from to) ∙ is);
 }
 
--- where an entry was taken off a list, the best of its 16 is found anew
-pub bests_taken : (old new : List (List Entry)) (at group : ℕ) (e : Entry) (bests : List (Option Head)) (best : Option Head) → AreBests old bests → IsTakenAt at old new e → 16 * group ≤ at → at < 16 * group + 16 → group < length bests
-    → IsBest new (16 * group) (16 * group + 16) best → AreBests new (set bests group best)
-bests_taken old new at group e bests best are taken from to room is g within = elim (eqb_tells g group) [
-  | inl same ↦
-      subst (λ n. IsBest new (16 * n) (16 * n + 16) (get_or (set bests group best) n None)) (sym same.1)
-      (subst (IsBest new (16 * group) (16 * group + 16)) (sym (get_or-set_same bests group best None room)) is)
-  | inr other ↦
-      subst (IsBest new (16 * g) (16 * g + 16)) (sym (get_or-set_other bests group g best None other.1))
-      (best_kept old new (16 * g) (16 * g + 16) (get_or bests g None)
-      (λ shard low high. ap first_stamp (sym (taken.others shard (λ same. other.1 (omega (arith, low, high, from, to, same))))))
-      (are g within))
-]
+module _ (width : ℕ) where
+  -- where an entry was taken off a list, the best of its group is found anew
+  pub bests_taken : (count : ℕ) (old new : List (List Entry)) (at group : ℕ) (e : Entry) (bests : List (Option Head)) (best : Option Head)
+      → ((g : ℕ) → g < count → IsBest old (width * g) (width * g + width) (get_or bests g None)) → IsTakenAt at old new e
+      → ((g : ℕ) → width * g ≤ at → at < width * g + width → g ≡ group) → group < length bests
+      → IsBest new (width * group) (width * group + width) best → (g : ℕ) → g < count → IsBest new (width * g) (width * g + width) (get_or (set bests group best) g None)
+  bests_taken count old new at group e bests best are taken alone room is g within = elim (eqb_tells g group) [
+    | inl same ↦
+        subst (λ n. IsBest new (width * n) (width * n + width) (get_or (set bests group best) n None)) (sym same.1)
+        (subst (IsBest new (width * group) (width * group + width)) (sym (get_or-set_same bests group best None room)) is)
+    | inr other ↦
+        subst (IsBest new (width * g) (width * g + width)) (sym (get_or-set_other bests group g best None other.1))
+        (best_kept old new (width * g) (width * g + width) (get_or bests g None)
+        (λ shard low high. ap first_stamp (sym (taken.others shard (λ same. other.1 (alone g (subst (λ n. width * g ≤ n) (sym same) low) (subst (λ n. n < width * g + width) (sym same) high))))))
+        (are g within))
+  ]
 
--- with the best of one more group
-pub one_group : (rests : List (List Entry)) (bests : List (Option Head)) (group : ℕ) (best : Option Head) → group < length bests → ((g : ℕ) → g < group → IsBest rests (16 * g) (16 * g + 16) (get_or bests g None)) → IsBest rests (16 * group) (16 * group + 16) best
-    → (g : ℕ) → g < group + 1 → IsBest rests (16 * g) (16 * g + 16) (get_or (set bests group best) g None)
-one_group rests bests group best room are is g less = elim (eqb_tells g group) [
-  | inl same ↦
-      subst (λ n. IsBest rests (16 * n) (16 * n + 16) (get_or (set bests group best) n None)) (sym same.1)
-      (subst (IsBest rests (16 * group) (16 * group + 16)) (sym (get_or-set_same bests group best None room)) is)
-  | inr other ↦
-      subst (IsBest rests (16 * g) (16 * g + 16)) (sym (get_or-set_other bests group g best None other.1)) (are g (grind (arith, nat_tests, less, other.0)))
-]
+  -- with the best of one more group
+  pub one_group : (rests : List (List Entry)) (bests : List (Option Head)) (group : ℕ) (best : Option Head) → group < length bests
+      → ((g : ℕ) → g < group → IsBest rests (width * g) (width * g + width) (get_or bests g None)) → IsBest rests (width * group) (width * group + width) best
+      → (g : ℕ) → g < group + 1 → IsBest rests (width * g) (width * g + width) (get_or (set bests group best) g None)
+  one_group rests bests group best room are is g less = elim (eqb_tells g group) [
+    | inl same ↦
+        subst (λ n. IsBest rests (width * n) (width * n + width) (get_or (set bests group best) n None)) (sym same.1)
+        (subst (IsBest rests (width * group) (width * group + width)) (sym (get_or-set_same bests group best None room)) is)
+    | inr other ↦
+        subst (IsBest rests (width * g) (width * g + width)) (sym (get_or-set_other bests group g best None other.1)) (are g (grind (arith, nat_tests, less, other.0)))
+  ]
+
+-- the four of a list
+pub quad_of : (shard : ℕ) → (4 * (shard / 4) ≤ shard) × (shard < 4 * (shard / 4) + 4)
+quad_of shard =
+    let split : 4 * (shard / 4) + shard % 4 ≡ shard = div-add-mod shard 4 in
+    let less : shard % 4 < 4 = mod-lt shard (omega arith) in (omega (arith, split), omega (arith, split, less))
 
 -- the group of a list
 pub group_of : (shard : ℕ) → (16 * (shard / 16) ≤ shard) × (shard < 16 * (shard / 16) + 16)

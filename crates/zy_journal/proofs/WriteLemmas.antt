@@ -15,9 +15,12 @@ appended_5 text one two three four five a b c d e p q r s t h i j k l f1 f2 f3 f
     (rw (l, k, j, i, h, f1, f2, f3, f4, f5) refl)
     ∙ append_assoc (((text ++ p) ++ q) ++ r) s t ∙ append_assoc ((text ++ p) ++ q) r (s ++ t) ∙ append_assoc (text ++ p) q (r ++ (s ++ t)) ∙ append_assoc text p (q ++ (r ++ (s ++ t)))
 
--- and then a code and what stands before a key
-pub gathered_key : (text six seven eight : List ℕ) (code own : ℕ) (head key : List ℕ) → six ≡ text → seven ≡ six ++ code ∷ [] → code ≡ own → eight ≡ seven ++ head → head ≡ key → eight ≡ text ++ own ∷ key
-gathered_key text six seven eight code own head key s v c e h = (rw (e, v, s, c, h) refl) ∙ append_assoc text (own ∷ []) key
+-- a head, a code, a key and fields that were appended one after the other
+pub appended_call : (text one two three four head key fields h k f : List ℕ) (code own : ℕ) → one ≡ text ++ head → two ≡ one ++ code ∷ [] → three ≡ two ++ key → four ≡ three ++ fields
+    → head ≡ h → code ≡ own → key ≡ k → fields ≡ f → four ≡ text ++ (h ++ (own ∷ (k ++ f)))
+appended_call text one two three four head key fields h k f code own is_one is_two is_three is_four is_head is_code is_key is_fields =
+    (rw (is_four, is_three, is_two, is_one, is_head, is_code, is_key, is_fields) refl)
+    ∙ append_assoc ((text ++ h) ++ own ∷ []) k f ∙ append_assoc (text ++ h) (own ∷ []) (k ++ f) ∙ append_assoc text h (own ∷ (k ++ f))
 
 -- ---- what is taken one by one
 

@@ -49,6 +49,10 @@ abbrev pub IsLeastIn : List (List Entry) → ℕ → ℕ → Least → Type 0
 IsLeastIn rests low high least =
     IsBest rests low high (best_in least) × (least.found ≡ false → least.stamp ≡ 2 ^ 64 - 1)
 
+-- these are, for every four lists, the first entries that come first
+abbrev pub AreQuads : List (List Entry) → List (Option Head) → Type 0
+AreQuads rests quads = (quad : ℕ) → quad < 64 → IsBest rests (4 * quad) (4 * quad + 4) (get_or quads quad None)
+
 -- these are, for every 16 lists, the first entries that come first
 abbrev pub AreBests : List (List Entry) → List (Option Head) → Type 0
 AreBests rests bests = (group : ℕ) → group < 16 → IsBest rests (16 * group) (16 * group + 16) (get_or bests group None)

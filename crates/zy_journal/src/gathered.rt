@@ -3,8 +3,8 @@ ghost use Rattle.std.specs.Prelude.{◌≡◌, ◌+◌, ◌≤◌, ◌++◌, len
 ghost use Rattle.std.specs.Int.{to_be_bytes, w32, w64};
 ghost use Rattle.arrayvec.specs.ArrayVec.{array_vec_len};
 ghost use Rattle.mc_calls.specs.Bounds.{IsKey, IsValue};
-ghost use Rattle.zy_journal.specs.Journal.{field_text, counts_text};
-ghost use Rattle.zy_journal.specs.Pieces.{key_head, value_head, fields_head};
+ghost use Rattle.zy_journal.specs.Journal.{field_text, key_text, counts_text};
+ghost use Rattle.zy_journal.specs.Pieces.{value_head, fields_head};
 
 use arrayvec::ArrayVec;
 use mc_calls::Tallied;
@@ -21,15 +21,17 @@ pub(crate) fn put<const N: usize>(text: &mut ArrayVec<u8, N>, field: &[u8])
     }
 }
 
-// Appends the length of a key, if there is one.
-pub(crate) fn put_key_head<const N: usize>(text: &mut ArrayVec<u8, N>, key: Option<&Blob>)
-    requires room { array_vec_len text.old + 1 ≤ N }
+// Appends the length and the bytes of a key, if there is one.
+pub(crate) fn put_key<const N: usize>(text: &mut ArrayVec<u8, N>, key: Option<&Blob>)
+    requires room { array_vec_len text.old + 251 ≤ N }
     requires fits { IfSome (option_copied key) IsKey }
-    ensures value { text.new.items ≡ text.old.items ++ key_head (option_copied key.entry) }
+    ensures value { text.new.items ≡ text.old.items ++ field_text key_text (option_copied key.entry) }
+    ensures len { array_vec_len text.new ≤ array_vec_len text.old + 251 }
 {
     if let Some(key) = key {
-        let length = key.bytes().len() as u8;
-        put(text, &[length]);
+        let bytes = key.bytes();
+        put(text, &[bytes.len() as u8]);
+        put(text, bytes);
     }
 }
 
@@ -58,6 +60,7 @@ pub(crate) fn put_fields<const N: usize>(
     requires room { array_vec_len text.old + 16 ≤ N }
     requires fits { IfSome (option_copied value) IsValue }
     ensures value { text.new.items ≡ text.old.items ++ fields_head flags number (option_copied value.entry) }
+    ensures len { array_vec_len text.new ≤ array_vec_len text.old + 16 }
 {
     put_flags(text, flags);
     put_number(text, number);
@@ -91,6 +94,7 @@ fn put_value_head<const N: usize>(text: &mut ArrayVec<u8, N>, value: Option<&Blo
     requires room { array_vec_len text.old + 4 ≤ N }
     requires fits { IfSome (option_copied value) IsValue }
     ensures value { text.new.items ≡ text.old.items ++ value_head (option_copied value.entry) }
+    ensures len { array_vec_len text.new ≤ array_vec_len text.old + 4 }
 {
     if let Some(value) = value {
         let length = value.bytes().len() as u32;

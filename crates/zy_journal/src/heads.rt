@@ -1,6 +1,6 @@
 //! The first entries of histories, and which of them comes first.
 ghost use Rattle.std.specs.Prelude.{◌≡◌, ◌+◌, ◌*◌, ◌<◌, ◌≤◌, ℕ, None, length, drop};
-ghost use Rattle.zy_journal.specs.Walk.{first_stamp, head_of, AreHeads, AreBests, IsBest, IsLeastIn};
+ghost use Rattle.zy_journal.specs.Walk.{first_stamp, head_of, AreHeads, AreQuads, AreBests, IsBest, IsLeastIn};
 
 use mc_history::History;
 
@@ -50,40 +50,63 @@ pub(crate) fn heads_of(histories: &[History]) -> [Option<u64>; 256]
     heads
 }
 
+/// Returns, for every four histories, the one of their first entries that comes first.
+pub(crate) fn quads_of(heads: &[Option<u64>; 256]) -> [Option<Head>; 64]
+    ensures value { (rests : _) → AreHeads rests heads.now → AreQuads rests result }
+{
+    let mut quads: [Option<Head>; 64] = [None; 64];
+    let mut quad = 0;
+    while quad < 64 {
+        quads[quad] = quad_of(heads, quad);
+        quad += 1;
+    }
+    quads
+}
+
+/// Returns the one that comes first of the first entries of four histories.
+pub(crate) fn quad_of(heads: &[Option<u64>; 256], quad: usize) -> Option<Head>
+    requires within { quad < 64 }
+    ensures value { (rests : _) → AreHeads rests heads.now
+        → IsBest rests (4 * quad) (4 * quad + 4) result }
+{
+    let first = 4 * quad;
+    // Backwards, so that the first of equal stamps counts.
+    let last = and_before(NONE, first + 3, heads[first + 3]);
+    let two = and_before(last, first + 2, heads[first + 2]);
+    let three = and_before(two, first + 1, heads[first + 1]);
+    let least = and_before(three, first, heads[first]);
+    if least.found {
+        return Some(Head {
+            shard: least.shard,
+            stamp: least.stamp,
+        });
+    }
+    None
+}
+
 /// Returns, for every 16 histories, the one of their first entries that comes first.
-pub(crate) fn bests_of(heads: &[Option<u64>; 256]) -> [Option<Head>; 16]
-    ensures value { (rests : _) → AreHeads rests heads.now → AreBests rests result }
+pub(crate) fn bests_of(quads: &[Option<Head>; 64]) -> [Option<Head>; 16]
+    ensures value { (rests : _) → AreQuads rests quads.now → AreBests rests result }
 {
     let mut bests: [Option<Head>; 16] = [None; 16];
     let mut group = 0;
     while group < 16 {
-        bests[group] = best_of(heads, group);
+        bests[group] = best_of(quads, group);
         group += 1;
     }
     bests
 }
 
 /// Returns the one that comes first of the first entries of 16 histories.
-pub(crate) fn best_of(heads: &[Option<u64>; 256], group: usize) -> Option<Head>
+pub(crate) fn best_of(quads: &[Option<Head>; 64], group: usize) -> Option<Head>
     requires within { group < 16 }
-    ensures value { (rests : _) → AreHeads rests heads.now
+    ensures value { (rests : _) → AreQuads rests quads.now
         → IsBest rests (16 * group) (16 * group + 16) result }
 {
-    let start = 16 * group;
-    let mut least = NONE;
-    let mut shard = start + 16;
-    // Backwards, so that the first of equal stamps counts.
-    while shard > start {
-        shard -= 1;
-        least = and_before(least, shard, heads[shard]);
-    }
-    if !least.found {
-        return None;
-    }
-    Some(Head {
-        shard: least.shard,
-        stamp: least.stamp,
-    })
+    let quad = 4 * group;
+    let before = first_of(quads[quad], quads[quad + 1]);
+    let behind = first_of(quads[quad + 2], quads[quad + 3]);
+    first_of(before, behind)
 }
 
 // Returns the first head of some histories and of the one before them.

@@ -5,8 +5,9 @@ ghost use Rattle.zy_base.specs.Outside.{Writes};
 ghost use Rattle.zy_journal.specs.Journal.{IsJournal, IsEntry, journal_bytes, entry_text, hold_text};
 
 use crate::journal::Journal;
-use crate::pieces::{before_key, before_reply_value, before_value, bytes_of};
+use crate::pieces::{bytes_of, put_call, put_reply};
 use crate::walk::Walk;
+use arrayvec::ArrayVec;
 use mc_calls::Hold;
 use mc_history::EntryRef;
 use zy_base::{Failed, Sink, write_pieces, write_whole};
@@ -55,23 +56,26 @@ fn write_hold<K: Sink>(sink: &mut K, hold: &Hold) -> Result<(), Failed>
     write_pieces(sink, &[b"H", &conn, &core, &count])
 }
 
-// Writes an entry in one go: what stands before each byte string, and the byte strings where they are.
+// Writes an entry in one go. Values are written where they are, and what is short is put together first.
 fn write_entry<K: Sink>(sink: &mut K, entry: &EntryRef<'_>) -> Result<(), Failed>
     requires fits { IsEntry entry.now }
     ensures writes { Writes K.holds K.faults K.finishes sink.old sink.new result (entry_text entry.now) }
 {
-    let head = before_key(entry);
-    let fields = before_value(entry);
-    let reply = before_reply_value(entry);
-    write_pieces(
-        sink,
-        &[
-            head.as_slice(),
-            bytes_of(entry.key()),
-            fields.as_slice(),
-            bytes_of(entry.value()),
-            reply.as_slice(),
-            bytes_of(entry.reply_value()),
-        ],
-    )
+    let mut text: ArrayVec<u8, 354> = ArrayVec::new();
+    put_call(&mut text, entry);
+    let last = bytes_of(entry.reply_value());
+    match entry.value() {
+        None => {
+            put_reply(&mut text, entry);
+            write_pieces(sink, &[text.as_slice(), last])
+        }
+        Some(value) => {
+            let mut reply: ArrayVec<u8, 57> = ArrayVec::new();
+            put_reply(&mut reply, entry);
+            write_pieces(
+                sink,
+                &[text.as_slice(), value.bytes(), reply.as_slice(), last],
+            )
+        }
+    }
 }

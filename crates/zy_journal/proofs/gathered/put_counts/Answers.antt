@@ -1,4 +1,4 @@
-use Rattle.std.proofs.Common.{List, ℕ, ◌++◌, sym, ap, ◌∙◌}
+use Rattle.std.proofs.Common.{◌++◌, sym, ap, ◌∙◌}
 use Rattle.std.specs.Int.{to_be_bytes, w64}
 use Rattle.mc_calls.specs.declared.tallied.Tallied.{Tallied}
 use Rattle.zy_journal.specs.Journal.{counts_text, field_text}

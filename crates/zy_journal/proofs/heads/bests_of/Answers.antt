@@ -9,7 +9,7 @@ loop-group-preserved c =
     let less = c.loop-group-test.true in
     let room : c.loop-group.group < length c.loop-group.bests = omega (arith, size, less) in
     record {
-      bests = λ rests heads. one_group rests c.loop-group.bests c.loop-group.group c.best_of.result room (c.loop-group.invariant.bests rests heads) (c.best_of.ensures.value rests heads);
+      bests = λ rests quads. one_group 16 rests c.loop-group.bests c.loop-group.group c.best_of.result room (c.loop-group.invariant.bests rests quads) (c.best_of.ensures.value rests quads);
       size = length-set c.loop-group.bests c.loop-group.group c.best_of.result ∙ size;
       within = omega (arith, less);
     }
@@ -17,4 +17,4 @@ loop-group-preserved c =
 pub returns : goal.returns
 returns c =
     let end : 16 ≤ c.loop-group.group = c.loop-group-test.false in
-    record { value = λ rests heads group less. c.loop-group.invariant.bests rests heads group (omega (arith, less, end)) }
+    record { value = λ rests quads group less. c.loop-group.invariant.bests rests quads group (omega (arith, less, end)) }

@@ -9,7 +9,7 @@ loop-group-preserved c =
     let group = c.loop-group.group in
     let test : 16 * group < length c.self.inside.histories.now = c.loop-group-test.true in
     let few : length c.self.inside.histories.now ≤ 256 = c.loop-group.invariant.few in
-    let own = subst (λ r. IsBest r (16 * group) (16 * group + 16) (slice_index_or c.self.inside.bests group None)) c.self.view_is (c.self.invariant.2 group (omega (arith, test, few))) in
+    let own = subst (λ r. IsBest r (16 * group) (16 * group + 16) (slice_index_or c.self.inside.bests group None)) c.self.view_is (c.self.invariant.3 group (omega (arith, test, few))) in
     let step : 16 * group + 16 ≡ 16 * (group + 1) = omega arith in
     record {
       best = subst (λ n. IsBest c.args.self.now 0 n c.first_of-best.result) step

@@ -1,8 +1,8 @@
 use Rattle.std.proofs.Common.{rules, ◌≡◌, ◌<◌, ◌/◌, List, length, slice_index_or, slice_set, ◌+◌, arith, refl, subst, ◌∙◌, ap}
 use Rattle.std.specs.List.{slice_get}
 use Rattle.mc_calls.specs.declared.entry.Entry.{Entry}
-use Rattle.zy_journal.specs.Walk.{rests_of, AreHeads, IsTakenAt}
-use Rattle.zy_journal.proofs.WalkLemmas.{list_there, entry_there, taken_at, heads_taken, bests_taken, group_of}
+use Rattle.zy_journal.specs.Walk.{rests_of, AreHeads, AreQuads, IsTakenAt}
+use Rattle.zy_journal.proofs.WalkLemmas.{list_there, entry_there, taken_at, heads_taken, bests_taken, quad_of, group_of}
 use Rattle.zy_journal.proofs.rests.Rests.take.Goals as goal
 
 pub bounds-self-inside-shard-2 : goal.bounds-self-inside-shard-2
@@ -37,11 +37,21 @@ invariant_of-self c =
     heads_taken hs c.self.inside.at c.args.shard at c.self.inside.heads h c.stamp_at.result c.self.invariant.1 (search rules) (search rules) there.0 c.stamp_at.ensures.value in
     let taken : IsTakenAt c.args.shard (rests_of hs c.self.inside.at) new c.entry.result =
     taken_at hs c.self.inside.at c.args.shard at c.entry.result refl (search rules) (ap (λ (l : List Entry). slice_get l at) there.0 ∙ c.entry.ensures.value) in
-    let group = group_of c.args.shard in
+    let old = rests_of hs c.self.inside.at in
     let within = c.requires.within in
+    let quad = quad_of c.args.shard in
+    let few_quads : c.args.shard / 4 < 64 = omega (arith, quad.0, within) in
+    let quad_size : length c.self.inside.quads ≡ 64 = search rules in
+    let quads : AreQuads new (slice_set c.self.inside.quads (c.args.shard / 4) c.quad_of.result) =
+    bests_taken 4 64 old new c.args.shard (c.args.shard / 4) c.entry.result c.self.inside.quads c.quad_of.result c.self.invariant.2 taken (λ g low high. omega (arith, low, high, quad.0, quad.1)) (omega (arith, quad_size, few_quads)) (c.quad_of.ensures.value new heads) in
+    let group = group_of c.args.shard in
     let few : c.args.shard / 16 < 16 = omega (arith, group.0, within) in
-    let size : length c.self.inside.bests ≡ 16 = search rules in
-    (c.self.invariant.0, heads, bests_taken (rests_of hs c.self.inside.at) new c.args.shard (c.args.shard / 16) c.entry.result c.self.inside.bests c.best_of.result c.self.invariant.2 taken group.0 group.1 (omega (arith, size, few)) (c.best_of.ensures.value new heads))
+    let size : length c.self.inside.bests ≡ 16 = search rules in (
+      c.self.invariant.0,
+      heads,
+      quads,
+      bests_taken 16 16 old new c.args.shard (c.args.shard / 16) c.entry.result c.self.inside.bests c.best_of.result c.self.invariant.3 taken (λ g low high. omega (arith, low, high, group.0, group.1)) (omega (arith, size, few)) (c.best_of.ensures.value new quads),
+    )
 
 pub returns : goal.returns
 returns c =
