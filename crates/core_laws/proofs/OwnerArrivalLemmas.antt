@@ -11,13 +11,12 @@ use Rattle.zy_shuffle.specs.declared.ring.view.Role.{Role}
 use Rattle.zy_shuffle.specs.declared.ring.view.Role.TheVariants.{Closed, Core, Home, Spent, Start}
 use Rattle.zy_shuffle.specs.declared.ring.view.View.{View}
 use Rattle.zy_shuffle.specs.Hand.{marked}
-use Rattle.zy_shuffle.specs.Holder.{cores}
 use Rattle.zy_shuffle.specs.HomeRole.{IsActive, IsHome}
-use Rattle.core_laws.specs.OneStep.{Ruled, IsPublication, GrowsBy, GrowsByAll, LeadsBy, LeadsByAll, ArrivesIdle}
-use Rattle.core_laws.specs.OneStep.{WasPublished, BecomesReady, idling_of}
+use Rattle.core_laws.specs.OneStep.{Ruled, IsPublication, GrowsBy, GrowsByAll, ArrivesIdle}
+use Rattle.core_laws.specs.OneStep.{WasPublished, BecomesReady, idling_of, run_of}
 use Rattle.zy_shuffle.proofs.FollowLemmas.{publication_seat}
-use Rattle.core_laws.proofs.OwnerRunLemmas.{runs_step, runs_steps, step_grows}
-use Rattle.zy_shuffle.proofs.TakeLemmas.{kept_of}
+use Rattle.core_laws.proofs.OwnerRunLemmas.{leads_all, leads_one, step_grows}
+use Rattle.zy_shuffle.proofs.RoleLemmas.{kept_of}
 
 -- after the events with which a connection became idle, it is idle
 pub idle_before : {M : Type 0} (p : ℕ) (kept : std.Option M) (s u : Owners) → Runs 0 s (went_idle p kept) u → (kept ≡ std.None → s.places p ≡ idle) → ((x : M) → kept ≡ std.Some x → s.finished p + 1 ≡ s.arrived p) → u.places p ≡ idle
@@ -50,11 +49,9 @@ module _ {T M : Type 0} (mark : T → M) (label : T → Name) (s t : Ruled mark 
   grows : (before : Before) → IsPublication before p s t → GrowsByAll (publication before p (s.1.marks p)) s t
   grows before h =
       let v : View T = h.0 in
-      let role = (s.1.each_seat 0 v h.2.0).role in
-      let kept : marked mark p v.kept ≡ s.1.marks p = kept_of mark label s.0.words (length s.0.homes) s.1.head s.1.tail s.1.holders s.1.marks s.1.name (cores s.0.views) 0 v.hand v.label v.kept v.role h.3 role p in
       let k : std.Option M = marked mark p v.kept in
-      step_grows s.0.views t.0.views s.1.follows.events t.1.follows.events 0 v h.1 (λ _. publication before p k) h.2 (home_active v.role h.3) h.4 (publication_seat before p k) s.1.follows.known t.1.follows.known
-      ∙ ap (λ (x : std.Option M). publication before p x ++ s.1.follows.events) kept
+      step_grows s t 0 (λ _. publication before p k) (v, h.1, h.2, home_active v.role h.3, h.4, publication_seat before p k)
+      ∙ ap (λ (x : std.Option M). publication before p x ++ run_of s) (kept_of s.1 0 v h.2.0 h.3 p)
 
   pub publication_grows : IsPublication was_idle p s t → GrowsByAll (Arrive p 1 ∷ idling_of p s) s t
   publication_grows h = grows was_idle h
@@ -67,16 +64,16 @@ module _ {T M : Type 0} (mark : T → M) (label : T → Name) (s t : Ruled mark 
   pub publication_arrives : p < length s.0.homes → IsPublication was_idle p s t → ArrivesIdle p s t
   publication_arrives near h =
       let f = s.1.follows in
-      let r : LeadsByAll (Arrive p 1 ∷ idling_of p s) s t = runs_steps 0 f.owners t.1.follows.owners f.events t.1.follows.events (Arrive p 1 ∷ idling_of p s) (publication_grows h) f.run t.1.follows.run in
+      let r = leads_all s t (Arrive p 1 ∷ idling_of p s) (publication_grows h) in
       (r.0, r.1, idle_before p (s.1.marks p) f.owners r.0 r.1 (f.unmarked p near).1 (λ x is. left_at x near is), r.2)
 
   -- it was held, and is settled
   pub publication_settles : WasPublished p s → IsPublication was_held p s t → GrowsBy (Settle p) s t
-  publication_settles some h = grows was_held h ∙ ap (λ (es : List Event). es ++ s.1.follows.events) (held_settles p (s.1.marks p) some)
+  publication_settles some h = grows was_held h ∙ ap (λ (es : List Event). es ++ run_of s) (held_settles p (s.1.marks p) some)
 
   pub publication_readies : p < length s.0.homes → WasPublished p s → IsPublication was_held p s t → BecomesReady p s t
   publication_readies near some h =
       let f = s.1.follows in
-      let r : LeadsBy (Settle p) s t = runs_step 0 f.owners t.1.follows.owners f.events t.1.follows.events (Settle p) (publication_settles some h) f.run t.1.follows.run in
+      let r = leads_one s t (Settle p) (publication_settles some h) in
       let left = f.due p near (λ e. some ((f.unmarked p near).0 e)) in
       (r.0, ap (λ (z : Owners). z.places p) (r.1 (omega arith)) ∙ put_here f.owners.places p ready)

@@ -3,23 +3,20 @@ use Rattle.std.proofs.Common.{◌≡◌, ◌≢◌, ℕ, ◌+◌, ◌≤◌, Lis
 use Rattle.std.proofs.Common.{⊎_elim, arith, le_trans}
 use Rattle.zy_table.specs.Member.{is_in}
 use Rattle.zy_table.specs.Put.{put}
+use Rattle.zy_table.specs.declared.name.Name.{Name}
 use Rattle.zy_table.proofs.PutLemmas.{at_put, put_else}
 use Rattle.zy_table.proofs.MemberLemmas.{in_front, in_or, not_in}
 use Rattle.zy_shuffle.specs.declared.ring.view.Event.{Event}
 use Rattle.zy_shuffle.specs.declared.ring.view.Event.TheVariants.{Arrive, Claim, Handle, GiveBack, Collect, Settle}
-use Rattle.zy_shuffle.specs.declared.ring.view.View.{View}
-use Rattle.zy_shuffle.specs.HomeRole.{IsActive}
 use Rattle.zy_shuffle.specs.Ownership.{Place, idle, ready, held, returned, Owners, no_requests, happens, IsSound}
 use Rattle.zy_shuffle.specs.Ownership.{Runs}
-use Rattle.core_laws.specs.OneStep.{StaysHeld}
-use Rattle.zy_shuffle.specs.Run.{seat_of, Apart, AreOwned, IsKnown}
+use Rattle.core_laws.specs.OneStep.{KnowsHeld, Ruled, StaysHeld, owners_of, run_of, views_of}
+use Rattle.zy_shuffle.specs.Run.{seat_of, Apart, AreOwned}
 use Rattle.zy_shuffle.specs.View.{with_own}
 use Rattle.zy_shuffle.proofs.OwnerLemmas.{idle_or, runs_from, runs_sound}
 use Rattle.zy_shuffle.proofs.KnownLemmas.{apart_own, in_own, owned_front}
 use mathlib.Core.Logic.{dite}
 use native.Mathlib.Decide.{ℕ_discrete}
-use lib.ListN.{get_elem?}
-use mathlib.Core.Option.{some}
 
 -- a connection that is elsewhere is another one
 other_one : (s : Owners) (core c d : ℕ) (place : Place) → s.places c ≡ held core → s.places d ≡ place → (place ≡ held core → ⊥) → c ≢ d
@@ -89,10 +86,11 @@ apart_one n seats (e ∷ es) has h = (
 )
 
 -- what a seat knows of a connection that it holds is so
-pub knows_held : {T : Type 0} (views : List (View T)) (events : List Event) (t : Owners) → IsKnown events views → Runs 0 no_requests events t → (id c : ℕ) (v : View T) → get_elem? views id ≡ some v → IsActive v.role
-    → (u : Owners) × Runs 0 no_requests v.trace.run u × (u.places c ≡ held id → StaysHeld id c u t)
-knows_held views events t known run id c v at active =
+pub knows_held : {T M : Type 0} {mark : T → M} {label : T → Name} (s : Ruled mark label) (id c : ℕ) → KnowsHeld id c s
+knows_held s id c v at active =
+    let t : Owners = owners_of s in
+    let known = s.1.follows.known in
     let missing = known.missing id v at in
-    let parts = split_run 0 no_requests t missing.0 v.trace.run (subst (λ es. Runs 0 no_requests es t) missing.1 run) in
-    let apart = apart_own events views known id v at active missing.0 (owned_front views missing.0 v.trace.run (subst (AreOwned views) missing.1 known.owned)) missing.2 in
+    let parts = split_run 0 no_requests t missing.0 v.trace.run (subst (λ es. Runs 0 no_requests es t) missing.1 s.1.follows.run) in
+    let apart = apart_own (run_of s) (views_of s) known id v at active missing.0 (owned_front (views_of s) missing.0 v.trace.run (subst (AreOwned (views_of s)) missing.1 known.owned)) missing.2 in
     (parts.0, parts.1, λ e. run_stays_held id c parts.0 t missing.0 (runs_sound 0 parts.0 v.trace.run parts.1) parts.2 e (apart_one id (with_own id v.trace.seats) missing.0 (in_own id v.trace.seats (known.leads id v at)) apart))

@@ -7,13 +7,14 @@ use Rattle.zy_table.specs.Member.{is_in}
 use Rattle.zy_table.proofs.SumLemmas.{sum_bound}
 use Rattle.zy_shuffle.specs.declared.ring.view.View.{View}
 use Rattle.zy_shuffle.specs.Word.{cell, bell_at}
-use Rattle.zy_shuffle.specs.Holder.{Holder, nobody, in_queue, in_hand, at_bell, cores, weight, bell}
+use Rattle.zy_shuffle.specs.Holder.{Holder, nobody, in_queue, in_hand, at_bell, weight, bell}
 use Rattle.zy_shuffle.specs.HomeRole.{IsHome}
 use Rattle.core_laws.specs.OnePlace.{Holds, IsQueued}
-use Rattle.zy_shuffle.specs.ShuffleRule.{InQueue, IsRole, RingState, ShuffleRule}
+use Rattle.zy_shuffle.specs.ShuffleRule.{InQueue, RingState, ShuffleRule}
 use Rattle.zy_shuffle.specs.declared.ring.view.Role.{Role}
 use Rattle.zy_shuffle.specs.declared.ring.view.Role.TheVariants.{Closed, Core, Home, Spent, Start}
 use Rattle.zy_shuffle.proofs.LookLemmas.{light}
+use Rattle.zy_shuffle.proofs.RoleLemmas.{IsRoleOf}
 use mathlib.Core.Option.{some}
 use lib.ListN.{get_elem?}
 
@@ -53,7 +54,7 @@ module _ {T M : Type 0} (mark : T → M) (label : T → Name) (s : RingState T) 
       ⊎ (((k : ℕ) × IsQueued s r.head r.tail k p) ⊎ (bell_at s.words (length s.homes) p ≡ 1))
   somewhere v at home p near = go (r.holders p) refl
     where
-      taken : (x : Role) → IsHome x → IsRole mark label s.words (length s.homes) r.head r.tail r.holders r.marks r.name (cores s.views) 0 v.hand v.label v.kept x → r.holders p ≡ nobody → ⊥
+      taken : (x : Role) → IsHome x → IsRoleOf r 0 v x → r.holders p ≡ nobody → ⊥
       taken Spent a h = absurd a
       taken Start a h = absurd a
       taken Core a h = absurd a

@@ -1,23 +1,24 @@
 -- The views of a ring determine its run, and a step adds its own events to it, or none.
 use Rattle.zy_shuffle.proofs.OwnerLemmas.{idle_or, runs_sound}
-use Rattle.std.proofs.Common.{◌≡◌, ◌≢◌, ◌⊎◌, ℕ, ◌+◌, ◌<◌, List, [], ◌∷◌, ◌++◌, refl, sym, ◌∙◌, subst, ⊎_elim, arith}
+use Rattle.std.proofs.Common.{◌≡◌, ◌≢◌, ℕ, ◌<◌, List, [], ◌∷◌, ◌++◌, refl, sym, ◌∙◌, subst, ⊎_elim, arith}
 use Rattle.std.proofs.Common.{length, set, cond, Bool, true, false, true≢false, ap}
 use Rattle.std.specs.Prelude.{⊤}
 use Rattle.zy_shuffle.specs.declared.ring.view.Event.{Event}
 use Rattle.zy_shuffle.specs.declared.ring.view.Event.TheVariants.{Arrive, Claim, Handle, GiveBack, Collect, Settle}
 use Rattle.zy_shuffle.specs.Ownership.{idle, held, Owners, no_requests, moved, happens, IsSound, Runs}
-use Rattle.std.proofs.lemmas.List.{append-nil, append_cancel_right, append_assoc}
+use Rattle.std.proofs.lemmas.List.{append-nil, append_cancel_right, append_assoc, length-append}
 use Rattle.atomic_table.proofs.Lists.{set_here, set_else}
 use Rattle.zy_table.specs.Member.{is_in}
+use Rattle.zy_table.specs.declared.name.Name.{Name}
 use Rattle.zy_table.proofs.SlotLemmas.{at_below}
 use Rattle.zy_shuffle.specs.declared.ring.view.View.{View}
 use Rattle.zy_shuffle.specs.HomeRole.{IsActive}
-use Rattle.zy_shuffle.specs.Run.{seat_of, AreOfSeat, Apart, Leads, AreOwned, MayFollow, MakesAll, MakesNone, IsKnown}
-use Rattle.core_laws.specs.OneStep.{IsStep}
+use Rattle.zy_shuffle.specs.Run.{seat_of, AreOfSeat, Apart, Leads, AreOwned, MayFollow, IsKnown}
+use Rattle.core_laws.specs.OneStep.{AreEvents, GrowsBy, GrowsByAll, IsGiven, IsJoined, IsNoEvent, LeadsBy, LeadsByAll, Ruled, owners_of, run_of, views_of}
 use Rattle.zy_shuffle.specs.Step.{newcomer, splitting, taken_in}
 use Rattle.zy_shuffle.specs.View.{with_own, spent}
 use Rattle.zy_shuffle.proofs.KnownLemmas.{in_own, not_spent, known_added, known_same, known_joined, all_of}
-use Rattle.zy_shuffle.proofs.KnownLemmas.{apart_front, apart_own, long_append, owned_front, same_view}
+use Rattle.zy_shuffle.proofs.KnownLemmas.{apart_front, apart_own, owned_front, same_view}
 use mathlib.Core.Logic.{dite}
 use native.Mathlib.Decide.{ℕ_discrete}
 use mathlib.Core.Option.{some}
@@ -54,16 +55,6 @@ runs_one home t t' (e ∷ es) h k =
 runs_between : (home : ℕ) (s t : Owners) (acts es : List Event) → Runs home s (acts ++ es) t → (u : Owners) × Runs home s es u × Runs home u acts t
 runs_between home s t [] es h = (t, h, refl)
 runs_between home s t (e ∷ acts) es h = let r = runs_between home s h.0 acts es h.1 in (r.0, r.1, (h.0, r.2, h.2))
-
--- a run that goes on by these events: they lead from the state that the run reached
-pub runs_steps : (home : ℕ) (s t : Owners) (es es' acts : List Event) → es' ≡ acts ++ es → Runs home no_requests es s → Runs home no_requests es' t → Runs home s acts t
-runs_steps home s t es es' acts is h k =
-    let l = runs_between home no_requests t acts es (subst (λ x. Runs home no_requests x t) is k) in
-    subst (λ u. Runs home u acts t) (sym (runs_one home s l.0 es h l.1)) l.2
-
--- the same of one event
-pub runs_step : (home : ℕ) (s t : Owners) (es es' : List Event) (e : Event) → es' ≡ e ∷ es → Runs home no_requests es s → Runs home no_requests es' t → happens home s e t
-runs_step home s t es es' e is h k = let l = runs_steps home s t es es' (e ∷ []) is h k in subst (λ u. happens home u e t) l.1 l.2
 
 -- each event is of one of these seats
 abbrev AllIn : List ℕ → List Event → Type 0
@@ -115,9 +106,9 @@ module _ {T : Type 0} where
       let x_is : es' ≡ x.0 ++ es = x.1 ∙ ap (λ l. x.0 ++ l) a.3 in
       let y_is : es ≡ y.0 ++ es' = y.1 ∙ ap (λ l. y.0 ++ l) b.3 in
       let c = ap length y_is in
-      let d = long_append y.0 es' in
+      let d = length-append y.0 es' in
       let e = ap length x_is in
-      let f = long_append x.0 es in
+      let f = length-append x.0 es in
       all_of x.0 es es' x_is (omega arith)
 
   -- no event: the run stays
@@ -135,9 +126,9 @@ module _ {T : Type 0} where
       (λ e. let o = t.missing id v at in (o.0, o.1 ∙ ap (λ k. o.0 ++ k) (sym run ∙ ap (λ (y : View T). y.trace.run) (same_view (set views id w) id b.0 w b.1 here b.2 (sym e)) ∙ m)))
       (λ ne. let o = t.missing b.0 b.1 (sym (set_else views id b.0 w ne) ∙ b.2) in (o.0, o.1 ∙ ap (λ k. o.0 ++ k) m)) in
       let c = ap length y.1 in
-      let d = long_append y.0 es' in
+      let d = length-append y.0 es' in
       let e = ap length x.1 in
-      let f = long_append x.0 es in
+      let f = length-append x.0 es in
       sym (all_of x.0 es es' x.1 (omega arith))
 
   -- events: the run goes on by them, and by nothing else
@@ -186,30 +177,53 @@ module _ {T : Type 0} where
         owns xs o.1 (λ j u at_u ne. (f j u at_u ne).1),
       )
 
-  -- the same of a step
-  pub step_stays : (views views' : List (View T)) (es es' : List Event) (id : ℕ) (v w : View T) → IsStep id v w views views' → MakesNone v.trace w.trace → IsKnown es views → IsKnown es' views' → es' ≡ es
-  step_stays views views' es es' id v w s stay t t' = run_stays views es es' id v w s.0 stay.0 t (subst (IsKnown es') s.1 t')
+module _ {T M : Type 0} {mark : T → M} {label : T → Name} (s t : Ruled mark label) where
+  -- a run that goes on by these events: they lead from the state that the run reached
+  pub leads_all : (acts : List Event) → GrowsByAll acts s t → LeadsByAll acts s t
+  leads_all acts grown =
+      let l = runs_between 0 no_requests (owners_of t) acts (run_of s) (subst (λ es. Runs 0 no_requests es (owners_of t)) grown t.1.follows.run) in
+      subst (λ u. Runs 0 u acts (owners_of t)) (sym (runs_one 0 (owners_of s) l.0 (run_of s) s.1.follows.run l.1)) l.2
 
-  pub step_grows : (views views' : List (View T)) (es es' : List Event) (id : ℕ) (v w : View T) (acts : ℕ → List Event) → IsStep id v w views views' → IsActive v.role → MakesAll acts v.trace w.trace → AreOfSeat id (acts id) → IsKnown es views → IsKnown es' views' → es' ≡ acts id ++ es
-  step_grows views views' es es' id v w acts s active ran own t t' =
-      let u = subst (IsKnown es') s.1 t' in
+  -- the same of one event
+  pub leads_one : (e : Event) → GrowsBy e s t → LeadsBy e s t
+  leads_one e grown = let l = leads_all (e ∷ []) grown in subst (λ u. happens 0 u e (owners_of t)) l.1 l.2
+
+  -- the views after a step, which are these, have the run between them
+  known_after : {views : List (View T)} → views_of t ≡ views → IsKnown (run_of t) views
+  known_after is = subst (IsKnown (run_of t)) is t.1.follows.known
+
+  -- a step that is no event
+  pub step_stays : (id : ℕ) → IsNoEvent id s t → run_of t ≡ run_of s
+  step_stays id h = run_stays (views_of s) (run_of s) (run_of t) id h.0 h.1 h.2.0 h.3.0 s.1.follows.known (known_after h.2.1)
+
+  -- a step that is these events
+  pub step_grows : (id : ℕ) (acts : ℕ → List Event) → AreEvents id acts s t → GrowsByAll (acts id) s t
+  step_grows id acts h =
+      let v : View T = h.0 in
+      let w : View T = h.1 in
+      let ran = h.4 in
+      let u = known_after h.2.1 in
       let since : ℕ × List Event = ran.0 in
-      let leads = subst (Leads id) ran.2 (u.leads id w (set_here views id w (at_below views id v s.0))) in
+      let leads = subst (Leads id) ran.2 (u.leads id w (set_here (views_of s) id w (at_below (views_of s) id v h.2.0))) in
       let number : since.0 ≡ id = first v.trace.seats since.0 ran.3.0 leads in
       let mine : is_in id w.trace.seats ≡ true = ap (is_in id) ran.2 ∙ ap (λ n. is_in n (with_own since.0 v.trace.seats)) (sym number) ∙ in_own since.0 v.trace.seats ran.3.0 in
-      run_grows views es es' id v w since (acts id) s.0 active (ran.1 ∙ ap (λ n. acts n ++ (since.1 ++ v.trace.run)) number) ran.2 ran.3 (all_own w.trace.seats id (acts id) mine own) t u
+      run_grows (views_of s) (run_of s) (run_of t) id v w since (acts id) h.2.0 h.3 (ran.1 ∙ ap (λ n. acts n ++ (since.1 ++ v.trace.run)) number) ran.2 ran.3 (all_own w.trace.seats id (acts id) mine h.5) s.1.follows.known u
     where
       first : (xs : List ℕ) (n : ℕ) → Leads n xs → Leads id (with_own n xs) → n ≡ id
       first [] n a b = sym b
       first (x ∷ xs) n a b = a ∙ sym b
 
   -- a pass is given
-  pub split_stays : (views views' : List (View T)) (es es' : List Event) (id : ℕ) (v : View T) → get_elem? views id ≡ some v → IsActive v.role → views' ≡ set views id (splitting v) ++ newcomer v ∷ [] → IsKnown es views → IsKnown es' views' → es' ≡ es
-  split_stays views views' es es' id v at active is t t' =
-      one_run (set views id (splitting v) ++ newcomer v ∷ []) es' es (subst (IsKnown es') is t')
-      (known_added es (set views id (splitting v)) (newcomer v) refl refl (known_same es views id v (splitting v) at refl refl (λ e. absurd (not_spent v.role active e)) t))
+  pub split_stays : (id : ℕ) → IsGiven id s t → run_of t ≡ run_of s
+  split_stays id h =
+      let v : View T = h.0 in
+      one_run (set (views_of s) id (splitting v) ++ newcomer v ∷ []) (run_of t) (run_of s) (known_after h.3)
+      (known_added (run_of s) (set (views_of s) id (splitting v)) (newcomer v) refl refl (known_same (run_of s) (views_of s) id v (splitting v) h.1 refl refl (λ e. absurd (not_spent v.role h.2 e)) s.1.follows.known))
 
   -- a pass is taken in
-  pub join_stays : (views views' : List (View T)) (es es' : List Event) (other : ℕ) (v w : View T) → get_elem? views 0 ≡ some v → IsActive v.role → get_elem? views other ≡ some w → (other ≡ 0 → ⊥) → views' ≡ set (set views 0 (taken_in v w)) other spent → IsKnown es views → IsKnown es' views' → es' ≡ es
-  join_stays views views' es es' other v w at active there apart is t t' =
-      one_run (set (set views 0 (taken_in v w)) other spent) es' es (subst (IsKnown es') is t') (known_joined es views t 0 v at active other w (taken_in v w) there apart refl refl refl)
+  pub join_stays : (id : ℕ) → IsJoined id s t → run_of t ≡ run_of s
+  join_stays id h =
+      let v : View T = h.0 in
+      let w : View T = h.1 in
+      one_run (set (set (views_of s) 0 (taken_in v w)) id spent) (run_of t) (run_of s) (known_after h.6)
+      (known_joined (run_of s) (views_of s) s.1.follows.known 0 v h.2 h.3 id w (taken_in v w) h.4 h.5 refl refl refl)

@@ -44,7 +44,7 @@ struct Begun {
 }
 
 impl Around {
-    // The calls around a failure.
+    // Returns the calls around a failure.
     pub(crate) fn of(given: Given<'_>, open: Open<'_>, level: u32) -> Around {
         let factor = factor_of(level);
         let count = FIRST_CHANGES.saturating_mul(factor);
@@ -77,7 +77,7 @@ impl Around {
         self.from == 0 && self.until == u64::MAX
     }
 
-    // An order of these calls; takes the number of calls that it looked at from `left`.
+    // Finds an order of these calls, and lowers `left` by the number of calls that it looked at.
     pub(crate) fn order(
         self,
         alloc: Global,
@@ -97,7 +97,7 @@ impl Around {
         found
     }
 
-    // Looks for an order of these calls: first so that the known sources are kept.
+    // Looks for an order of these calls, at first for one that keeps the known sources.
     fn look(
         self,
         alloc: Global,
@@ -152,7 +152,7 @@ impl Around {
         Ok(())
     }
 
-    // What the key has before these calls.
+    // Returns what the key has before these calls.
     fn begun(self, alloc: Global, given: Given<'_>, open: Open<'_>) -> Result<Begun, NoMemory> {
         let made = open.list.made.as_slice();
         let mut begun = Begun {
@@ -173,7 +173,7 @@ impl Around {
         }
     }
 
-    // The offset of the last set before these calls; 0 if there is none.
+    // Returns the offset of the last set before these calls; 0 if there is none.
     fn last_set(self, given: Given<'_>, made: &[u32]) -> usize {
         let mut from = self.from;
         for _ in 0..made.len() {
@@ -235,7 +235,7 @@ impl Begun {
     }
 }
 
-// How many times as many calls are tried at a level.
+// Returns by which factor a level has more calls tried than the first one.
 fn factor_of(level: u32) -> usize {
     let mut factor: usize = 1;
     for _ in 0..level.min(LAST_LEVEL) {

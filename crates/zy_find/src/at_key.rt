@@ -27,7 +27,7 @@ pub(crate) struct AtKey {
     pub(crate) forget: bool,
     /// The number of losses.
     losses: u32,
-    /// The item that was there at first, if a call told, and its unique.
+    /// The item that was there at first, if a call showed it, and its unique.
     pub(crate) first: Option<FirstItem>,
     pub(crate) unique: Option<u64>,
 }
@@ -71,7 +71,7 @@ fn add_keys(
     Ok(())
 }
 
-// A key before any call.
+// Returns a key before any call.
 fn at_first(alloc: Global, warm: bool, call: u32, shard: u32, forget: bool) -> AtKey {
     AtKey {
         call,
@@ -89,7 +89,7 @@ fn at_first(alloc: Global, warm: bool, call: u32, shard: u32, forget: bool) -> A
 }
 
 impl AtKey {
-    // The hash of a unique of the key, since its last loss.
+    // Returns the hash of a unique of the key, since its last loss.
     pub(crate) fn unique_hash(&self, key: u32, unique: u64) -> u64 {
         mixed(unique_hash(key, unique), self.losses as u64)
     }
@@ -128,7 +128,7 @@ impl AtKey {
         }
     }
 
-    // Notes the unique that the item does not have, if a call tells.
+    // Notes the unique that the item does not have, if a call shows that.
     fn note_other(&mut self, one: &Observed) -> Result<(), NoMemory> {
         if self.others.len() < MOST_OTHERS
             && found_another(one)
@@ -139,7 +139,7 @@ impl AtKey {
         Ok(())
     }
 
-    // Notes the item that was there at first, if a call tells.
+    // Notes the item that was there at first, if a call shows it.
     fn begin_with(&mut self, first: Option<FirstItem>) {
         if first.is_some() {
             drop(std::mem::replace(&mut self.first, first));

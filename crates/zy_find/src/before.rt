@@ -19,7 +19,7 @@ pub(crate) enum Before {
 }
 
 impl Pass {
-    // What must be made before a call.
+    // Finds what must be made before a call.
     pub(crate) fn before(&self, given: Given<'_>, call: u32) -> Result<Before, NoMemory> {
         let earlier = given.before(call);
         if !self.is_made(earlier) {
@@ -61,7 +61,7 @@ impl Pass {
         })
     }
 
-    // A change that waits, and must be made before another one.
+    // Finds a change that waits and must be made before another one.
     fn hidden(&self, given: Given<'_>, call: u32) -> Option<u32> {
         let mut change = at(given.links.makers.overs.over.as_slice(), call);
         for _ in 0..MOST_WAITING {
@@ -76,7 +76,7 @@ impl Pass {
         None
     }
 
-    // A call that must be made before another one.
+    // Returns a call that must be made before another one, as far as it can be made now.
     fn must(&self, given: Given<'_>, call: u32) -> Before {
         if self.waits(call) && self.is_sent(given, call) {
             Before::Call(call)
@@ -85,7 +85,7 @@ impl Pass {
         }
     }
 
-    // What must be made before a call that is about no key.
+    // Finds what must be made before a call that is about no key.
     fn before_keyless(
         &self,
         given: Given<'_>,

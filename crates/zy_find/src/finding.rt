@@ -17,7 +17,7 @@ use zy_verdict::Order;
 // How often all calls are made.
 const ROUNDS: usize = 12;
 
-// How many calls are looked at in a search, for each call that is recorded, and besides.
+// How many calls are looked at in a search: for each call that is recorded, and in addition.
 const MOST_LOOKED: usize = 32;
 
 const SOME_LOOKED: usize = 1 << 22;

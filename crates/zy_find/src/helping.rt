@@ -10,7 +10,7 @@ use zy_sources::changes;
 pub(crate) const MOST_WAITING: usize = 1024;
 
 impl Pass {
-    // A change that waits, can be made now, and after which the answer of a call can be so.
+    // Finds a change that waits, can be made now, and makes the answer of a call possible.
     pub(crate) fn helper(&self, given: Given<'_>, call: u32) -> Result<Option<u32>, NoMemory> {
         let key = given.key_of(call);
         let (Some(own), Some(wanting)) = (self.keys.get(key as usize), given.get(call)) else {
@@ -43,7 +43,7 @@ impl Pass {
         Ok(best)
     }
 
-    // Checks whether a change can be made now, and then the answer of a call can be so.
+    // Checks whether a change can be made now, and makes the answer of a call possible.
     pub(crate) fn helps(
         &self,
         given: Given<'_>,
@@ -68,7 +68,7 @@ impl Pass {
         Ok(fits)
     }
 
-    // A flush that waits, after which the answer of a call can be so.
+    // Finds a flush that waits and makes the answer of a call possible.
     fn helping_flush(
         &self,
         given: Given<'_>,

@@ -44,7 +44,7 @@ impl Learned {
         }
     }
 
-    // The change that comes before a call, or `NONE`.
+    // Returns the change that comes before a call, or `NONE`.
     pub(crate) fn before(&self, call: u32) -> u32 {
         self.of(call).after
     }
@@ -54,7 +54,7 @@ impl Learned {
         self.of(call).until == change
     }
 
-    // How often a call failed.
+    // Returns how often a call failed.
     pub(crate) fn failures(&self, call: u32) -> u32 {
         self.of(call).failed
     }
@@ -69,7 +69,7 @@ impl Learned {
         }
     }
 
-    // A call failed.
+    // Notes that a call failed.
     fn fail(&mut self, call: u32) {
         if let Some(own) = self.lessons.get_mut(call as usize) {
             own.failed = own.failed.saturating_add(1);

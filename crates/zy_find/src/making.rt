@@ -13,7 +13,7 @@ use zy_verdict::{Choice, Placement};
 const FIRST: u32 = NONE - 1;
 
 impl Pass {
-    // What a call would do at its key, if its answer can be so now.
+    // Returns what a call would do at its key, if its answer is possible now.
     pub(crate) fn decide(&self, given: Given<'_>, call: u32, may_lose: bool) -> Option<Decided> {
         let key = given.key_of(call);
         let (Some(one), Some(own)) = (given.get(call), self.keys.get(key as usize)) else {
@@ -129,7 +129,7 @@ impl Pass {
         self.place(given, call, false, Choice::Plain, false)
     }
 
-    // Says the unique of the item that was stored at an offset of the order, or of the first item of a key.
+    // Notes the unique of the item that was stored at an offset of the order, or of the first item of a key.
     fn show(&mut self, key: u32, origin: usize, unique: u64) {
         if origin == AT_FIRST {
             if let Some(own) = self.keys.get_mut(key as usize) {
@@ -147,7 +147,7 @@ impl Pass {
     }
 }
 
-// The number of the item that was stored at an offset of the order.
+// Returns the number of the item that was stored at an offset of the order.
 fn number_of(origin: usize) -> u32 {
     if origin == AT_FIRST {
         FIRST

@@ -16,7 +16,7 @@ pub(crate) struct Given<'a> {
     pub(crate) learned: &'a Learned,
 }
 
-/// A call whose answer could not be so, and how many calls were made before it.
+/// A call whose answer was impossible, and how many calls were made before it.
 #[derive(Clone, Copy)]
 pub(crate) struct Failure {
     pub(crate) key: u32,
@@ -70,7 +70,7 @@ pub(crate) struct Pass {
     pub(crate) unique: u64,
     /// The offsets of the calls whose items' uniques answers showed, by these.
     pub(crate) shown: Table,
-    /// The calls whose answers could not be so, or that could not be made in their turn: the first of them.
+    /// The first calls whose answers were impossible, or that could not be made in their turn.
     pub(crate) failures: Vec<Failure>,
 }
 
@@ -78,7 +78,7 @@ pub(crate) struct Pass {
 const FIRST_UNIQUE: u64 = 1 << 63;
 
 impl<'a> Given<'a> {
-    // The calls, and what is known of them.
+    // Returns the calls, with what is known of them.
     pub(crate) fn calls(self) -> Calls<'a> {
         Calls {
             observed: self.observed,
@@ -86,22 +86,22 @@ impl<'a> Given<'a> {
         }
     }
 
-    // A call.
+    // Returns a call.
     pub(crate) fn get(self, call: u32) -> Option<&'a Observed> {
         self.observed.get(call as usize)
     }
 
-    // The number of a call's key, or `NONE`.
+    // Returns the number of a call's key, or `NONE`.
     pub(crate) fn key_of(self, call: u32) -> u32 {
         at(self.links.keys.of.as_slice(), call)
     }
 
-    // The call before a call in its session, or `NONE`.
+    // Returns the call before a call in its session, or `NONE`.
     pub(crate) fn before(self, call: u32) -> u32 {
         self.calls().before(call)
     }
 
-    // The call that made what a call found, or `NONE`.
+    // Returns the call that made what a call found, or `NONE`.
     pub(crate) fn source_of(self, call: u32) -> u32 {
         self.calls().source_of(call)
     }
@@ -187,7 +187,7 @@ impl Pass {
         self.join(before, after);
     }
 
-    // One call that waits at a key comes right after another one.
+    // Notes that one call that waits at a key comes right after another one.
     fn join(&mut self, before: u32, after: u32) {
         if let Some(own) = self.calls.get_mut(before as usize) {
             own.next = after;
@@ -197,7 +197,7 @@ impl Pass {
         }
     }
 
-    // The call that waits at a key after another one, or `NONE`.
+    // Returns the call that waits at a key after another one, or `NONE`.
     pub(crate) fn after(&self, call: u32) -> u32 {
         match self.calls.get(call as usize) {
             Some(standing) => standing.next,
@@ -235,7 +235,7 @@ impl Pass {
         }
     }
 
-    // Says how far a call is.
+    // Notes how far a call is.
     pub(crate) fn set(&mut self, call: u32, progress: Progress) {
         if let Some(own) = self.calls.get_mut(call as usize) {
             own.progress = progress;

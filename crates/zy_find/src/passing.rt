@@ -35,7 +35,7 @@ impl Pass {
         Ok(())
     }
 
-    // Makes the calls that need not occur at the end, if their answers can be so then.
+    // Makes the calls that need not occur at the end, if their answers are possible then.
     fn run_rest(&mut self, given: Given<'_>) -> Result<(), NoMemory> {
         self.now = u64::MAX;
         for call in &given.links.sorted.by_sent {
@@ -53,7 +53,7 @@ impl Pass {
         Ok(())
     }
 
-    // A call is to be made as soon as what must come before it is made.
+    // Notes that a call is to be made as soon as what must come before it is made.
     fn want(&mut self, call: u32) -> Result<(), NoMemory> {
         self.set(call, Progress::Wanted);
         self.wanted.push(call)?;
@@ -75,7 +75,7 @@ impl Pass {
         }
     }
 
-    // The same, if nothing is known to come before the call.
+    // Does the same if nothing is known to come before the call.
     fn step_at(&mut self, given: Given<'_>, call: u32) -> Result<(), NoMemory> {
         if let Some(decided) = self.decide(given, call, false) {
             let _ = self.wanted.pop();

@@ -7,10 +7,10 @@ use std::alloc::Global;
 use zy_base::NoMemory;
 use zy_sources::{NONE, at, put, small, time_at};
 
-// At how many keys there may be no order before the others are not tried.
+// If no order was found at this number of keys, no further key is tried.
 const MOST_AMISS: usize = 64;
 
-// How often four times as many calls are tried.
+// How many levels there are; each tries four times as many calls as the one before.
 const LEVELS: u32 = 10;
 
 /// A piece of the order of the calls at a key, and the change before it.
@@ -55,7 +55,7 @@ pub(crate) fn settle(
     }
 }
 
-// The same, with the calls of the keys and the ranks of all calls.
+// Does the same with the calls of the keys and the ranks of all calls.
 fn settle_with(
     alloc: Global,
     given: Given<'_>,
@@ -174,7 +174,7 @@ impl Settled {
     }
 }
 
-// A failure, with the calls at its key.
+// Returns a failure, with the calls at its key.
 fn open_at<'a>(
     pass: &Pass,
     lists: &'a KeyLists,
@@ -197,7 +197,7 @@ fn open_at<'a>(
     }
 }
 
-// The moment at which a call was sent.
+// Returns the moment at which a call was sent.
 fn sent_at(given: Given<'_>, call: u32) -> u64 {
     match given.get(call) {
         Some(one) => one.sent,
@@ -205,7 +205,7 @@ fn sent_at(given: Given<'_>, call: u32) -> u64 {
     }
 }
 
-// For each call its offset in the order of a pass.
+// Returns for each call its offset in the order of a pass.
 fn ranks_of(alloc: Global, given: Given<'_>, pass: &Pass) -> Result<Vec<u32>, NoMemory> {
     let mut ranks = Vec::from_elem(alloc, NONE, given.observed.len())?;
     for place in 0..pass.made.len() {

@@ -8,11 +8,11 @@ use zy_refute::Observed;
 use zy_search::{Sight, decide_after, held_after};
 use zy_sources::{NONE, are_of_one_session, changes, time_at};
 
-// How many calls of a session are made early for a later one, at most.
+// How many calls of a session are made early for a later one.
 const MOST_BEFORE: usize = 16;
 
 impl Pass {
-    // A call that waits at a key and must be made before the key gets something else.
+    // Finds a call that waits at a key and must be made before the key gets something else.
     pub(crate) fn reader(
         &self,
         given: Given<'_>,
@@ -44,8 +44,8 @@ impl Pass {
         Ok(None)
     }
 
-    // Checks whether a call can be made after another one that tells what its key has, of which nothing is
-    // known.
+    // Checks whether a call can be made after another one that shows what its key has, if nothing was known
+    // of the key.
     fn leaves(
         &self,
         given: Given<'_>,
@@ -79,8 +79,8 @@ impl Pass {
         }
     }
 
-    // Checks whether all calls before a call in its session are made, or can be so now and leave what their
-    // keys have.
+    // Checks whether all calls before a call in its session are made, or can be made now and leave what
+    // their keys have.
     fn may_come(&self, given: Given<'_>, call: u32) -> bool {
         let mut before = given.before(call);
         for _ in 0..MOST_BEFORE {
@@ -109,7 +109,7 @@ impl Pass {
         !seen && changes(one) && matches!(one.shown, Shown::Nothing | Shown::NoFailure)
     }
 
-    // Checks whether the answer of a call can be so now, and its key keeps what it has.
+    // Checks whether the answer of a call is possible now, and its key keeps what it has.
     pub(crate) fn is_idle(&self, given: Given<'_>, call: u32, one: &Observed) -> bool {
         let key = given.key_of(call);
         match (self.decide(given, call, false), self.keys.get(key as usize)) {
@@ -118,7 +118,8 @@ impl Pass {
         }
     }
 
-    // Checks whether a call that waits is none that comes after another one in its session.
+    // Checks whether a call that waits may be made before another one: it does not come after that one in
+    // its session.
     pub(crate) fn may_precede(&self, given: Given<'_>, other: u32, call: u32) -> bool {
         let before = given.before(other);
         let follows = match (given.get(other), given.get(call)) {
@@ -132,8 +133,8 @@ impl Pass {
             && self.is_sent(given, other)
     }
 
-    // A change that must be made before those that need what a call makes: it must be made before the
-    // last of them is sent.
+    // Finds a change that must be made before the calls that need what a call makes: it must be made
+    // before the last of them is sent.
     pub(crate) fn earlier_change(
         &self,
         given: Given<'_>,
@@ -158,7 +159,7 @@ impl Pass {
         first
     }
 
-    // The same, if the key has this after the call.
+    // Finds the same change, if the key has this after the call.
     fn change_before(
         &self,
         given: Given<'_>,

@@ -4,8 +4,8 @@ ghost use Rattle.zy_home.specs.Home.{HomeStands, IsMade};
 ghost use Rattle.zy_home.specs.Parts.{AreParts};
 ghost use Rattle.zy_setup.specs.Make.{AreOwns, AreMade, IsOwnOf, no_passes};
 
+use crate::making_rings::{give_passes, ring_of};
 use crate::own_connections::OwnConnections;
-use crate::rings::{give_passes, ring_of};
 use mc_store::StoreTable;
 use std::alloc::Global;
 use zy_base::NoMemory;

@@ -4,8 +4,8 @@
 mod connections;
 mod core_parts;
 mod making;
+mod making_rings;
 mod own_connections;
-mod rings;
 mod running;
 
 pub use running::make_run;

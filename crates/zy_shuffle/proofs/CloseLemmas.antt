@@ -13,10 +13,10 @@ use lib.ListN.{get_elem?}
 use lib.Seq.{set-get_or}
 use Rattle.atomic_table.specs.Table.{Act, stepped, carried_after, homes_after, Valid, Allows, Final, Seen}
 use Rattle.atomic_table.proofs.Lists.{at_set}
-use Rattle.zy_shuffle.proofs.HandLemmas.{cores_at, cores_set, give_act, gives_all}
+use Rattle.zy_shuffle.proofs.HandLemmas.{cores_set, give_act, gives_all}
 use Rattle.zy_shuffle.specs.Hand.{emptied, marked}
 use Rattle.zy_shuffle.specs.Holder.{Holder, IsInTable, at_bell, bell, core_count, cores, in_hand, in_queue, nobody, weight}
-use Rattle.zy_shuffle.specs.ShuffleRule.{HasBlock, InQueue, IsRole, Knows, Lies, ShuffleRule}
+use Rattle.zy_shuffle.specs.ShuffleRule.{HasBlock, InQueue, Knows, Lies, ShuffleRule, Standing}
 use Rattle.zy_shuffle.specs.Step.{Seated, closed, closing}
 use Rattle.zy_shuffle.specs.Word.{bell_at, bell_words, cell}
 use Rattle.zy_shuffle.specs.declared.ring.view.Role.TheVariants.{Closed, Home, Spent}
@@ -26,7 +26,8 @@ use Rattle.zy_table.proofs.SumLemmas.{sum_same}
 use Rattle.zy_table.specs.Member.{is_in}
 use Rattle.zy_table.specs.Sum.{sum_below}
 use Rattle.zy_table.specs.declared.name.Name.{Name}
-use Rattle.zy_shuffle.proofs.IdleLemmas.{alone, idle_knows, shut_slot}
+use Rattle.zy_shuffle.proofs.IdleLemmas.{idle_knows, shut_slot}
+use Rattle.zy_shuffle.proofs.RoleLemmas.{alone, role_is, standing_of}
 
 -- the places of this hand no longer have a holder
 pub shut_in : List ℕ → (ℕ → Holder) → ℕ → Holder
@@ -54,7 +55,7 @@ module _ {T M : Type 0} (mark : T → M) (label : T → Name) where
       let y : ℕ = get_or s.words 0 0 in
       let v : View T = me.0 in
       let k = r.each_seat id v at in
-      let home = subst (λ x. IsRole mark label s.words m r.head r.tail r.holders r.marks r.name (cores s.views) id v.hand v.label v.kept x) is_home k.role in
+      let home = role_is r id v at is_home in
       let zero_cores : cores s.views ≡ 0 = home.3 ∙ none_out in
       let same : set s.words 0 y ≡ s.words = set-get_or s.words 0 0 in
       let all = gives_all s.homes v.hand in
@@ -64,12 +65,13 @@ module _ {T M : Type 0} (mark : T → M) (label : T → Name) where
       let holders' : ℕ → Holder = shut_in v.hand r.holders in
       let count : cores (set s.views id v') ≡ 0 = (let a = cores_set s.views id v v' at in let b = ap core_count is_home in omega arith) in
       let others_idle : (j : ℕ) (u : View T) → j ≢ id → get_elem? s.views j ≡ some u → (u.role ≡ Spent) × (u.hand ≡ []) = λ j u ne e.
-      alone mark label s.words m r.head r.tail r.holders r.marks r.name (cores s.views) j u u.role (cores_at s.views j u e) zero_cores (λ f. ne (f ∙ sym home.0)) (r.each_seat j u e).role in
+      alone r j u e zero_cores (λ f. ne (f ∙ sym home.0)) in
       let not_away : (q : ℕ) → q < m → is_in q v.hand ≡ false → (j : ℕ) → r.holders q ≡ in_hand j → ⊥ = λ q lt out j e.
       let l = r.live q j lt e in dite (ℕ_discrete j id)
       (λ f. let same : v ≡ l.0 = some-injective _ _ (sym at ∙ ap (get_elem? s.views) (sym f) ∙ l.1) in true≢false (sym l.2 ∙ ap (λ (x : View T). is_in q x.hand) (sym same) ∙ out))
       (λ ne. true≢false (sym l.2 ∙ ap (is_in q) (others_idle j l.0 ne l.1).1)) in
-      let mine : Knows mark label s.words m r.head r.tail holders' r.marks r.name 0 id v' = record {
+      let after : Standing M = record (standing_of r) { holders = holders'; count = 0 } in
+      let mine : Knows mark label after id v' = record {
         hand = λ q e. absurd (true≢false (sym e));
         apart = tt;
         same = λ q e. absurd (true≢false (sym e));
@@ -111,11 +113,11 @@ module _ {T M : Type 0} (mark : T → M) (label : T → Name) where
         blank = λ q le. ap (λ x. bell_at s.words x q) long ∙ r.blank q (omega arith);
         each_cell = subst (λ x. (c : ℕ) → r.head ≤ c → c < r.tail → (cell s.words x c < x) × (holders' (cell s.words x c) ≡ in_queue c)) (sym long)
             (λ c a b. let l = r.each_cell c a b in (l.0, at_shut v.hand r.holders (λ x. x ≡ in_queue c) (cell s.words m c) (λ e. let f = (k.hand (cell s.words m c) e).1 in let g : in_queue c ≡ in_hand id = sym l.1 ∙ f in cc) (λ _. l.1)));
-        each_seat = subst (λ (x : ℕ × ℕ). (j : ℕ) (u : View T) → get_elem? (set s.views id v') j ≡ some u → Knows mark label s.words x.0 r.head r.tail holders' r.marks r.name x.1 j u) (λ i. (sym long i, sym count i))
+        each_seat = subst (λ (x : ℕ × ℕ). (j : ℕ) (u : View T) → get_elem? (set s.views id v') j ≡ some u → Knows mark label (record after { places = x.0; count = x.1 }) j u) (λ i. (sym long i, sym count i))
             (λ j u e. ⊎_elim
-            (λ (x : (j ≡ id) × (v' ≡ u)). subst (λ (x : ℕ × View T). Knows mark label s.words m r.head r.tail holders' r.marks r.name 0 x.0 x.1) (λ i. (sym x.0 i, x.1 i)) mine)
+            (λ (x : (j ≡ id) × (v' ≡ u)). subst (λ (x : ℕ × View T). Knows mark label after x.0 x.1) (λ i. (sym x.0 i, x.1 i)) mine)
             (λ (x : (j ≢ id) × (get_elem? s.views j ≡ some u)). let old = r.each_seat j u x.1 in
-            idle_knows mark label s.words m r.head r.tail r.head r.tail r.holders holders' r.marks r.marks r.name r.name (cores s.views) 0 j u (omega arith) (omega arith) old.note (others_idle j u x.0 x.1) old)
+            idle_knows mark label (standing_of r) after j u (omega arith) (omega arith) old.note (others_idle j u x.0 x.1) old)
             (at_set s.views id j v' u e));
         live = λ q j lt. at_shut v.hand r.holders (λ x. x ≡ in_hand j → (u : View T) × (get_elem? (set s.views id v') j ≡ some u) × (is_in q u.hand ≡ true)) q (λ _ e. cc) (λ e f. absurd (not_away q (omega arith) e j f));
       } in
@@ -143,8 +145,7 @@ module _ {T M : Type 0} (mark : T → M) (label : T → Name) where
   closes ws xs id v gone is_closed (s, at_end, words, long, final) =
       let r : ShuffleRule mark label s = at_end.0 in
       let m : ℕ = length s.homes in
-      let k = r.each_seat id v at_end.1 in
-      let end = subst (λ x. IsRole mark label s.words m r.head r.tail r.holders r.marks r.name (cores s.views) id v.hand v.label v.kept x) is_closed k.role in record {
+      let end = role_is r id v at_end.1 is_closed in record {
         taken = λ q lt e. let near : q < m = omega arith in final q std.None (shut_slot mark label s.homes r.marks r.name q (r.holders q) (end.5 q near e) (r.each_place q near).lies);
         full = λ q lt e. let near : q < m = omega arith in
             let has = full_lies s.homes r.marks r.name q (r.holders q) (end.6 q near e) (r.each_place q near).lies in

@@ -1,6 +1,7 @@
 -- The steps on a doorbell word: a core gives a place back, and the home collects it.
 use Rattle.zy_shuffle.proofs.FollowLemmas.{follows_give, follows_collect}
 use Rattle.zy_shuffle.proofs.KnownLemmas.{between, since_is, may_follow, known_more}
+use Rattle.zy_shuffle.proofs.RoleLemmas.{role_is, standing_of}
 use Rattle.zy_shuffle.specs.declared.ring.view.Event.{Event}
 use Rattle.zy_shuffle.specs.declared.ring.view.Event.TheVariants.{GiveBack, Collect}
 use Rattle.std.proofs.Common.{◌≡◌, ◌≢◌, ℕ, ◌+◌, ◌*◌, ◌/◌, ◌%◌, ◌^◌, ◌<◌, ◌≤◌, List, [], ◌∷◌, length, get_or, set, true, false, true≢false, refl, sym, ap, ◌∙◌, subst, ⊎_elim, arith, length-set, get_or-set_other, get_or-set_same, bit_or, bit_and, w64}
@@ -15,7 +16,7 @@ use Rattle.atomic_table.proofs.Lists.{set_here, set_else}
 use Rattle.zy_shuffle.proofs.HandLemmas.{marked_else}
 use Rattle.zy_shuffle.proofs.MoveLemmas.{moved, note_else}
 use Rattle.zy_shuffle.specs.Hand.{first_of, marked, rest_of}
-use Rattle.zy_shuffle.specs.Holder.{Holder, at_bell, core_count, cores, in_hand, in_queue, nobody, weight}
+use Rattle.zy_shuffle.specs.Holder.{Holder, at_bell, core_count, in_hand, in_queue, nobody, weight}
 use Rattle.zy_shuffle.specs.ShuffleRule.{IsRole, IsStored, Lies, ShuffleRule}
 use Rattle.zy_shuffle.specs.HomeRole.{IsActive, rung_place, with_bells}
 use Rattle.zy_shuffle.specs.Step.{Seated, collected, collecting, gave, giving}
@@ -62,7 +63,7 @@ module _ {T M : Type 0} (mark : T → M) (label : T → Name) where
       (λ ne'. ap (λ x. bit_at x (q % 64)) (get_or-set_other s.words i (32 + m + q / 64) new 0 (λ e. omega arith))) in
       let ring : bell_at ws' m p ≡ 1 = ap (λ x. bit_at (get_or ws' x 0) (p % 64)) (sym at_word) ∙ ap (λ x. bit_at x (p % 64)) (here ∙ new_is) ∙ bit_at_set_same w64 y (p % 64) (omega arith) in
       let in_rest : (q : ℕ) → is_in q ks ≡ true → (q ≢ p) × (is_in q v.hand ≡ true) = λ q e. ((λ f. true≢false (sym e ∙ ap (λ y. is_in y ks) f ∙ apart.0)), ap (is_in q) front ∙ in_more p q ks e) in
-      let core = subst (λ x. IsRole mark label s.words m r.head r.tail r.holders r.marks r.name (cores s.views) id v.hand v.label v.kept x) role k.role in
+      let core = role_is r id v at role in
       let tag_is : v.label ≡ r.name = core.0 in
       let holders' : ℕ → Holder = put r.holders p at_bell in
       let marks' : ℕ → std.Option M = put r.marks p (r.marks p) in
@@ -104,7 +105,7 @@ module _ {T M : Type 0} (mark : T → M) (label : T → Name) where
             head_seen = k.head_seen;
             tail_seen = k.tail_seen;
             note = note_else mark label s.words ws' r.head r.head r.tail r.tail m v.note (omega arith) (omega arith) (λ q _ _. cells q) k.note;
-            role = subst (λ x. IsRole mark label ws' m r.head r.tail holders' marks' r.name (cores s.views) id ks v.label kept' x) (sym role) core;
+            role = subst (IsRole mark label (record (standing_of r) { words = ws'; holders = holders'; marks = marks' }) id v') (sym role) core;
           };
           follows = follows_give m r.marks s.views (set s.views id v') s.words ws' r.head r.tail id p r.holders ordered near mine.1 core.1 (λ k _ _. cells k) f
               (known_more f.events s.views f.known id v at active v' (GiveBack id p ∷ []) (λ i. GiveBack id (ap first_of front i) ∷ back i) refl (refl, tt));
@@ -126,7 +127,7 @@ module _ {T M : Type 0} (mark : T → M) (label : T → Name) where
       let p : ℕ = rung_place v.role in
       let p_is : p ≡ 64 * w + low = ap rung_place role in
       let small : low < 64 = bits.0 in
-      let home = subst (λ x. IsRole mark label s.words m r.head r.tail r.holders r.marks r.name (cores s.views) id v.hand v.label v.kept x) role k.role in
+      let home = role_is r id v at role in
       let rung = subst (λ q. (q < m) × (r.holders q ≡ at_bell)) (sym p_is) (home.5 low small bits.1) in
       let near = rung.0 in
       let is_rung = rung.1 in
@@ -195,7 +196,7 @@ module _ {T M : Type 0} (mark : T → M) (label : T → Name) where
             head_seen = k.head_seen;
             tail_seen = k.tail_seen;
             note = note_else mark label s.words ws' r.head r.head r.tail r.tail m v.note (omega arith) (omega arith) (λ q _ _. cells q) k.note;
-            role = subst (λ x. IsRole mark label ws' m r.head r.tail holders' marks' r.name (cores s.views) id v'.hand v.label kept' x) (sym role')
+            role = subst (IsRole mark label (record (standing_of r) { words = ws'; holders = holders'; marks = marks' }) id v') (sym role')
                 (home.0, home.1, home.2, home.3, stored ws' (cells r.tail) st home.4, tt, marks_now, λ q lt. at_put r.holders p (in_hand id) (λ a b. b ≡ nobody → ⊥) q (λ e. cc) (λ _. home.7 q lt));
           };
           follows = follows_collect m r.marks s.views (set s.views id v') s.words ws' r.head r.tail id p r.holders ordered near is_rung home.0 (λ k _ _. cells k) f

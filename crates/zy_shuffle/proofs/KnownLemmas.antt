@@ -4,7 +4,7 @@ use mathlib.Core.Option.{some, some-injective, some-ne-none}
 use mathlib.Core.Logic.{dite}
 use native.Mathlib.Decide.{ℕ_discrete}
 use lib.ListN.{get_elem?}
-use Rattle.std.proofs.lemmas.List.{append-nil, append_assoc}
+use Rattle.std.proofs.lemmas.List.{append-nil, append_assoc, length-append}
 use Rattle.atomic_table.proofs.Lists.{at_set, set_here, set_else, at_longer}
 use Rattle.zy_table.specs.Member.{is_in}
 use Rattle.zy_table.proofs.MemberLemmas.{in_front, in_more, in_or, not_in}
@@ -61,10 +61,6 @@ apart_both xs ys (e ∷ es) a b = (
 
 -- ---- the longer of two runs
 
-pub long_append : (xs ys : List Event) → length (xs ++ ys) ≡ length xs + length ys
-long_append [] ys = omega arith
-long_append (x ∷ xs) ys = let a = long_append xs ys in omega arith
-
 within_long : (xs ys : List Event) → is_no_longer xs ys ≡ true → length xs ≤ length ys
 within_long [] ys h = omega arith
 within_long (x ∷ xs) [] h = absurd (true≢false (sym h))
@@ -86,7 +82,7 @@ front_of (x ∷ xs) (y ∷ ys) us vs e le =
 
 pub all_of : (later run events : List Event) → events ≡ later ++ run → length events ≤ length run → run ≡ events
 all_of [] run events e le = sym e
-all_of (x ∷ xs) run events e le = let a = ap length e in let b = long_append xs run in absurd (omega arith)
+all_of (x ∷ xs) run events e le = let a = ap length e in let b = length-append xs run in absurd (omega arith)
 
 longer_most : (xs ys : List Event) → (length xs ≤ length (longer xs ys)) × (length ys ≤ length (longer xs ys))
 longer_most xs ys = go (is_no_longer xs ys) refl
@@ -100,7 +96,7 @@ longer_missing : (seats seats' : List ℕ) (events la ra lb rb : List Event) →
 longer_missing seats seats' events la ra lb rb a b x y = go (is_no_longer ra rb) refl
   where
     sizes : length la + length ra ≡ length lb + length rb
-    sizes = sym (long_append la ra) ∙ ap length (sym a ∙ b) ∙ long_append lb rb
+    sizes = sym (length-append la ra) ∙ ap length (sym a ∙ b) ∙ length-append lb rb
 
     go : (c : Bool) → is_no_longer ra rb ≡ c → (later : List Event) × (events ≡ later ++ cond c rb ra) × Apart seats later × Apart seats' later
     go true e =

@@ -2,6 +2,7 @@ pub mod OwnerLemmas
 pub mod KnownLemmas
 pub mod FollowLemmas
 pub mod HandLemmas
+pub mod RoleLemmas
 pub mod MoveLemmas
 pub mod LookLemmas
 pub mod TakeLemmas

@@ -11,15 +11,15 @@ use Rattle.atomic_table.specs.Table.{Act, step, stepped, keeps, carried_after, V
 use Rattle.atomic_table.proofs.Lists.{one_turn}
 use Rattle.zy_shuffle.proofs.HandLemmas.{fetch_act, fetches}
 use Rattle.zy_shuffle.proofs.MoveLemmas.{looked_on}
+use Rattle.zy_shuffle.proofs.RoleLemmas.{IsRoleOf, reheld, role_is, standing_of}
 use Rattle.zy_shuffle.specs.Hand.{emptied}
-use Rattle.zy_shuffle.specs.Holder.{Holder, at_bell, bell, core_count, cores, in_hand, in_queue, nobody, weight}
-use Rattle.zy_shuffle.specs.ShuffleRule.{RingState, IsNote, IsRole, IsRung, Knows, Lies, ShuffleRule}
+use Rattle.zy_shuffle.specs.Holder.{Holder, at_bell, bell, core_count, in_hand, in_queue, nobody, weight}
+use Rattle.zy_shuffle.specs.ShuffleRule.{RingState, IsNote, IsRole, IsRung, Knows, Lies, ShuffleRule, Standing}
 use Rattle.zy_shuffle.specs.HomeRole.{IsActive, with_bells, with_stored}
 use Rattle.zy_shuffle.specs.Step.{Seated, fronted, fronting, noting, noting_bells, saw_bells, saw_cell, saw_head, saw_tail, stored_cell, storing}
 use Rattle.zy_shuffle.specs.View.{head_step, plain_step, tail_step, traced, try_step}
 use Rattle.zy_shuffle.specs.Word.{bell_at, cell}
-use Rattle.zy_shuffle.specs.declared.ring.view.Role.{Role}
-use Rattle.zy_shuffle.specs.declared.ring.view.Role.TheVariants.{Closed, Core, Home, Spent, Start}
+use Rattle.zy_shuffle.specs.declared.ring.view.Role.TheVariants.{Core, Home}
 use Rattle.zy_shuffle.specs.declared.ring.view.Trace.{Trace}
 use Rattle.zy_shuffle.specs.declared.ring.view.View.{View}
 use Rattle.zy_table.proofs.MemberLemmas.{front_distinct, front_in}
@@ -32,13 +32,13 @@ module _ {T M : Type 0} (mark : T → M) (label : T → Name) where
   Goes s i id me told w = (v : View T) × (a : Act (std.Option T)) × Valid s.homes me.1 a × ShuffleRule mark label (stepped s i w id me.1 v a) × told (v, carried_after me.1 a)
 
   -- a view with another trace and another note
-  knows_looked : (ws : List ℕ) (m head tail : ℕ) (holders : ℕ → Holder) (marks : ℕ → std.Option M) (z : Name) (count j : ℕ) (v : View T) (t : Trace) (n : std.Option (ℕ × ℕ)) → t.head.value ≤ head → t.tail.value ≤ tail → IsNote ws head tail m n
-      → Knows mark label ws m head tail holders marks z count j v → Knows mark label ws m head tail holders marks z count j record v { trace = t; note = n }
-  knows_looked ws m head tail holders marks z count j v t n a b c k = record { hand = k.hand; apart = k.apart; same = k.same; head_seen = a; tail_seen = b; note = c; role = k.role }
+  knows_looked : (now : Standing M) (j : ℕ) (v : View T) (t : Trace) (n : std.Option (ℕ × ℕ)) → t.head.value ≤ now.head → t.tail.value ≤ now.tail → IsNote now.words now.head now.tail now.places n
+      → Knows mark label now j v → Knows mark label now j record v { trace = t; note = n }
+  knows_looked now j v t n a b c k = record { hand = k.hand; apart = k.apart; same = k.same; head_seen = a; tail_seen = b; note = c; role = k.role }
 
   -- the table as it was, with another view of the same kind
   pub seen : (s : RingState T) (r : ShuffleRule mark label s) (id i : ℕ) (v v' : View T) → get_elem? s.views id ≡ some v → core_count v'.role ≡ core_count v.role → IsActive v.role
-      → Knows mark label s.words (length s.homes) r.head r.tail r.holders r.marks r.name (cores s.views) id v' → ((q : ℕ) → is_in q v.hand ≡ true → is_in q v'.hand ≡ true) → v'.trace.run ≡ v.trace.run → v'.trace.seats ≡ v.trace.seats
+      → Knows mark label (standing_of r) id v' → ((q : ℕ) → is_in q v.hand ≡ true → is_in q v'.hand ≡ true) → v'.trace.run ≡ v.trace.run → v'.trace.seats ≡ v.trace.seats
       → ShuffleRule mark label record { words = set s.words i (get_or s.words i 0); homes = s.homes; views = set s.views id v' }
   seen s r id i v v' at kind active knows live run seats =
       let same : set s.words i (get_or s.words i 0) ≡ s.words = set-get_or s.words i 0 in
@@ -51,7 +51,7 @@ module _ {T M : Type 0} (mark : T → M) (label : T → Name) where
         cells = λ k a b. ap (λ ws. cell ws (length s.homes) k) same;
         rings = λ q. ap (λ ws. bell_at ws (length s.homes) q) same;
         quiet = λ _. ap (λ ws. cell ws (length s.homes) r.tail) same;
-        knows = subst (λ ws. Knows mark label ws (length s.homes) r.head r.tail r.holders r.marks r.name (cores s.views) id v') (sym same) knows;
+        knows = subst (λ ws. Knows mark label (record (standing_of r) { words = ws }) id v') (sym same) knows;
         live = live;
         run = run;
         seats = seats;
@@ -63,7 +63,7 @@ module _ {T M : Type 0} (mark : T → M) (label : T → Name) where
       let k = r.each_seat id me.0 at in
       let is = r.head_is in
       let v' : View T = traced (head_step y) me.0 in
-      (v', keeps, tt, seen s r id 0 me.0 v' at refl active (knows_looked s.words (length s.homes) r.head r.tail r.holders r.marks r.name (cores s.views) id me.0 (head_step y me.0.trace) me.0.note (omega arith) k.tail_seen k.note k) (λ q e. e) refl refl, refl)
+      (v', keeps, tt, seen s r id 0 me.0 v' at refl active (knows_looked (standing_of r) id me.0 (head_step y me.0.trace) me.0.note (omega arith) k.tail_seen k.note k) (λ q e. e) refl refl, refl)
 
   pub loads_tail : (n id : ℕ) (me : Seated T) → IsActive me.0.role → Allows (ShuffleRule mark label) n id me 16 (λ y. y) (saw_tail (step n 16 0 0 none) me)
   loads_tail n id me active s r wide at _ =
@@ -76,7 +76,7 @@ module _ {T M : Type 0} (mark : T → M) (label : T → Name) where
         v',
         keeps,
         tt,
-        seen s r id 16 me.0 v' at refl active (knows_looked s.words (length s.homes) r.head r.tail r.holders r.marks r.name (cores s.views) id me.0 (tail_step y r.head me.0.trace) me.0.note k.head_seen (omega arith) k.note k) (λ q e. e) refl refl,
+        seen s r id 16 me.0 v' at refl active (knows_looked (standing_of r) id me.0 (tail_step y r.head me.0.trace) me.0.note k.head_seen (omega arith) k.note k) (λ q e. e) refl refl,
         (r.head, refl, omega arith, omega arith, λ e. is ∙ r.barren (wide ∙ e)),
       )
 
@@ -88,7 +88,7 @@ module _ {T M : Type 0} (mark : T → M) (label : T → Name) where
       let v' : View T = noting h y me.0 in
       let ts = k.tail_seen in
       let at_cell : cell s.words (length s.homes) h ≡ y = ap (λ (m : ℕ). get_or s.words (32 + h % m) 0) wide ∙ ap (λ (m : ℕ). get_or s.words m 0) (sym is) in
-      (v', keeps, tt, seen s r id i me.0 v' at refl active (knows_looked s.words (length s.homes) r.head r.tail r.holders r.marks r.name (cores s.views) id me.0 (plain_step me.0.trace) (std.Some (h, y)) k.head_seen k.tail_seen (omega arith, λ _. at_cell) k) (λ q e. e) refl refl, refl)
+      (v', keeps, tt, seen s r id i me.0 v' at refl active (knows_looked (standing_of r) id me.0 (plain_step me.0.trace) (std.Some (h, y)) k.head_seen k.tail_seen (omega arith, λ _. at_cell) k) (λ q e. e) refl refl, refl)
 
   -- an exchange of the head that fails
   pub misses : (s : RingState T) (r : ShuffleRule mark label s) (id : ℕ) (me : Seated T) (told : Seated T → Type 0) → get_elem? s.views id ≡ some me.0 → IsActive me.0.role → told (traced (try_step (get_or s.words 0 0)) me.0, me.1) → Goes s 0 id me told (get_or s.words 0 0)
@@ -96,22 +96,13 @@ module _ {T M : Type 0} (mark : T → M) (label : T → Name) where
       let y : ℕ = get_or s.words 0 0 in
       let k = r.each_seat id me.0 at in
       let v' : View T = traced (try_step y) me.0 in
-      (v', keeps, tt, seen s r id 0 me.0 v' at refl active (knows_looked s.words (length s.homes) r.head r.tail r.holders r.marks r.name (cores s.views) id me.0 (try_step y me.0.trace) me.0.note k.head_seen k.tail_seen k.note k) (λ q e. e) refl refl, t)
+      (v', keeps, tt, seen s r id 0 me.0 v' at refl active (knows_looked (standing_of r) id me.0 (try_step y me.0.trace) me.0.note k.head_seen k.tail_seen k.note k) (λ q e. e) refl refl, t)
 
   -- the slots that a seat has taken out
   pub out_with : (s : RingState T) (r : ShuffleRule mark label s) (id : ℕ) (v : View T) → get_elem? s.views id ≡ some v → (q : ℕ) → is_in q v.hand ≡ true → get_elem? s.homes q ≡ some none
   out_with s r id v at q e =
       let h = (r.each_seat id v at).hand q e in
       subst (λ (x : Holder). Lies mark label s.homes r.marks r.name q x) h.1 (r.each_place q h.0).lies
-
-  -- the role of an active seat does not depend on a hand
-  pub reheld : (ws : List ℕ) (m head tail : ℕ) (holders : ℕ → Holder) (marks : ℕ → std.Option M) (z : Name) (count j : ℕ) (hand hand' : List ℕ) (tag : Name) (kept : List (ℕ × T)) (x : Role) → IsActive x
-      → IsRole mark label ws m head tail holders marks z count j hand tag kept x → IsRole mark label ws m head tail holders marks z count j hand' tag kept x
-  reheld ws m head tail holders marks z count j hand hand' tag kept Spent a h = absurd a
-  reheld ws m head tail holders marks z count j hand hand' tag kept Start a h = absurd a
-  reheld ws m head tail holders marks z count j hand hand' tag kept Core a h = h
-  reheld ws m head tail holders marks z count j hand hand' tag kept (Home t st nt out) a h = h
-  reheld ws m head tail holders marks z count j hand hand' tag kept (Closed gone) a h = absurd a
 
   pub fronts : (n id p : ℕ) (me : Seated T) → me.1 ≡ emptied me.0.hand → IsActive me.0.role → is_in p me.0.hand ≡ true → Allows (ShuffleRule mark label) n id me 0 (λ y. y) (λ y m. fronted p me y m)
   fronts n id p me out active has s r wide at _ =
@@ -121,14 +112,14 @@ module _ {T M : Type 0} (mark : T → M) (label : T → Name) where
       let hand : List ℕ = me.0.hand in
       let v' : View T = fronting p y me.0 in
       let f = fetches s.homes p hand has k.apart (out_with s r id me.0 at) in
-      let knows : Knows mark label s.words (length s.homes) r.head r.tail r.holders r.marks r.name (cores s.views) id v' = record {
+      let knows : Knows mark label (standing_of r) id v' = record {
         hand = λ q e. k.hand q (sym (front_in p q hand has) ∙ e);
         apart = front_distinct p hand k.apart;
         same = λ q e. k.same q (sym (front_in p q hand has) ∙ e);
         head_seen = omega arith;
         tail_seen = k.tail_seen;
         note = k.note;
-        role = reheld s.words (length s.homes) r.head r.tail r.holders r.marks r.name (cores s.views) id hand v'.hand me.0.label me.0.kept me.0.role active k.role;
+        role = reheld r id me.0 at active v'.hand;
       } in
       subst (λ (cs : List (ℕ × std.Option T)). (w : View T) × (a : Act (std.Option T)) × Valid s.homes cs a × ShuffleRule mark label (stepped s 0 y id cs w a) × fronted p me y (w, carried_after cs a)) (sym out) (
         v',
@@ -165,7 +156,7 @@ module _ {T M : Type 0} (mark : T → M) (label : T → Name) where
       let near = mine.0 in
       let v' : View T = storing p me.0 in
       let f = fetches s.homes p hand has k.apart (out_with s r id me.0 at) in
-      let home = subst (λ x. IsRole mark label s.words m r.head r.tail r.holders r.marks r.name (cores s.views) id me.0.hand me.0.label me.0.kept x) role k.role in
+      let home = role_is r id me.0 at role in
       let t_is : t ≡ r.tail = home.2 in
       let i_is : i ≡ 32 + r.tail % m = is ∙ ap (λ (x : ℕ × ℕ). 32 + x.0 % x.1) (λ j. (t_is j, sym wide j)) in
       let wide_is = r.wide in
@@ -177,14 +168,15 @@ module _ {T M : Type 0} (mark : T → M) (label : T → Name) where
       let rings : (q : ℕ) → bell_at ws' m q ≡ bell_at s.words m q = λ q. ap (λ x. bit_at x (q % 64)) (get_or-set_other s.words i (32 + m + q / 64) p 0 (λ e. omega arith)) in
       let stored : cell ws' m r.tail ≡ p = ap (λ x. get_or ws' x 0) (sym i_is) ∙ get_or-set_same s.words i p 0 long in
       let role' : with_stored p me.0.role ≡ Home t (std.Some p) nt out = ap (with_stored p) role in
-      let knows : Knows mark label ws' m r.head r.tail r.holders r.marks r.name (cores s.views) id v' = record {
+      let after : Standing M = record (standing_of r) { words = ws' } in
+      let knows : Knows mark label after id v' = record {
         hand = λ q e. k.hand q (sym (front_in p q hand has) ∙ e);
         apart = front_distinct p hand k.apart;
         same = λ q e. k.same q (sym (front_in p q hand has) ∙ e);
         head_seen = k.head_seen;
         tail_seen = k.tail_seen;
         note = noted ws' cells me.0.note k.note;
-        role = subst (λ x. IsRole mark label ws' m r.head r.tail r.holders r.marks r.name (cores s.views) id v'.hand me.0.label me.0.kept x) (sym role') (home.0, home.1, home.2, home.3, stored, home.5, home.6, home.7);
+        role = subst (IsRole mark label after id v') (sym role') (home.0, home.1, home.2, home.3, stored, home.5, home.6, home.7);
       } in
       let done = looked_on mark label s r id me.0 v' i p record {
         at = at;
@@ -229,7 +221,7 @@ module _ {T M : Type 0} (mark : T → M) (label : T → Name) where
       let c : ℕ = i - (32 + n) in
       let w_is : c ≡ w = omega arith in
       let v' : View T = noting_bells c y me.0 in
-      let home = subst (λ x. IsRole mark label s.words m r.head r.tail r.holders r.marks r.name (cores s.views) id me.0.hand me.0.label me.0.kept x) role k.role in
+      let home = role_is r id me.0 at role in
       let role' : with_bells (std.Some (c, y)) me.0.role ≡ Home t st (std.Some (c, y)) out = ap (with_bells (std.Some (c, y))) role in
       let rung : IsRung m r.holders (std.Some (c, y)) = λ b lt one.
       let q : ℕ = 64 * c + b in
@@ -249,7 +241,7 @@ module _ {T M : Type 0} (mark : T → M) (label : T → Name) where
               head_seen = k.head_seen;
               tail_seen = k.tail_seen;
               note = k.note;
-              role = subst (λ x. IsRole mark label s.words m r.head r.tail r.holders r.marks r.name (cores s.views) id me.0.hand me.0.label me.0.kept x) (sym role') (home.0, home.1, home.2, home.3, home.4, rung, home.6, home.7);
+              role = subst (IsRoleOf r id v') (sym role') (home.0, home.1, home.2, home.3, home.4, rung, home.6, home.7);
             }
             (λ q e. e)
             refl

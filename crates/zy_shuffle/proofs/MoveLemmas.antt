@@ -9,9 +9,10 @@ use Rattle.atomic_table.proofs.Lists.{at_set, set_here, set_else}
 use Rattle.zy_shuffle.specs.Follow.{Follows}
 use Rattle.zy_shuffle.proofs.FollowLemmas.{follows_else}
 use Rattle.zy_shuffle.proofs.KnownLemmas.{not_spent, known_same}
-use Rattle.zy_shuffle.proofs.HandLemmas.{cores_at, cores_set}
+use Rattle.zy_shuffle.proofs.HandLemmas.{cores_set}
+use Rattle.zy_shuffle.proofs.RoleLemmas.{IsRoleOf, lone, other_core, standing_of}
 use Rattle.zy_shuffle.specs.Holder.{Holder, at_bell, bell, core_count, cores, in_hand, in_queue, nobody, weight}
-use Rattle.zy_shuffle.specs.ShuffleRule.{RingState, InQueue, IsNote, IsRole, IsRung, IsStored, Knows, Lies, PlaceRule, ShuffleRule}
+use Rattle.zy_shuffle.specs.ShuffleRule.{RingState, InQueue, IsNote, IsRole, IsRung, IsStored, Knows, Lies, PlaceRule, ShuffleRule, Standing}
 use Rattle.zy_shuffle.specs.HomeRole.{IsActive}
 use Rattle.zy_shuffle.specs.Word.{bell_at, bell_words, cell}
 use Rattle.zy_shuffle.specs.declared.ring.view.Role.{Role}
@@ -26,23 +27,6 @@ use Rattle.zy_table.specs.Sum.{sum_below}
 use Rattle.zy_table.specs.declared.name.Name.{Name}
 
 module _ {T M : Type 0} (mark : T → M) (label : T → Name) where
-  -- while another seat is active, no seat is at its start or its end
-  lone : (ws : List ℕ) (m head tail : ℕ) (holders : ℕ → Holder) (marks : ℕ → std.Option M) (z : Name) (count id j : ℕ) (v : View T) (x : Role) → IsActive x → IsRole mark label ws m head tail holders marks z count id v.hand v.label v.kept x → core_count x ≤ count
-      → j ≢ id → j ≡ 0 → count ≡ 0 → ⊥
-  lone ws m head tail holders marks z count id j v Spent a h c ne e f = a
-  lone ws m head tail holders marks z count id j v Start a h c ne e f = a
-  lone ws m head tail holders marks z count id j v Core a h c ne e f = omega arith
-  lone ws m head tail holders marks z count id j v (Home t st nt out) a h c ne e f = ne (e ∙ sym h.0)
-  lone ws m head tail holders marks z count id j v (Closed gone) a h c ne e f = a
-
-  -- each active seat other than the home's is a core's
-  other_core : (ws : List ℕ) (m head tail : ℕ) (holders : ℕ → Holder) (marks : ℕ → std.Option M) (z : Name) (count id j : ℕ) (v : View T) (x : Role) → IsActive x → IsRole mark label ws m head tail holders marks z count id v.hand v.label v.kept x → j ≢ id → j ≡ 0 → x ≡ Core
-  other_core ws m head tail holders marks z count id j v Spent a h ne e = absurd a
-  other_core ws m head tail holders marks z count id j v Start a h ne e = absurd a
-  other_core ws m head tail holders marks z count id j v Core a h ne e = refl
-  other_core ws m head tail holders marks z count id j v (Home t st nt out) a h ne e = absurd (ne (e ∙ sym h.0))
-  other_core ws m head tail holders marks z count id j v (Closed gone) a h ne e = absurd a
-
   lies_else : (hs hs' : List (Option (std.Option T))) (marks marks' : ℕ → std.Option M) (z : Name) (q : ℕ) (x : Holder) → get_elem? hs' q ≡ get_elem? hs q → marks' q ≡ marks q → Lies mark label hs marks z q x → Lies mark label hs' marks' z q x
   lies_else hs hs' marks marks' z q nobody e f h = e ∙ h
   lies_else hs hs' marks marks' z q (in_queue k) e f h = (h.0, e ∙ h.1, f ∙ h.2, h.3)
@@ -76,6 +60,10 @@ module _ {T M : Type 0} (mark : T → M) (label : T → Name) where
     abbrev Marks : ℕ → std.Option M
     Marks = put r.marks p mk'
 
+    -- how the table stands after the step
+    abbrev After : Standing M
+    After = record (standing_of r) { words = Ws; head = head'; tail = tail'; holders = Holders; marks = Marks }
+
     -- one place changes, and no cell does
     pub record Move : Type 0 where
       pub at : get_elem? s.views id ≡ some v
@@ -98,18 +86,18 @@ module _ {T M : Type 0} (mark : T → M) (label : T → Name) where
       pub queued : InQueue Ws head' tail' Size p x'
       pub cell_now : (k : ℕ) → head' ≤ k → k < tail' → (cell Ws Size k < Size) × (Holders (cell Ws Size k) ≡ in_queue k)
       pub quiet : v.role ≡ Core → (tail' ≡ r.tail) × (r.holders p ≡ at_bell → ⊥) × (mk' ≡ r.marks p) × (x' ≡ nobody → ⊥)
-      pub knows : Knows mark label Ws Size head' tail' Holders Marks r.name (cores s.views) id v'
+      pub knows : Knows mark label After id v'
       pub follows : Follows Ws Size head' tail' Holders Marks (set s.views id v')
       pub live_here : (j : ℕ) → x' ≡ in_hand j → (j ≡ id) × (is_in p v'.hand ≡ true)
       pub live_else : (q : ℕ) → q ≢ p → is_in q v.hand ≡ true → is_in q v'.hand ≡ true
 
     module _ (h : Move) where
-      others_role : (j : ℕ) (u : View T) (x : Role) → j ≢ id → IsRole mark label s.words Size r.head r.tail r.holders r.marks r.name (cores s.views) j u.hand u.label u.kept x → IsRole mark label Ws Size head' tail' Holders Marks r.name (cores s.views) j u.hand u.label u.kept x
+      others_role : (j : ℕ) (u : View T) (x : Role) → j ≢ id → IsRoleOf r j u x → IsRole mark label After j u x
       others_role j u Spent ne k = k
-      others_role j u Start ne k = absurd (lone s.words Size r.head r.tail r.holders r.marks r.name (cores s.views) id j v v.role h.active (r.each_seat id v h.at).role (cores_at s.views id v h.at) ne k.0 k.1)
+      others_role j u Start ne k = absurd (lone r id v h.at h.active j ne k.0 k.1)
       others_role j u Core ne k = k
       others_role j u (Home t st nt out) ne k =
-          let q = h.quiet (other_core s.words Size r.head r.tail r.holders r.marks r.name (cores s.views) id j v v.role h.active (r.each_seat id v h.at).role ne k.0) in
+          let q = h.quiet (other_core r id v h.at h.active j ne k.0) in
           let here : r.head ≤ r.tail = (let a = r.sums in omega arith) in (
             k.0,
             k.1,
@@ -124,9 +112,9 @@ module _ {T M : Type 0} (mark : T → M) (label : T → Name) where
           stored : (st : std.Option ℕ) → tail' ≡ r.tail → cell Ws Size r.tail ≡ cell s.words Size r.tail → IsStored s.words r.head r.tail Size st → IsStored Ws head' tail' Size st
           stored std.None e c k = tt
           stored (std.Some y) e c k = ap (cell Ws Size) e ∙ c ∙ k
-      others_role j u (Closed gone) ne k = absurd (lone s.words Size r.head r.tail r.holders r.marks r.name (cores s.views) id j v v.role h.active (r.each_seat id v h.at).role (cores_at s.views id v h.at) ne k.0 k.1)
+      others_role j u (Closed gone) ne k = absurd (lone r id v h.at h.active j ne k.0 k.1)
 
-      others : (j : ℕ) (u : View T) → j ≢ id → Knows mark label s.words Size r.head r.tail r.holders r.marks r.name (cores s.views) j u → Knows mark label Ws Size head' tail' Holders Marks r.name (cores s.views) j u
+      others : (j : ℕ) (u : View T) → j ≢ id → Knows mark label (standing_of r) j u → Knows mark label After j u
       others j u ne k =
           let apart : (q : ℕ) → is_in q u.hand ≡ true → q ≢ p = λ q e f. ne (h.mine j (ap r.holders (sym f) ∙ (k.hand q e).1)) in record {
             hand = λ q e. ((k.hand q e).0, put_else r.holders p x' q (apart q e) ∙ (k.hand q e).1);
@@ -163,9 +151,9 @@ module _ {T M : Type 0} (mark : T → M) (label : T → Name) where
                 }) less) lt;
             blank = λ q le. let a = h.near in let b = h.long in ap (λ n. bell_at Ws n q) h.long ∙ h.rings q (λ e. omega arith) ∙ r.blank q (omega arith);
             each_cell = subst (λ n. (k : ℕ) → head' ≤ k → k < tail' → (cell Ws n k < n) × (Holders (cell Ws n k) ≡ in_queue k)) (sym h.long) h.cell_now;
-            each_seat = subst (λ (y : ℕ × ℕ). (j : ℕ) (u : View T) → get_elem? (set s.views id v') j ≡ some u → Knows mark label Ws y.0 head' tail' Holders Marks r.name y.1 j u) (λ i. (sym h.long i, sym count i))
+            each_seat = subst (λ (y : ℕ × ℕ). (j : ℕ) (u : View T) → get_elem? (set s.views id v') j ≡ some u → Knows mark label (record After { places = y.0; count = y.1 }) j u) (λ i. (sym h.long i, sym count i))
                 (λ j u e. ⊎_elim
-                (λ (y : (j ≡ id) × (v' ≡ u)). subst (λ (y : ℕ × View T). Knows mark label Ws Size head' tail' Holders Marks r.name (cores s.views) y.0 y.1) (λ i. (sym y.0 i, y.1 i)) h.knows)
+                (λ (y : (j ≡ id) × (v' ≡ u)). subst (λ (y : ℕ × View T). Knows mark label After y.0 y.1) (λ i. (sym y.0 i, y.1 i)) h.knows)
                 (λ (y : (j ≢ id) × (get_elem? s.views j ≡ some u)). others j u y.0 (r.each_seat j u y.1))
                 (at_set s.views id j v' u e));
             follows = subst (λ n. Follows Ws n head' tail' Holders Marks (set s.views id v')) (sym h.long) h.follows;
@@ -185,6 +173,10 @@ module _ {T M : Type 0} (mark : T → M) (label : T → Name) where
     abbrev Zize : ℕ
     Zize = length s.homes
 
+    -- how the table stands after the step
+    abbrev Afterwards : Standing M
+    Afterwards = record (standing_of r) { words = Wz }
+
     pub record Look : Type 0 where
       pub at : get_elem? s.views id ≡ some v
       pub kind : core_count v'.role ≡ core_count v.role
@@ -194,26 +186,26 @@ module _ {T M : Type 0} (mark : T → M) (label : T → Name) where
       pub cells : (k : ℕ) → r.head ≤ k → k < r.tail → cell Wz Zize k ≡ cell s.words Zize k
       pub rings : (q : ℕ) → bell_at Wz Zize q ≡ bell_at s.words Zize q
       pub quiet : v.role ≡ Core → cell Wz Zize r.tail ≡ cell s.words Zize r.tail
-      pub knows : Knows mark label Wz Zize r.head r.tail r.holders r.marks r.name (cores s.views) id v'
+      pub knows : Knows mark label Afterwards id v'
       pub live : (q : ℕ) → is_in q v.hand ≡ true → is_in q v'.hand ≡ true
       pub run : v'.trace.run ≡ v.trace.run
       pub seats : v'.trace.seats ≡ v.trace.seats
 
     module _ (h : Look) where
-      lookers_role : (j : ℕ) (u : View T) (x : Role) → j ≢ id → IsRole mark label s.words Zize r.head r.tail r.holders r.marks r.name (cores s.views) j u.hand u.label u.kept x → IsRole mark label Wz Zize r.head r.tail r.holders r.marks r.name (cores s.views) j u.hand u.label u.kept x
+      lookers_role : (j : ℕ) (u : View T) (x : Role) → j ≢ id → IsRoleOf r j u x → IsRole mark label Afterwards j u x
       lookers_role j u Spent ne k = k
-      lookers_role j u Start ne k = absurd (lone s.words Zize r.head r.tail r.holders r.marks r.name (cores s.views) id j v v.role h.active (r.each_seat id v h.at).role (cores_at s.views id v h.at) ne k.0 k.1)
+      lookers_role j u Start ne k = absurd (lone r id v h.at h.active j ne k.0 k.1)
       lookers_role j u Core ne k = k
       lookers_role j u (Home t st nt out) ne k =
-          let q = h.quiet (other_core s.words Zize r.head r.tail r.holders r.marks r.name (cores s.views) id j v v.role h.active (r.each_seat id v h.at).role ne k.0) in
+          let q = h.quiet (other_core r id v h.at h.active j ne k.0) in
           (k.0, k.1, k.2, k.3, stored st q k.4, k.5, k.6, k.7)
         where
           stored : (st : std.Option ℕ) → cell Wz Zize r.tail ≡ cell s.words Zize r.tail → IsStored s.words r.head r.tail Zize st → IsStored Wz r.head r.tail Zize st
           stored std.None c k = tt
           stored (std.Some y) c k = c ∙ k
-      lookers_role j u (Closed gone) ne k = absurd (lone s.words Zize r.head r.tail r.holders r.marks r.name (cores s.views) id j v v.role h.active (r.each_seat id v h.at).role (cores_at s.views id v h.at) ne k.0 k.1)
+      lookers_role j u (Closed gone) ne k = absurd (lone r id v h.at h.active j ne k.0 k.1)
 
-      lookers : (j : ℕ) (u : View T) → j ≢ id → Knows mark label s.words Zize r.head r.tail r.holders r.marks r.name (cores s.views) j u → Knows mark label Wz Zize r.head r.tail r.holders r.marks r.name (cores s.views) j u
+      lookers : (j : ℕ) (u : View T) → j ≢ id → Knows mark label (standing_of r) j u → Knows mark label Afterwards j u
       lookers j u ne k = record {
         hand = k.hand;
         apart = k.apart;
@@ -244,9 +236,9 @@ module _ {T M : Type 0} (mark : T → M) (label : T → Name) where
             };
             blank = λ q le. h.rings q ∙ r.blank q le;
             each_cell = λ k a b. subst (λ c. (c < Zize) × (r.holders c ≡ in_queue k)) (sym (h.cells k a b)) (r.each_cell k a b);
-            each_seat = subst (λ (n : ℕ). (j : ℕ) (u : View T) → get_elem? (set s.views id v') j ≡ some u → Knows mark label Wz Zize r.head r.tail r.holders r.marks r.name n j u) (sym count)
+            each_seat = subst (λ (n : ℕ). (j : ℕ) (u : View T) → get_elem? (set s.views id v') j ≡ some u → Knows mark label (record Afterwards { count = n }) j u) (sym count)
                 (λ j u e. ⊎_elim
-                (λ (y : (j ≡ id) × (v' ≡ u)). subst (λ (y : ℕ × View T). Knows mark label Wz Zize r.head r.tail r.holders r.marks r.name (cores s.views) y.0 y.1) (λ i. (sym y.0 i, y.1 i)) h.knows)
+                (λ (y : (j ≡ id) × (v' ≡ u)). subst (λ (y : ℕ × View T). Knows mark label Afterwards y.0 y.1) (λ i. (sym y.0 i, y.1 i)) h.knows)
                 (λ (y : (j ≢ id) × (get_elem? s.views j ≡ some u)). lookers j u y.0 (r.each_seat j u y.1))
                 (at_set s.views id j v' u e));
             follows = follows_else Zize r.marks s.views (set s.views id v') s.words Wz r.head r.tail r.holders (let a = r.sums in omega arith) h.cells r.follows

@@ -13,10 +13,10 @@ use Rattle.std.specs.Int.{bit_at}
 use Rattle.std.proofs.lemmas.Nat.Bits.{bit_at-zero}
 use Rattle.atomic_table.specs.Table.{step, opening, carried_after, homes_after, Allows}
 use Rattle.atomic_table.proofs.Lists.{at_set, set_here}
-use Rattle.zy_shuffle.proofs.HandLemmas.{below_distinct, below_in, cores_at, cores_set, in_below, take_act, takes_all}
+use Rattle.zy_shuffle.proofs.HandLemmas.{below_distinct, below_in, cores_set, in_below, take_act, takes_all}
 use Rattle.zy_shuffle.specs.Hand.{below_then, emptied}
 use Rattle.zy_shuffle.specs.Holder.{Holder, bell, cores, in_hand, nobody, weight}
-use Rattle.zy_shuffle.specs.ShuffleRule.{Knows, ShuffleRule}
+use Rattle.zy_shuffle.specs.ShuffleRule.{Knows, ShuffleRule, Standing}
 use Rattle.zy_shuffle.specs.Step.{Seated, named_as, naming}
 use Rattle.zy_shuffle.specs.View.{start}
 use Rattle.zy_shuffle.specs.Word.{bell_at, bell_words}
@@ -27,7 +27,8 @@ use Rattle.zy_table.specs.Member.{is_in}
 use Rattle.zy_table.specs.Name.{no_name}
 use Rattle.zy_table.specs.Sum.{sum_below}
 use Rattle.zy_table.specs.declared.name.Name.{Name}
-use Rattle.zy_shuffle.proofs.IdleLemmas.{alone, idle_knows, shut_slot}
+use Rattle.zy_shuffle.proofs.IdleLemmas.{idle_knows, shut_slot}
+use Rattle.zy_shuffle.proofs.RoleLemmas.{alone, standing_of}
 
 module _ {T M : Type 0} (mark : T → M) (label : T → Name) where
   -- the first load of the home, which takes all slots and names the label
@@ -50,7 +51,8 @@ module _ {T M : Type 0} (mark : T → M) (label : T → Name) where
       let tail_is = role.3 in
       let all_in : (q : ℕ) → q < m → is_in q (below_then m []) ≡ true = λ q lt. below_in m q [] lt in
       let of_hand : (q : ℕ) → is_in q (below_then m []) ≡ true → q < m = λ q e. ⊎_elim (λ (a : q < m). a) (λ (a : is_in q [] ≡ true). absurd (true≢false (sym a))) (in_below m q [] e) in
-      let mine : Knows mark label s.words m r.head r.tail holders' marks' z 0 id v' = record {
+      let after : Standing M = record { words = s.words; places = m; head = r.head; tail = r.tail; name = z; holders = holders'; marks = marks'; count = 0 } in
+      let mine : Knows mark label after id v' = record {
         hand = λ q e. (of_hand q e, refl);
         apart = below_distinct m [] tt (λ q e. absurd (true≢false (sym e)));
         same = λ q e. refl;
@@ -80,13 +82,13 @@ module _ {T M : Type 0} (mark : T → M) (label : T → Name) where
         follows = subst (λ n. Follows s.words n r.head r.tail holders' marks' (set s.views id v')) (sym long) (follows_holders m r.marks s.views (set s.views id v') s.words r.head r.tail r.holders holders' marks' (λ q _. role.5 q)
             (λ q _ x a. ⊎_elim (λ (e : x ≡ idle). inr (role.0, e)) (λ (e : x ≡ held 0). inl (e ∙ ap held (sym role.0))) (subst (λ y. Agrees y x) (role.4 q) a)) r.follows
             (known_same r.follows.events s.views id start v' at refl refl (λ e. cc) r.follows.known));
-        each_seat = subst (λ (x : ℕ × ℕ). (j : ℕ) (u : View T) → get_elem? (set s.views id v') j ≡ some u → Knows mark label s.words x.0 r.head r.tail holders' marks' z x.1 j u) (λ i. (sym long i, sym count i))
+        each_seat = subst (λ (x : ℕ × ℕ). (j : ℕ) (u : View T) → get_elem? (set s.views id v') j ≡ some u → Knows mark label (record after { places = x.0; count = x.1 }) j u) (λ i. (sym long i, sym count i))
             (λ j u e. ⊎_elim
-            (λ (x : (j ≡ id) × (v' ≡ u)). subst (λ (x : ℕ × View T). Knows mark label s.words m r.head r.tail holders' marks' z 0 x.0 x.1) (λ i. (sym x.0 i, x.1 i)) mine)
+            (λ (x : (j ≡ id) × (v' ≡ u)). subst (λ (x : ℕ × View T). Knows mark label after x.0 x.1) (λ i. (sym x.0 i, x.1 i)) mine)
             (λ (x : (j ≢ id) × (get_elem? s.views j ≡ some u)).
             let old = r.each_seat j u x.1 in
-            idle_knows mark label s.words m r.head r.tail r.head r.tail r.holders holders' r.marks marks' r.name z (cores s.views) 0 j u (omega arith) (omega arith) old.note
-            (alone mark label s.words m r.head r.tail r.holders r.marks r.name (cores s.views) j u u.role (cores_at s.views j u x.1) role.1 (λ e. x.0 (e ∙ sym role.0)) old.role) old)
+            idle_knows mark label (standing_of r) after j u (omega arith) (omega arith) old.note
+            (alone r j u x.1 role.1 (λ e. x.0 (e ∙ sym role.0))) old)
             (at_set s.views id j v' u e));
         live = λ q j lt e. let here : j ≡ id = cc in (v', ap (get_elem? (set s.views id v')) here ∙ set_here s.views id v' (at_below s.views id start at), all_in q (omega arith));
       } in (
@@ -124,8 +126,11 @@ module _ {T M : Type 0} (mark : T → M) (label : T → Name) where
         live = λ q j lt e. cc;
       }
     where
-      first : (m : ℕ) (ws : List ℕ) (j : ℕ) (u : View T) → get_elem? (start ∷ []) j ≡ some u → Knows mark label ws m 0 0 (λ _. nobody) (λ _. std.None) no_name 0 j u
-      first m ws zero u e = subst (Knows mark label ws m 0 0 (λ _. nobody) (λ _. std.None) no_name 0 0) (some-injective _ _ e) record {
+      at_first : (m : ℕ) (ws : List ℕ) → Standing M
+      at_first m ws = record { words = ws; places = m; head = 0; tail = 0; name = no_name; holders = λ _. nobody; marks = λ _. std.None; count = 0 }
+
+      first : (m : ℕ) (ws : List ℕ) (j : ℕ) (u : View T) → get_elem? (start ∷ []) j ≡ some u → Knows mark label (at_first m ws) j u
+      first m ws zero u e = subst (Knows mark label (at_first m ws) 0) (some-injective _ _ e) record {
         hand = λ q e. absurd (true≢false (sym e));
         apart = tt;
         same = λ q e. absurd (true≢false (sym e));

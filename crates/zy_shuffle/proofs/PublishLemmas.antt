@@ -1,6 +1,7 @@
 -- The store of the tail: it puts a place at the end of the queue.
 use Rattle.zy_shuffle.proofs.FollowLemmas.{follows_publish, publication_seat}
 use Rattle.zy_shuffle.proofs.KnownLemmas.{between, since_is, may_follow, known_more}
+use Rattle.zy_shuffle.proofs.RoleLemmas.{role_is, standing_of}
 use Rattle.zy_shuffle.specs.declared.ring.view.Event.{Event}
 use Rattle.std.proofs.Common.{◌≡◌, ◌≢◌, ℕ, ◌+◌, ◌/◌, ◌%◌, ◌<◌, ◌≤◌, List, ◌∷◌, ◌++◌, length, set, true, true≢false, refl, sym, ap, ◌∙◌, subst, arith, length-set, get_or-set_other, get_or-set_same}
 use Rattle.std.specs.Prelude as std
@@ -13,7 +14,7 @@ use Rattle.atomic_table.proofs.Lists.{set_here, set_else}
 use Rattle.zy_shuffle.proofs.HandLemmas.{marked_else, marked_here}
 use Rattle.zy_shuffle.proofs.MoveLemmas.{moved, note_else, rung_else}
 use Rattle.zy_shuffle.specs.Hand.{first_of, marked, rest_of}
-use Rattle.zy_shuffle.specs.Holder.{Holder, at_bell, bell, core_count, cores, in_hand, in_queue, nobody, weight}
+use Rattle.zy_shuffle.specs.Holder.{Holder, at_bell, bell, core_count, in_hand, in_queue, nobody, weight}
 use Rattle.zy_shuffle.specs.ShuffleRule.{IsRole, ShuffleRule}
 use Rattle.zy_shuffle.specs.HomeRole.{IsActive, with_published}
 use Rattle.zy_shuffle.specs.Run.{Before, AreOfSeat, IsKnown, publication}
@@ -37,7 +38,7 @@ module _ {T M : Type 0} (before : Before) (mark : T → M) (label : T → Name) 
       let k = r.each_seat id v at in
       let ws' : List ℕ = set s.words 16 new in
       let ks : List ℕ = rest_of v.hand in
-      let home = subst (λ x. IsRole mark label s.words m r.head r.tail r.holders r.marks r.name (cores s.views) id v.hand v.label v.kept x) role k.role in
+      let home = role_is r id v at role in
       let t_is : t ≡ r.tail = home.2 in
       let has : is_in p v.hand ≡ true = ap (is_in p) front ∙ in_front p ks in
       let mine = k.hand p has in
@@ -99,7 +100,7 @@ module _ {T M : Type 0} (before : Before) (mark : T → M) (label : T → Name) 
             head_seen = k.head_seen;
             tail_seen = let a = k.tail_seen in omega arith;
             note = note_else mark label s.words ws' r.head r.head r.tail (r.tail + 1) m v.note (omega arith) (omega arith) (λ q _ _. cells q) k.note;
-            role = subst (λ x. IsRole mark label ws' m r.head (r.tail + 1) holders' marks' r.name (cores s.views) id ks v.label kept' x) (sym role') (
+            role = subst (IsRole mark label (record (standing_of r) { words = ws'; tail = r.tail + 1; holders = holders'; marks = marks' }) id v') (sym role') (
               home.0,
               home.1,
               ap (λ x. x + 1) t_is,

@@ -15,10 +15,11 @@ use Rattle.atomic_table.proofs.Lists.{set_here, set_else, exchanged}
 use Rattle.zy_shuffle.proofs.HandLemmas.{marked_else, marked_here}
 use Rattle.zy_shuffle.proofs.LookLemmas.{Goes, misses}
 use Rattle.zy_shuffle.proofs.MoveLemmas.{moved, rung_else}
+use Rattle.zy_shuffle.proofs.RoleLemmas.{IsRoleOf, kept_of, standing_of, tag_of}
 use Rattle.zy_shuffle.specs.Hand.{marked}
-use Rattle.zy_shuffle.specs.Holder.{Holder, at_bell, bell, cores, in_hand, in_queue, nobody, weight}
-use Rattle.zy_shuffle.specs.ShuffleRule.{InQueue, IsNote, IsRole, IsStored, Lies, ShuffleRule}
-use Rattle.zy_shuffle.specs.HomeRole.{IsActive, IsHome}
+use Rattle.zy_shuffle.specs.Holder.{Holder, at_bell, bell, in_hand, in_queue, nobody, weight}
+use Rattle.zy_shuffle.specs.ShuffleRule.{RingState, InQueue, IsNote, IsRole, IsStored, Lies, ShuffleRule}
+use Rattle.zy_shuffle.specs.HomeRole.{IsActive}
 use Rattle.zy_shuffle.specs.Step.{Seated, claimed, noted_place, taking}
 use Rattle.zy_shuffle.specs.Word.{bell_at, cell}
 use Rattle.zy_shuffle.specs.declared.ring.view.Role.{Role}
@@ -35,31 +36,18 @@ pub ready_in : (ws : List ℕ) (head tail m q k : ℕ) (x : Holder) → x ≡ in
 ready_in ws head tail m q k x e l = subst (InQueue ws head tail m q) e l
 
 module _ {T M : Type 0} (mark : T → M) (label : T → Name) where
-  module _ (ws : List ℕ) (m head tail : ℕ) (holders : ℕ → Holder) (marks : ℕ → std.Option M) (z : Name) (count j : ℕ) (hand : List ℕ) (tag : Name) (kept : List (ℕ × T)) where
-    tag_of : (x : Role) → IsActive x → IsRole mark label ws m head tail holders marks z count j hand tag kept x → tag ≡ z
-    tag_of Spent a h = absurd a
-    tag_of Start a h = absurd a
-    tag_of Core a h = h.0
-    tag_of (Home t st nt out) a h = h.1
-    tag_of (Closed gone) a h = absurd a
-
-    pub kept_of : (x : Role) → IsHome x → IsRole mark label ws m head tail holders marks z count j hand tag kept x → (p : ℕ) → marked mark p kept ≡ marks p
-    kept_of Spent a h = absurd a
-    kept_of Start a h = absurd a
-    kept_of Core a h = absurd a
-    kept_of (Home t st nt out) a h = h.6
-    kept_of (Closed gone) a h = absurd a
-
+  module _ (s : RingState T) (r : ShuffleRule mark label s) (id : ℕ) (v : View T) where
     -- the role of the seat that makes the step, where tail, cell and bells are as they were
-    rerole : (ws' : List ℕ) (head' : ℕ) (holders' : ℕ → Holder) (marks' : ℕ → std.Option M) (hand' : List ℕ) (kept' : List (ℕ × T)) (x : Role) → IsActive x → cell ws' m tail ≡ cell ws m tail → ((q : ℕ) → holders q ≡ at_bell → holders' q ≡ at_bell)
-        → ((q : ℕ) → marked mark q kept ≡ marks q → marked mark q kept' ≡ marks' q) → ((q : ℕ) → (holders q ≡ nobody → ⊥) → holders' q ≡ nobody → ⊥)
-        → IsRole mark label ws m head tail holders marks z count j hand tag kept x → IsRole mark label ws' m head' tail holders' marks' z count j hand' tag kept' x
+    rerole : (ws' : List ℕ) (head' : ℕ) (holders' : ℕ → Holder) (marks' : ℕ → std.Option M) (hand' : List ℕ) (kept' : List (ℕ × T)) (x : Role) → IsActive x → cell ws' (length s.homes) r.tail ≡ cell s.words (length s.homes) r.tail
+        → ((q : ℕ) → r.holders q ≡ at_bell → holders' q ≡ at_bell) → ((q : ℕ) → marked mark q v.kept ≡ r.marks q → marked mark q kept' ≡ marks' q) → ((q : ℕ) → (r.holders q ≡ nobody → ⊥) → holders' q ≡ nobody → ⊥)
+        → IsRoleOf r id v x → IsRole mark label (record (standing_of r) { words = ws'; head = head'; holders = holders'; marks = marks' }) id (record v { hand = hand'; kept = kept' }) x
     rerole ws' head' holders' marks' hand' kept' Spent a c b f g h = absurd a
     rerole ws' head' holders' marks' hand' kept' Start a c b f g h = absurd a
     rerole ws' head' holders' marks' hand' kept' Core a c b f g h = h
-    rerole ws' head' holders' marks' hand' kept' (Home t st nt out) a c b f g h = (h.0, h.1, h.2, h.3, stored st h.4, rung_else mark label m holders holders' nt b h.5, (λ q. f q (h.6 q)), λ q lt. g q (h.7 q lt))
+    rerole ws' head' holders' marks' hand' kept' (Home t st nt out) a c b f g h =
+        (h.0, h.1, h.2, h.3, stored st h.4, rung_else mark label (length s.homes) r.holders holders' nt b h.5, (λ q. f q (h.6 q)), λ q lt. g q (h.7 q lt))
       where
-        stored : (st : std.Option ℕ) → IsStored ws head tail m st → IsStored ws' head' tail m st
+        stored : (st : std.Option ℕ) → IsStored s.words r.head r.tail (length s.homes) st → IsStored ws' head' r.tail (length s.homes) st
         stored std.None k = tt
         stored (std.Some y) k = c ∙ k
     rerole ws' head' holders' marks' hand' kept' (Closed gone) a c b f g h = absurd a
@@ -138,7 +126,7 @@ module _ {T M : Type 0} (mark : T → M) (label : T → Name) where
             head_seen = let a = k.head_seen in omega arith;
             tail_seen = k.tail_seen;
             note = tt;
-            role = rerole s.words m r.head r.tail r.holders r.marks r.name (cores s.views) id v.hand v.label v.kept ws' (r.head + 1) (put r.holders p (in_hand id)) (put r.marks p (r.marks p)) v'.hand v'.kept v.role active (cells r.tail)
+            role = rerole s r id v ws' (r.head + 1) (put r.holders p (in_hand id)) (put r.marks p (r.marks p)) v'.hand v'.kept v.role active (cells r.tail)
                 (λ q. at_put r.holders p (in_hand id) (λ a b. r.holders a ≡ at_bell → b ≡ at_bell) q (λ e. cc) (λ _ e. e))
                 (λ q h. taken_marks r.marks p b v.kept has.2 q (λ _. h))
                 (λ q. at_put r.holders p (in_hand id) (λ a b. (r.holders a ≡ nobody → ⊥) → b ≡ nobody → ⊥) q (λ _ e. cc) (λ _ f. f))
@@ -157,8 +145,8 @@ module _ {T M : Type 0} (mark : T → M) (label : T → Name) where
             (
               omega arith,
               not_mine,
-              has.3 ∙ sym (tag_of s.words m r.head r.tail r.holders r.marks r.name (cores s.views) id v.hand v.label v.kept v.role active k.role),
-              (λ h. kept_of s.words m r.head r.tail r.holders r.marks r.name (cores s.views) id v.hand v.label v.kept v.role h k.role p ∙ has.2),
+              has.3 ∙ sym (tag_of r id v at active),
+              (λ h. kept_of r id v at h p ∙ has.2),
             ),
             may_follow f.events s.views f.known id v at active,
           )),

@@ -50,6 +50,32 @@ IsRung m holders std.None = ⊤
 IsRung m holders (std.Some x) =
     (i : ℕ) → i < 64 → bit_at x.1 i ≡ 1 → (64 * x.0 + i < m) × (holders (64 * x.0 + i) ≡ at_bell)
 
+-- how a ring's table stands: its words, the number of its places, the head and the tail, the ring's
+-- label, the holder of each place, the mark that the home keeps for it, and the number of passes that
+-- are out
+pub record Standing (M : Type 0) : Type 0 where
+  pub words : List ℕ
+  pub places : ℕ
+  pub head : ℕ
+  pub tail : ℕ
+  pub name : Name
+  pub holders : ℕ → Holder
+  pub marks : ℕ → std.Option M
+  pub count : ℕ
+
+-- how a table stands with this head and tail, this label, and these holders and marks
+abbrev pub standing : {T M : Type 0} → RingState T → ℕ → ℕ → Name → (ℕ → Holder) → (ℕ → std.Option M) → Standing M
+standing s head tail name holders marks = record {
+  words = s.words;
+  places = length s.homes;
+  head = head;
+  tail = tail;
+  name = name;
+  holders = holders;
+  marks = marks;
+  count = cores s.views;
+}
+
 module _ {T M : Type 0} (mark : T → M) (label : T → Name) where
   -- ---- slots
 
@@ -78,41 +104,39 @@ module _ {T M : Type 0} (mark : T → M) (label : T → Name) where
 
   -- ---- views
 
-  module _ (words : List ℕ) (m head tail : ℕ) (holders : ℕ → Holder) (marks : ℕ → std.Option M) (name : Name)
-      (count j : ℕ) (hand : List ℕ) (own_label : Name) (kept : List (ℕ × T)) where
+  module _ (now : Standing M) (j : ℕ) (v : View T) where
     -- what a seat knows by its role. Each role except `Spent` and `Start` has the label of the
     -- ring, and the home is seat 0. The home knows the tail, the passes that are out, the cell that
     -- it stored, the bits that it noted, and the mark of every place
     abbrev pub IsRole : Role → Type 0
-    IsRole Spent = hand ≡ []
-    IsRole Start = (j ≡ 0) × (count ≡ 0) × (hand ≡ []) × (tail ≡ 0) × ((p : ℕ) → holders p ≡ nobody)
-        × ((p : ℕ) → marks p ≡ std.None)
-    IsRole Core = (own_label ≡ name) × (j ≡ 0 → ⊥)
-    IsRole (Home t stored noted out) = (j ≡ 0) × (own_label ≡ name) × (t ≡ tail) × (count ≡ out)
-        × IsStored words head tail m stored × IsRung m holders noted
-        × ((p : ℕ) → marked mark p kept ≡ marks p) × ((p : ℕ) → p < m → holders p ≡ nobody → ⊥)
-    IsRole (Closed gone) = (j ≡ 0) × (count ≡ 0) × (own_label ≡ name) × (hand ≡ [])
-        × ((p : ℕ) → marked mark p kept ≡ marks p)
-        × ((p : ℕ) → p < m → is_in p gone ≡ true → holders p ≡ nobody)
-        × ((p : ℕ) → p < m → is_in p gone ≡ false → IsInTable (holders p))
+    IsRole Spent = v.hand ≡ []
+    IsRole Start = (j ≡ 0) × (now.count ≡ 0) × (v.hand ≡ []) × (now.tail ≡ 0)
+        × ((p : ℕ) → now.holders p ≡ nobody) × ((p : ℕ) → now.marks p ≡ std.None)
+    IsRole Core = (v.label ≡ now.name) × (j ≡ 0 → ⊥)
+    IsRole (Home t stored noted out) = (j ≡ 0) × (v.label ≡ now.name) × (t ≡ now.tail) × (now.count ≡ out)
+        × IsStored now.words now.head now.tail now.places stored × IsRung now.places now.holders noted
+        × ((p : ℕ) → marked mark p v.kept ≡ now.marks p) × ((p : ℕ) → p < now.places → now.holders p ≡ nobody → ⊥)
+    IsRole (Closed gone) = (j ≡ 0) × (now.count ≡ 0) × (v.label ≡ now.name) × (v.hand ≡ [])
+        × ((p : ℕ) → marked mark p v.kept ≡ now.marks p)
+        × ((p : ℕ) → p < now.places → is_in p gone ≡ true → now.holders p ≡ nobody)
+        × ((p : ℕ) → p < now.places → is_in p gone ≡ false → IsInTable (now.holders p))
 
   -- what seat j knows is true
-  pub record Knows (words : List ℕ) (m head tail : ℕ) (holders : ℕ → Holder) (marks : ℕ → std.Option M) (name : Name)
-      (count j : ℕ) (v : View T) : Type 0 where
+  pub record Knows (now : Standing M) (j : ℕ) (v : View T) : Type 0 where
     -- the places of its hand are in no other hand, nor in the queue, nor at their doorbells
-    pub hand : (p : ℕ) → is_in p v.hand ≡ true → (p < m) × (holders p ≡ in_hand j)
+    pub hand : (p : ℕ) → is_in p v.hand ≡ true → (p < now.places) × (now.holders p ≡ in_hand j)
     -- no place is in its hand twice
     pub apart : IsDistinct v.hand
     -- it keeps the marks that the home keeps for them
-    pub same : (p : ℕ) → is_in p v.hand ≡ true → marked mark p v.kept ≡ marks p
+    pub same : (p : ℕ) → is_in p v.hand ≡ true → marked mark p v.kept ≡ now.marks p
     -- the head that it saw is at most the head now
-    pub head_seen : v.trace.head.value ≤ head
+    pub head_seen : v.trace.head.value ≤ now.head
     -- the tail that it saw is at most the tail now
-    pub tail_seen : v.trace.tail.value ≤ tail
+    pub tail_seen : v.trace.tail.value ≤ now.tail
     -- its note is true
-    pub note : IsNote words head tail m v.note
+    pub note : IsNote now.words now.head now.tail now.places v.note
     -- what it knows by its role is true
-    pub role : IsRole words m head tail holders marks name count j v.hand v.label v.kept v.role
+    pub role : IsRole now j v v.role
 
   -- ---- the rule
 
@@ -148,7 +172,7 @@ module _ {T M : Type 0} (mark : T → M) (label : T → Name) where
     -- part 5, and what parts 1, 3 and 4 say of views: what each seat has seen, noted, stored and
     -- kept is still true
     pub each_seat : (j : ℕ) (v : View T) → get_elem? s.views j ≡ some v
-        → Knows s.words (length s.homes) head tail holders marks name (cores s.views) j v
+        → Knows (standing s head tail name holders marks) j v
     -- each step is its events of the ownership machine, or no event: the state that the table shows is
     -- one that a run of the machine reaches, and the views have this run between them
     pub follows : Follows s.words (length s.homes) head tail holders marks s.views

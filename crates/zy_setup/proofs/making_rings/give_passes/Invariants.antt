@@ -2,7 +2,7 @@ use Rattle.std.proofs.Common.{◌≡◌, ◌<◌, ◌≤◌, ℕ}
 use Rattle.std.specs.Prelude.{slice_get, option_map}
 use Rattle.zy_shuffle.specs.Pass.{newly_given}
 use Rattle.zy_setup.specs.Make.{with_further_pass}
-use Rattle.zy_setup.proofs.rings.give_passes.Given as goal
+use Rattle.zy_setup.proofs.making_rings.give_passes.Given as goal
 
 -- the cores before this one have their passes, and the others what they had
 abbrev pub invariant-loop-other : goal.invariant-loop-other
