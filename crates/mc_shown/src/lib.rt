@@ -5,6 +5,7 @@ mod keyed;
 mod listed;
 mod listing;
 mod marked;
+mod numbered;
 mod part;
 mod showing;
 mod told;

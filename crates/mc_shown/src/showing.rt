@@ -6,6 +6,7 @@ ghost use Rattle.mc_answers.specs.Answer.{IsAnswer};
 ghost use Rattle.mc_shown.specs.Parts.{AreSuited};
 
 use crate::listing::listing_parts;
+use crate::numbered::numbered_part;
 use crate::part::{Part, only_part};
 use crate::told::line_shown;
 use crate::valued::meta_shown;
@@ -33,7 +34,7 @@ fn meta_parts(alloc: Global, meta: &Meta, text: &[u8]) -> Result<Vec<Part>, NoMe
         → AreSuited parts.items saids) }
 {
     let shown = meta_shown(alloc, meta, text)?;
-    only_part(alloc, Part::new(shown))
+    only_part(alloc, numbered_part(meta, shown, text))
 }
 
 // Returns what the answer of a command that is no retrieval shows.

@@ -84,17 +84,19 @@ fn seen(known: &Known, glimpse: Glimpse<'_>, unique: Option<u64>) -> Option<Deci
         (Some(unique), Some(own)) => unique == own,
         _ => true,
     };
-    let Some(value) = glimpse.value else {
-        return if_so(same_flags && same_unique, Change::Shows);
-    };
-    if !same_flags || !same_unique || !may_be(known, value.bytes()) {
+    if !same_flags || !same_unique {
         return None;
     }
     let mut decided = Decided::plain(Change::Shows);
-    if known.open.is_some() {
-        decided.first = First::Shown;
-    } else if value.bytes().len() < known.value.bytes().len() {
-        decided.unpadded = Some(known.origin);
+    if let Some(value) = glimpse.value {
+        if !may_be(known, value.bytes()) {
+            return None;
+        }
+        if known.open.is_some() {
+            decided.first = First::Shown;
+        } else if value.bytes().len() < known.value.bytes().len() {
+            decided.unpadded = Some(known.origin);
+        }
     }
     if let (Some(unique), None) = (unique, known.unique) {
         decided.shown = Some(Unique {

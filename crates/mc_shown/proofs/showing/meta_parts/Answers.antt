@@ -13,8 +13,8 @@ returns c = record {
       (
       λ parts is saids answer. subst (λ (ps : List Part). AreSuited ps saids) (sym is)
       (
-      meta_suited c.args.meta.now c.args.text.now saids c.new.result answer
-      (λ said one. subst (λ (x : Shown). Suits x said) (sym c.new.ensures.value) (c.in_ok-shown.ensures.value said one))
+      meta_suited c.args.meta.now c.args.text.now saids c.numbered_part.result answer
+      (λ said one. subst (λ (x : Shown). Suits x said) (sym c.numbered_part.ensures.value) (c.in_ok-shown.ensures.value said one))
       )
       )
       c.only_part.ensures.value;
