@@ -1,5 +1,5 @@
 -- The recording of a run, as it is judged by `linear` and by `judge`.
-use Rattle.std.specs.Prelude.{ℕ, Bool, List}
+use Rattle.std.specs.Prelude.{ℕ, Bool, List, []}
 use Rattle.zy_capture.specs.declared.record.Record.{Record}
 use Rattle.zy_journal.specs.declared.journal.Journal.{Journal}
 use Rattle.zy_times.specs.Recording.{Recording}
@@ -18,4 +18,5 @@ recorded_with warm forget shards count records outputs = record {
   shards = shards;
   warm = warm;
   forget = forget;
+  lasting = [];
 }

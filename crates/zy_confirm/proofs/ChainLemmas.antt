@@ -1,5 +1,5 @@
 -- A call more in a chain of steps at each key.
-use Rattle.std.proofs.Common.{◌≡◌, ℕ, Bool, true, false, cond, List, [], ◌∷◌, ◌++◌, Option, None, Some, inl, refl, sym, ap, append-nil, ◌∙◌, subst}
+use Rattle.std.proofs.Common.{◌≡◌, ℕ, Bool, true, false, cond, List, [], ◌∷◌, ◌++◌, Option, None, Some, inl, refl, sym, ap, append-nil, ◌∙◌, subst, true≢false, arith}
 use Rattle.std.proofs.lemmas.List.Elements.{filter-append}
 use Rattle.mc_allows.specs.declared.said.Said.{Said}
 use Rattle.mc_allows.specs.declared.call_name.CallName.{CallName}
@@ -8,8 +8,9 @@ use Rattle.mc_allows.specs.Steps.{KeyStep, made, lost, is_same, AreAllowed, item
 use Rattle.mc_calls.specs.declared.call.Call.{Call}
 use Rattle.mc_calls.specs.declared.item.Item.{Item}
 use Rattle.zy_verdict.specs.Entries.{MadeCall, is_at_key, placed_at, AreStepsOf}
+use Rattle.zy_verdict.specs.Between.{has_loss}
 use Rattle.zy_confirm.specs.declared.store.Store.{Store}
-use Rattle.zy_confirm.specs.Store.{store_shards, held_at, is_used, IsNewlyUsed, MakesCall, LosesItem, uniques_after, AreUsed, KeyStands, StandsAfter, HoldsFirst}
+use Rattle.zy_confirm.specs.Store.{store_shards, held_at, is_used, KeepsBounds, IsNewlyUsed, MakesCall, LosesItem, uniques_after, AreUsed, IsGivenFrom, AreGivenFrom, KeyStands, StandsAfter, HoldsFirst}
 use Rattle.zy_confirm.proofs.MakeLemmas.{same_key}
 
 -- ---- steps
@@ -57,6 +58,22 @@ uniques_loss before [] = refl
 uniques_loss before (made own c s a ∷ steps) = uniques_loss (uniques_with before (unique_stored s a)) steps
 uniques_loss before (lost ∷ steps) = uniques_loss [] steps
 
+given_push : (least most : ℕ) (steps : List KeyStep) (name : CallName) (call : Call) (said : Said) (after : Option Item)
+    → AreGivenFrom least most steps → IsGivenFrom least most (unique_stored said after) → AreGivenFrom least most (steps ++ made name call said after ∷ [])
+given_push least most [] name call said after are is = (is, tt)
+given_push least most (made own c s a ∷ steps) name call said after are is = (are.0, given_push least most steps name call said after are.1 is)
+given_push least most (lost ∷ steps) name call said after are is = given_push least most steps name call said after are is
+
+given_loss : (least most : ℕ) (steps : List KeyStep) → AreGivenFrom least most steps → AreGivenFrom least most (steps ++ lost ∷ [])
+given_loss least most [] are = tt
+given_loss least most (made own c s a ∷ steps) are = (are.0, given_loss least most steps are.1)
+given_loss least most (lost ∷ steps) are = given_loss least most steps are
+
+loss_push : (steps : List KeyStep) (name : CallName) (call : Call) (said : Said) (after : Option Item) → has_loss (steps ++ made name call said after ∷ []) ≡ has_loss steps
+loss_push [] name call said after = refl
+loss_push (made own c s a ∷ steps) name call said after = loss_push steps name call said after
+loss_push (lost ∷ steps) name call said after = refl
+
 steps_loss : (entries : List MadeCall) (steps : List KeyStep) → AreStepsOf entries steps → AreStepsOf entries (steps ++ lost ∷ [])
 steps_loss [] [] are = tt
 steps_loss [] (made own c s a ∷ steps) are = absurd are
@@ -93,6 +110,27 @@ used_with : (old new : Store) (key : List ℕ) (given : Option ℕ) (uniques : L
 used_with old new key None uniques fresh are = are
 used_with old new key (Some unique) uniques fresh are = (fresh.1, are)
 
+-- ---- bounds
+
+given_one : (old new : Store) → KeepsBounds old new → (unique : Option ℕ) → IsGivenFrom old.least old.most unique → IsGivenFrom new.least new.most unique
+given_one old new bounds None is = tt
+given_one old new bounds (Some unique) is =
+    let same = bounds.0 in
+    let above = bounds.1 in
+    let least = is.0 in
+    let most = is.1 in
+    (omega (arith, same, least), omega (arith, above, most))
+
+-- uniques that were given within bounds are within bounds that are kept
+pub given_on : (old new : Store) → KeepsBounds old new → (steps : List KeyStep) → AreGivenFrom old.least old.most steps → AreGivenFrom new.least new.most steps
+given_on old new bounds [] are = tt
+given_on old new bounds (made name call said after ∷ steps) are = (given_one old new bounds (unique_stored said after) are.0, given_on old new bounds steps are.1)
+given_on old new bounds (lost ∷ steps) are = given_on old new bounds steps are
+
+given_new : (old new : Store) (key : List ℕ) → KeepsBounds old new → (unique : Option ℕ) → IsNewlyUsed old new key unique → IsGivenFrom new.least new.most unique
+given_new old new key bounds None fresh = tt
+given_new old new key bounds (Some unique) fresh = let same = bounds.0 in let least = fresh.2 in (omega (arith, same, least), fresh.3)
+
 -- ---- one key
 
 module _ (forget : Bool) (first : Option Item) (old new : Store) (e : MadeCall) (makes : MakesCall old new e.named.call e.said) (key : List ℕ) where
@@ -112,6 +150,9 @@ module _ (forget : Bool) (first : Option Item) (old new : Store) (e : MadeCall) 
         new = new_push given steps e.named.name e.named.call.call e.said (held_at new key) stands.new (new_of old new key (unique_stored e.said (held_at new key)) (uniques_after given steps) fresh stands.used);
         used = subst (AreUsed new key) (sym (uniques_push given steps e.named.name e.named.call.call e.said (held_at new key)))
             (used_with old new key (unique_stored e.said (held_at new key)) (uniques_after given steps) fresh (used_on old new key (makes.used key) (uniques_after given steps) stands.used));
+        given = given_push new.least new.most steps e.named.name e.named.call.call e.said (held_at new key) (given_on old new makes.bounds steps stands.given)
+            (given_new old new key makes.bounds (unique_stored e.said (held_at new key)) fresh);
+        losses = λ is. stands.losses (sym (loss_push steps e.named.name e.named.call.call e.said (held_at new key)) ∙ is);
       }
 
   -- another call is none
@@ -122,6 +163,8 @@ module _ (forget : Bool) (first : Option Item) (old new : Store) (e : MadeCall) 
     ends = stands.ends ∙ sym (makes.others key differ);
     new = stands.new;
     used = used_on old new key (makes.used key) (uniques_after given steps) stands.used;
+    given = given_on old new makes.bounds steps stands.given;
+    losses = stands.losses;
   }
 
   stands_by : (b : Bool) → is_at_key (store_shards old) key e.named.call ≡ b → (entries : List MadeCall) (steps : List KeyStep) → KeyStands forget first old key entries steps
@@ -139,6 +182,8 @@ module _ (forget : Bool) (first : Option Item) (old new : Store) (own : List ℕ
     ends = item_loss first steps ∙ sym (ap (held_at new) same ∙ loses.here);
     new = new_loss (first_uniques first) steps stands.new;
     used = subst (AreUsed new key) (sym (uniques_loss (first_uniques first) steps)) tt;
+    given = given_loss new.least new.most steps (given_on old new loses.bounds steps stands.given);
+    losses = λ is. may;
   }
 
   -- the item of another key was lost
@@ -149,6 +194,8 @@ module _ (forget : Bool) (first : Option Item) (old new : Store) (own : List ℕ
     ends = stands.ends ∙ sym (loses.others key differ);
     new = stands.new;
     used = used_on old new key (loses.used key differ) (uniques_after (first_uniques first) steps) stands.used;
+    given = given_on old new loses.bounds steps stands.given;
+    losses = stands.losses;
   }
 
   lost_by : (b : Bool) → is_same key own ≡ b → (key ≡ own → forget ≡ true) → (entries : List MadeCall) (steps : List KeyStep) → KeyStands forget first old key entries steps
@@ -174,4 +221,4 @@ module _ (may_lose : List ℕ → Bool) (first : List ℕ → Option Item) where
       (more.0, subst (λ (l : List MadeCall). KeyStands (may_lose key) (first key) new key l more.0) (sym same) more.1)
 
   pub nothing_stands : (store : Store) → HoldsFirst first store → StandsAfter may_lose first store []
-  nothing_stands store holds key = ([], record { calls = tt; allowed = tt; ends = sym (holds.held key); new = tt; used = holds.used key })
+  nothing_stands store holds key = ([], record { calls = tt; allowed = tt; ends = sym (holds.held key); new = tt; used = holds.used key; given = tt; losses = λ is. absurd (true≢false (sym is)) })

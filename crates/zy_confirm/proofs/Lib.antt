@@ -5,3 +5,4 @@ pub mod ChooseLemmas
 pub mod MakeLemmas
 pub mod TimingLemmas
 pub mod BeginLemmas
+pub mod GatherLemmas

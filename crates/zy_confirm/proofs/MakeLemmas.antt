@@ -82,4 +82,5 @@ module _ (old new : Store) (call : ShardCall) (own : List ℕ) (unique : ℕ) (o
     fresh = λ key about. subst (λ (k : List ℕ). IsNewlyUsed old new k (unique_stored o.said (held_at new k))) (at_own key about) fresh_own;
     others = others_kept;
     used = changes.used;
+    bounds = changes.bounds;
   }

@@ -1,7 +1,7 @@
 -- A store of which one shard has changed.
 use Rattle.std.specs.Prelude.{⊤}
 use Rattle.std.specs.List.{slice_get, slice_set}
-use Rattle.std.proofs.Common.{◌≡◌, ℕ, zero, suc, ◌+◌, ◌*◌, ◌%◌, ◌^◌, ◌<◌, Bool, true, false, cond, not, List, [], ◌∷◌, length, Option, None, Some, Result, Ok, Err, OnOk, ⊎_elim, refl, sym, ap, ◌∙◌, arith}
+use Rattle.std.proofs.Common.{◌≡◌, ℕ, zero, suc, ◌+◌, ◌*◌, ◌%◌, ◌^◌, ◌<◌, ◌≤◌, Bool, true, false, cond, not, List, [], ◌∷◌, length, Option, None, Some, Result, Ok, Err, OnOk, ⊎_elim, refl, sym, ap, ◌∙◌, arith}
 use Rattle.std.proofs.lemmas.List.{length-set}
 use Rattle.std.proofs.lemmas.Bool.{cases_eq}
 use Rattle.std.specs.Ordering.{nat_cmp}
@@ -15,7 +15,7 @@ use Rattle.mc_calls.specs.declared.item.Item.{Item}
 use Rattle.mc_calls.specs.Key.{hash_of, shard_of}
 use Rattle.zy_confirm.specs.declared.store.Store.{Store}
 use Rattle.zy_confirm.specs.declared.outcome.After.TheVariants.{Put, Gone}
-use Rattle.zy_confirm.specs.Store.{item_on_shard, store_shards, held_at, losses_in, losses_at, mark_of, is_used, ChangesAt, NotesLoss, LosesItem}
+use Rattle.zy_confirm.specs.Store.{item_on_shard, store_shards, held_at, losses_in, losses_at, mark_of, is_used, KeepsBounds, ChangesAt, NotesLoss, LosesItem}
 
 pub set_same : {A : Type 0} (xs : List A) (i : ℕ) (y : A) → i < length xs → slice_get (slice_set xs i y) i ≡ Some y
 set_same [] i y within = absurd (omega arith)
@@ -83,10 +83,10 @@ is_not false is = refl
 mark_same : (old new : Store) (key : List ℕ) (unique : ℕ) → losses_at new key ≡ losses_at old key → mark_of new key unique ≡ mark_of old key unique
 mark_same old new key unique same = ap (λ (losses : ℕ). (unique + (hash_of key + losses) * 4294967296 % 2 ^ 64) % 2 ^ 64) same
 
-losses_same : (old new : Store) → new.losses ≡ old.losses → (key : List ℕ) → losses_at new key ≡ losses_at old key
+pub losses_same : (old new : Store) → new.losses ≡ old.losses → (key : List ℕ) → losses_at new key ≡ losses_at old key
 losses_same old new is key = ap (λ (m : BTreeMap (List ℕ) ℕ). losses_in (get (slice_cmp nat_cmp) m key)) is
 
-used_same : (old new : Store) (key : List ℕ) → losses_at new key ≡ losses_at old key → new.used ≡ old.used → (unique : ℕ) → is_used old key unique ≡ true → is_used new key unique ≡ true
+pub used_same : (old new : Store) (key : List ℕ) → losses_at new key ≡ losses_at old key → new.used ≡ old.used → (unique : ℕ) → is_used old key unique ≡ true → is_used new key unique ≡ true
 used_same old new key same used unique known =
     ap (λ u. contains nat_cmp u (mark_of new key unique)) used ∙ ap (contains nat_cmp old.used) (mark_same old new key unique same) ∙ known
 
@@ -95,8 +95,9 @@ module _ (old new : Store) (key : List ℕ) (s : ℕ) (items items' : BTreeMap (
   pub put_changes : (item : Item) → Updates (slice_cmp nat_cmp) items items' key (Some item) → new.losses ≡ old.losses → (mark : ℕ) → mark ≡ mark_of old key item.unique
       → true ≡ not (contains nat_cmp old.used mark)
       → ((one : ℕ) → contains nat_cmp new.used one ≡ cond (is_at (nat_cmp mark) one) true (contains nat_cmp old.used one)) → contains nat_cmp new.used mark ≡ true
+      → old.least ≤ item.unique → item.unique ≤ new.most → KeepsBounds old new
       → ChangesAt old new key item.unique (Put item.flags item.value)
-  put_changes item updates losses mark mark_is fresh used given = record {
+  put_changes item updates losses mark mark_is fresh used given least most bounds = record {
     shards = same_count old new s items items' within was is;
     here = held_here old new s items items' within was is key (sym own) ∙ updates.1;
     others = λ other differ. held_else old new s items items' within was is key (Some item) updates.0 other differ;
@@ -106,16 +107,20 @@ module _ (old new : Store) (key : List ℕ) (s : ℕ) (items items' : BTreeMap (
     fresh = (
       ap (contains nat_cmp old.used) (sym mark_is) ∙ is_not (contains nat_cmp old.used mark) fresh,
       ap (contains nat_cmp new.used) (mark_same old new key item.unique (losses_same old new losses key) ∙ sym mark_is) ∙ given,
+      least,
+      most,
     );
+    bounds = bounds;
   }
 
-  pub gone_changes : Updates (slice_cmp nat_cmp) items items' key None → new.used ≡ old.used → new.losses ≡ old.losses → ChangesAt old new key 0 Gone
-  gone_changes updates used losses = record {
+  pub gone_changes : Updates (slice_cmp nat_cmp) items items' key None → new.used ≡ old.used → new.losses ≡ old.losses → KeepsBounds old new → ChangesAt old new key 0 Gone
+  gone_changes updates used losses bounds = record {
     shards = same_count old new s items items' within was is;
     here = held_here old new s items items' within was is key (sym own) ∙ updates.1;
     others = λ other differ. held_else old new s items items' within was is key None updates.0 other differ;
     used = λ any one known. used_same old new any (losses_same old new losses any) used one known;
     fresh = tt;
+    bounds = bounds;
   }
 
 -- ---- losses
@@ -136,6 +141,12 @@ gone_loses old middle new key changes notes =
       here = held key ∙ changes.here;
       others = λ other differ. held other ∙ changes.others other differ;
       used = λ other differ unique known. used_same middle new other (notes.others other differ) notes.used unique (changes.used other unique known);
+      bounds = (
+        notes.bounds.0 ∙ changes.bounds.0,
+        let one = changes.bounds.1 in
+            let other = notes.bounds.1 in
+            omega (arith, one, other),
+      );
     }
 
 pub loses_by : (old middle new : Store) (key : List ℕ) → ChangesAt old middle key 0 Gone → (r : Result ⊤ NoMemory) → OnOk r (NotesLoss middle new key) → OnOk r (LosesItem old new key)

@@ -1,3 +1,4 @@
 pub mod Choosing
 pub mod Store
 pub mod NextText
+pub mod Gathering

@@ -1,5 +1,5 @@
 -- The items of a server at a point of an order. No public clause cites this module.
-use Rattle.std.specs.Prelude.{◌≡◌, ℕ, ◌+◌, ◌*◌, ◌%◌, ◌^◌, ◌<◌, Bool, true, false, List, [], ◌∷◌, length}
+use Rattle.std.specs.Prelude.{◌≡◌, ℕ, ◌+◌, ◌*◌, ◌%◌, ◌^◌, ◌<◌, ◌≤◌, Bool, true, false, List, [], ◌∷◌, length}
 use Rattle.std.specs.Prelude.{Option, None, Some, ⊤}
 use Rattle.std.specs.List.{slice_get}
 use Rattle.std.specs.Ordering.{nat_cmp}
@@ -14,6 +14,7 @@ use Rattle.mc_calls.specs.declared.item.Item.{Item}
 use Rattle.mc_calls.specs.Key.{hash_of, shard_of}
 use Rattle.mc_parse.specs.declared.shard_call.ShardCall.{ShardCall}
 use Rattle.zy_verdict.specs.Entries.{MadeCall, is_at_key, placed_at, AreStepsOf}
+use Rattle.zy_verdict.specs.Between.{has_loss}
 use Rattle.zy_confirm.specs.declared.outcome.After.{After}
 use Rattle.zy_confirm.specs.declared.store.Store.{Store}
 use Rattle.zy_confirm.specs.Choosing.{after_by, unique_given}
@@ -55,6 +56,18 @@ abbrev pub AreUsed : Store → List ℕ → List ℕ → Type 0
 AreUsed store key [] = ⊤
 AreUsed store key (unique ∷ uniques) = (is_used store key unique ≡ true) × AreUsed store key uniques
 
+-- the least unique that may be given stays so, and the bound of those that were given does not fall
+abbrev pub KeepsBounds : Store → Store → Type 0
+KeepsBounds before after = (after.least ≡ before.least) × (before.most ≤ after.most)
+
+-- only uniques above this one may be given from here on
+pub record BeginsAbove (before after : Store) (bound : ℕ) : Type 0 where
+  pub shards : after.shards.items ≡ before.shards.items
+  pub used : after.used ≡ before.used
+  pub losses : after.losses ≡ before.losses
+  pub least : after.least ≡ bound + 1
+  pub most : after.most ≡ bound
+
 -- a store of this many shards without items
 pub record HoldsNothing (shards : ℕ) (store : Store) : Type 0 where
   pub count : store_shards store ≡ shards
@@ -72,10 +85,12 @@ abbrev pub IsOnItsShard : ℕ → Option (List ℕ) → ℕ → Type 0
 IsOnItsShard shards None shard = shard < shards
 IsOnItsShard shards (Some key) shard = shard ≡ shard_of key shards
 
--- the unique of an item that was stored at a key was not given to one of it before, and is now
+-- the unique of an item that was stored at a key may be given, was not given to one of it before, and is now
 abbrev pub IsNewlyUsed : Store → Store → List ℕ → Option ℕ → Type 0
 IsNewlyUsed before after key None = ⊤
-IsNewlyUsed before after key (Some unique) = (is_used before key unique ≡ false) × (is_used after key unique ≡ true)
+IsNewlyUsed before after key (Some unique) =
+    (is_used before key unique ≡ false) × (is_used after key unique ≡ true) × (before.least ≤ unique)
+    × (unique ≤ after.most)
 
 -- the uniques that were given stay so
 abbrev pub KeepsUniques : Store → Store → Type 0
@@ -89,6 +104,7 @@ pub record ChangesAt (before after : Store) (key : List ℕ) (unique : ℕ) (cha
   pub others : (other : List ℕ) → is_same other key ≡ false → held_at after other ≡ held_at before other
   pub used : KeepsUniques before after
   pub fresh : IsNewlyUsed before after key (unique_given unique change)
+  pub bounds : KeepsBounds before after
 
 -- the item of a key was lost, if there was one
 pub record LosesItem (before after : Store) (key : List ℕ) : Type 0 where
@@ -97,12 +113,14 @@ pub record LosesItem (before after : Store) (key : List ℕ) : Type 0 where
   pub others : (other : List ℕ) → is_same other key ≡ false → held_at after other ≡ held_at before other
   pub used : (other : List ℕ) → is_same other key ≡ false → (unique : ℕ) → is_used before other unique ≡ true
       → is_used after other unique ≡ true
+  pub bounds : KeepsBounds before after
 
 -- a loss at a key was noted
 pub record NotesLoss (before after : Store) (key : List ℕ) : Type 0 where
   pub shards : after.shards.items ≡ before.shards.items
   pub used : after.used ≡ before.used
   pub others : (other : List ℕ) → is_same other key ≡ false → losses_at after other ≡ losses_at before other
+  pub bounds : KeepsBounds before after
 
 -- the items of one shard were removed
 pub record Clears (before after : Store) (shard : ℕ) : Type 0 where
@@ -111,6 +129,7 @@ pub record Clears (before after : Store) (shard : ℕ) : Type 0 where
   pub others : (key : List ℕ) → (shard_of key (store_shards before) ≡ shard → ⊥)
       → held_at after key ≡ held_at before key
   pub used : KeepsUniques before after
+  pub bounds : KeepsBounds before after
 
 -- a call that was answered so led from one store to another
 pub record MakesCall (before after : Store) (call : ShardCall) (said : Said) : Type 0 where
@@ -122,6 +141,7 @@ pub record MakesCall (before after : Store) (call : ShardCall) (said : Said) : T
   pub others : (key : List ℕ) → is_at_key (store_shards before) key call ≡ false
       → held_at after key ≡ held_at before key
   pub used : KeepsUniques before after
+  pub bounds : KeepsBounds before after
 
 -- ---- chains
 
@@ -132,6 +152,18 @@ uniques_after before (made name call said after ∷ steps) =
     uniques_after (uniques_with before (unique_stored said after)) steps
 uniques_after before (lost ∷ steps) = uniques_after [] steps
 
+-- a unique that is given is not less than one number, and not greater than another
+abbrev pub IsGivenFrom : ℕ → ℕ → Option ℕ → Type 0
+IsGivenFrom least most None = ⊤
+IsGivenFrom least most (Some unique) = (least ≤ unique) × (unique ≤ most)
+
+-- so is each unique that these steps give
+abbrev pub AreGivenFrom : ℕ → ℕ → List KeyStep → Type 0
+AreGivenFrom least most [] = ⊤
+AreGivenFrom least most (made name call said after ∷ steps) =
+    IsGivenFrom least most (unique_stored said after) × AreGivenFrom least most steps
+AreGivenFrom least most (lost ∷ steps) = AreGivenFrom least most steps
+
 -- the entries at a key that had this first, and whose items may be lost or not, are allowed steps to what the store has
 pub record KeyStands (forget : Bool) (first : Option Item) (store : Store) (key : List ℕ) (entries : List MadeCall)
     (steps : List KeyStep) : Type 0 where
@@ -140,6 +172,8 @@ pub record KeyStands (forget : Bool) (first : Option Item) (store : Store) (key 
   pub ends : item_after first steps ≡ held_at store key
   pub new : HaveNewUniques (first_uniques first) steps
   pub used : AreUsed store key (uniques_after (first_uniques first) steps)
+  pub given : AreGivenFrom store.least store.most steps
+  pub losses : has_loss steps ≡ true → forget ≡ true
 
 -- the same at each key, if the items of these keys may be lost
 abbrev pub StandsAfter : (List ℕ → Bool) → (List ℕ → Option Item) → Store → List MadeCall → Type 0

@@ -5,6 +5,7 @@ mod beginning;
 mod choosing;
 mod counting;
 mod failing;
+mod gathering;
 mod laws;
 mod making;
 mod next_text;

@@ -1,8 +1,8 @@
 //! The items of a server at a point of an order.
-ghost use Rattle.std.specs.Prelude.{◌≡◌, ◌<◌, None, true, option_copied, IfOk, OnOk};
+ghost use Rattle.std.specs.Prelude.{◌≡◌, ◌<◌, ◌≤◌, None, true, option_copied, IfOk, OnOk};
 ghost use Rattle.mc_calls.specs.Key.{shard_of};
 ghost use Rattle.zy_confirm.specs.Store.{store_shards, held_at, losses_at, mark_of, NotesLoss};
-ghost use Rattle.zy_confirm.specs.Store.{ChangesAt, LosesItem, Clears, HoldsNothing};
+ghost use Rattle.zy_confirm.specs.Store.{ChangesAt, LosesItem, Clears, HoldsNothing, BeginsAbove};
 
 use crate::outcome::After;
 use mc_calls::{Item, hash_of};
@@ -21,6 +21,10 @@ pub struct Store {
     used: BTreeSet<u64>,
     /// How many losses the keys had that had some.
     losses: BTreeMap<Blob, u32>,
+    /// The least unique that may be given.
+    least: u64,
+    /// No unique that was given is greater.
+    most: u64,
 }
 
 impl Store {
@@ -39,7 +43,44 @@ impl Store {
             shards: made,
             used: BTreeSet::new(alloc),
             losses: BTreeMap::new(alloc),
+            least: 0,
+            most: 0,
         })
+    }
+
+    /// Gives only uniques above this one from here on. Returns whether there are any.
+    pub fn begin_above(&mut self, bound: u64) -> bool
+        ensures begins { result ≡ true → BeginsAbove self.old self.new bound }
+    {
+        let Some(least) = bound.checked_add(1) else {
+            return false;
+        };
+        self.least = least;
+        self.most = bound;
+        true
+    }
+
+    /// Returns the greatest unique that was given, or the one after which they were to begin.
+    pub fn most(&self) -> u64
+        ensures value { result ≡ self.now.most }
+    {
+        self.most
+    }
+
+    // Takes the shards out.
+    pub(crate) fn into_shards(self) -> (Global, Vec<BTreeMap<Blob, Item>>)
+        ensures shards { result.1.items ≡ self.shards.items }
+    {
+        let Store {
+            alloc,
+            shards,
+            used,
+            losses,
+            ..
+        } = self;
+        drop(used);
+        drop(losses);
+        (alloc, shards)
     }
 
     // Returns the item of a key, which is on this shard.
@@ -52,7 +93,7 @@ impl Store {
     }
 
     // Changes what a key has, which is on this shard. Returns whether the unique of an item that is
-    // stored is new.
+    // stored is new and may be given.
     pub(crate) fn change(
         &mut self,
         shard: u32,
@@ -83,14 +124,20 @@ impl Store {
         }
     }
 
-    /// Puts an item at a key, which is on this shard, if its unique is new. Returns whether it is.
+    /// Puts an item at a key, which is on this shard, if its unique is new and may be given. Returns
+    /// whether it is.
     pub fn put(&mut self, shard: u32, key: &Blob, item: Item) -> Result<bool, NoMemory>
         requires within { shard < store_shards self.old }
         requires own { shard ≡ shard_of key.now (store_shards self.old) }
         ensures changed { IfOk result (λ new. new ≡ true
             → ChangesAt self.old self.new key.now item.unique (After.Put item.flags item.value)) }
     {
-        let mark = self.mark_of(key, item.unique);
+        let unique = item.unique;
+        if unique < self.least {
+            drop(item);
+            return Ok(false);
+        }
+        let mark = self.mark_of(key, unique);
         match self.used.insert(mark) {
             Ok(true) => {}
             Ok(false) => {
@@ -112,6 +159,7 @@ impl Store {
         match self.shards[shard as usize].insert(key, item) {
             Ok(old) => {
                 drop(old);
+                self.most = greater(self.most, unique);
                 Ok(true)
             }
             Err(refused) => {
@@ -181,4 +229,11 @@ impl Store {
         let alloc = self.alloc;
         drop(mem::replace(&mut self.shards[shard as usize], BTreeMap::new(alloc)));
     }
+}
+
+// Returns the greater of two numbers.
+fn greater(one: u64, other: u64) -> u64
+    ensures greater { (one ≤ result) × (other ≤ result) }
+{
+    if one < other { other } else { one }
 }

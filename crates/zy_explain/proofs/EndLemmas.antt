@@ -2,15 +2,15 @@
 use Rattle.std.specs.List.{slice_get, slice_index_or}
 use mathlib.Core.Logic.{dite}
 use native.Mathlib.Decide.{dec_lt}
-use Rattle.std.proofs.Common.{◌≡◌, ◌⊎◌, inl, inr, ⊎_elim, ℕ, zero, suc, ◌+◌, ◌<◌, ◌≤◌, ◌||◌, Bool, true, false, List, [], ◌∷◌, ◌++◌, length, take, map, replicate, All, Contains, Option, None, Some, IfSome, refl, sym, ap, ◌∙◌, subst, arith}
+use Rattle.std.proofs.Common.{◌≡◌, ◌⊎◌, ◌↔◌, inl, inr, ⊎_elim, ℕ, zero, suc, ◌+◌, ◌<◌, ◌≤◌, ◌||◌, Bool, true, false, List, [], ◌∷◌, ◌++◌, length, take, map, replicate, All, Contains, Option, None, Some, Result, Ok, Err, IfOk, IfSome, refl, sym, ap, ◌∙◌, subst, arith}
 use Rattle.std.specs.Ordering.{nat_cmp}
 use Rattle.std.specs.Cmp.Lexicographic.{slice_cmp}
-use Rattle.std.specs.BTreeSet.{contains}
+use Rattle.std.specs.BTreeSet.{BTreeSet, contains}
 use Rattle.std.proofs.lemmas.List.{take_all, get_or_past}
 use Rattle.std.proofs.lemmas.List.Elements.{All-nil, All-weaker, All-contains, All-contains_itself}
 use Rattle.std.proofs.lemmas.Option.{slice_get_within}
 use Rattle.mc_allows.specs.declared.said.Said.{Said}
-use Rattle.mc_allows.specs.Steps.{KeyStep}
+use Rattle.mc_allows.specs.Steps.{KeyStep, made, lost, unique_stored}
 use Rattle.mc_answers.specs.Output.{Cut, IsCut, FitsText, text_at}
 use Rattle.mc_parse.specs.declared.command.Command.{Command}
 use Rattle.zy_capture.specs.declared.record.Record.{Record}
@@ -22,13 +22,16 @@ use Rattle.zy_times.specs.Sessions.{commands_of_session, sent_in, IsSentIn, IsEn
 use Rattle.zy_times.specs.Times.{marks_in, trues}
 use Rattle.zy_times.proofs.SessionLemmas.{none_past}
 use Rattle.zy_verdict.specs.Recorded.{Recorded, session_commands, output_of, last_moment, HaveSessions}
-use Rattle.zy_verdict.specs.Losses.{MayLoseAt}
+use Rattle.zy_verdict.specs.Losses.{HasExptime, MayLoseAt}
 use Rattle.zy_verdict.specs.Entries.{MadeCall, named_from, is_of_session, of_session, said_to, placed_at}
 use Rattle.zy_verdict.specs.Explained.{OutputCuts, IsTimely, MayHaveFailed, IsChain, IsExplainedBy}
-use Rattle.zy_verdict.specs.Numbers.{ended_among, total_of, IsExplainedWith}
+use Rattle.zy_verdict.specs.Numbers.{ended_among, total_of, number_of_commands, number_ended, IsExplainedWith}
+use Rattle.zy_verdict.specs.Between.{Standing, IsGivenWithin, AreGivenWithin, LeadsBetween, IsExplainedBetweenWith}
 use Rattle.zy_verdict.proofs.ListLemmas.{contains_kept}
 use Rattle.zy_verdict.proofs.MomentLemmas.{sent_rises}
-use Rattle.zy_confirm.specs.Store.{KeyStands}
+use Rattle.zy_base.specs.declared.outside.NoMemory.{NoMemory}
+use Rattle.zy_confirm.specs.declared.store.Store.{Store}
+use Rattle.zy_confirm.specs.Store.{held_at, IsGivenFrom, AreGivenFrom, KeyStands}
 use Rattle.zy_sessions.specs.declared.line.Line.{Line}
 use Rattle.zy_sessions.specs.declared.session.Session.{Session}
 use Rattle.zy_sessions.specs.declared.sessions.Sessions.{Sessions}
@@ -38,10 +41,12 @@ use Rattle.zy_explain.specs.declared.rules.Rules.{Rules}
 use Rattle.zy_explain.specs.declared.numbers.Numbers.{Numbers}
 use Rattle.zy_explain.specs.declared.track.Track.{Track}
 use Rattle.zy_explain.specs.declared.state.State.{State}
-use Rattle.zy_explain.specs.Judged.{judged}
+use Rattle.zy_explain.specs.Judged.{judged, judged_after}
 use Rattle.zy_explain.specs.Making.{FailsLawfully}
 use Rattle.zy_explain.specs.Following.{output_in, track_at, sessions_in, sessions_on, may_lose_by, calls_made, IsRightIn, TrackStands, Stands, StandsSome}
-use Rattle.zy_explain.specs.Ending.{EndsRight, commands_in, ended_in, AreNumbers, HaveTheirSessions}
+use Rattle.zy_explain.specs.Beginning.{Begins}
+use Rattle.zy_explain.specs.Between.{StandsAt}
+use Rattle.zy_explain.specs.Ending.{EndsRight, commands_in, ended_in, AreNumbers, EndsAs, HaveTheirSessions}
 use Rattle.zy_explain.proofs.CallLemmas.{calls_whole}
 use Rattle.zy_explain.proofs.CutLemmas.{missing, the_cut, done_is, done_fits, done_reaches, done_flags}
 use Rattle.zy_explain.proofs.StateLemmas.{own_session, holds_at}
@@ -104,10 +109,10 @@ record IsSessionOf (r : Recorded) (entries : List MadeCall) (conn session comman
   commands_are : commands ≡ length (session_commands r conn session)
   ended_are : ended ≡ ended_among (marks_in r.records conn session) (map has_bytes cut.texts)
 
-module _ (rules : Rules) (sessions : Sessions) (outputs : List (List (List ℕ))) (state : State) (entries : List MadeCall) (stands : Stands rules sessions outputs state entries)
-    (count : ℕ) (records : List Record) (hold : SessionsHold sessions count records) (conn session : ℕ) where
+module _ (rules : Rules) (lasting : BTreeSet (List ℕ)) (earlier : List (List ℕ)) (sessions : Sessions) (outputs : List (List (List ℕ))) (began : Store) (state : State) (entries : List MadeCall)
+    (stands : Stands rules lasting sessions outputs began state entries) (count : ℕ) (records : List Record) (hold : SessionsHold sessions count records) (conn session : ℕ) where
   abbrev r : Recorded
-  r = judged rules count records outputs
+  r = judged_after earlier rules count records outputs
 
   abbrev output : List ℕ
   output = output_in outputs conn session
@@ -233,23 +238,37 @@ module _ (sessions : Sessions) (count : ℕ) (records : List Record) (hold : Ses
       let line = there sessions.lines.items conn below in
       ap sessions_in line.1 ∙ (hold.each conn line.0 line.1).count
 
+-- ---- uniques
+
+given_one : (least most above upper : ℕ) → least ≡ above + 1 → upper ≡ most → (unique : Option ℕ) → IsGivenFrom least most unique → IsGivenWithin above upper unique
+given_one least most above upper low high None is = tt
+given_one least most above upper low high (Some unique) is = let from = is.0 in let to = is.1 in (omega (arith, low, from), omega (arith, high, to))
+
+-- uniques that are not less than the one after a bound are greater than it
+given_within : (least most above upper : ℕ) → least ≡ above + 1 → upper ≡ most → (steps : List KeyStep) → AreGivenFrom least most steps → AreGivenWithin above upper steps
+given_within least most above upper low high [] are = tt
+given_within least most above upper low high (made name call said after ∷ steps) are =
+    (given_one least most above upper low high (unique_stored said after) are.0, given_within least most above upper low high steps are.1)
+given_within least most above upper low high (lost ∷ steps) are = given_within least most above upper low high steps are
+
 -- ---- the whole
 
-module _ (rules : Rules) (sessions : Sessions) (outputs : List (List (List ℕ))) (state : State) (entries : List MadeCall) (stands : Stands rules sessions outputs state entries)
-    (n : Numbers) (have : HaveTheirSessions sessions outputs) (numbers : AreNumbers sessions outputs state.rows.items (length sessions.lines.items) n)
+module _ (rules : Rules) (lasting : BTreeSet (List ℕ)) (earlier : List (List ℕ)) (sessions : Sessions) (outputs : List (List (List ℕ))) (began : Store) (state : State) (entries : List MadeCall)
+    (stands : Stands rules lasting sessions outputs began state entries) (n : Numbers) (have : HaveTheirSessions sessions outputs) (numbers : AreNumbers sessions outputs state.rows.items (length sessions.lines.items) n)
     (count : ℕ) (records : List Record) (hold : SessionsHold sessions count records)
-    (nothing : (conn session : ℕ) → session_at sessions conn session ≡ None → HasNothing records conn session) where
+    (nothing : (conn session : ℕ) → session_at sessions conn session ≡ None → HasNothing records conn session)
+    (may_lose : (key : List ℕ) → may_lose_by rules lasting key ≡ true → MayLoseAt (judged_after earlier rules count records outputs) key) where
   abbrev whole : Recorded
-  whole = judged rules count records outputs
+  whole = judged_after earlier rules count records outputs
 
   by_session : (conn session : ℕ) (found : Option Session) → session_at sessions conn session ≡ found
       → IsSessionOf whole entries conn session (commands_in found) (ended_in found (track_at state.rows.items conn session))
-  by_session conn session None none = none_session rules sessions outputs state entries stands count records hold conn session none (nothing conn session none) (no_output sessions conn session outputs have none)
+  by_session conn session None none = none_session rules lasting earlier sessions outputs began state entries stands count records hold conn session none (nothing conn session none) (no_output sessions conn session outputs have none)
   by_session conn session (Some s) has =
       let mine = stands.each conn session s has in
       let bounds = line_there sessions conn session s (slice_get sessions.lines.items conn) refl has in
       subst (λ (t : Option Track). IsSessionOf whole entries conn session (commands_in (Some s)) (ended_in (Some s) t)) (sym mine.is)
-      (some_session rules sessions outputs state entries stands count records hold conn session s has (numbers.right conn bounds.0 session s mine.track bounds.1 has mine.is))
+      (some_session rules lasting earlier sessions outputs began state entries stands count records hold conn session s has (numbers.right conn bounds.0 session s mine.track bounds.1 has mine.is))
 
   abbrev session_of : (conn session : ℕ) → IsSessionOf whole entries conn session (commands_in (session_at sessions conn session)) (ended_in (session_at sessions conn session) (track_at state.rows.items conn session))
   session_of conn session = by_session conn session (session_at sessions conn session) refl
@@ -281,25 +300,19 @@ module _ (rules : Rules) (sessions : Sessions) (outputs : List (List (List ℕ))
       All-contains (λ (x : MadeCall). (command : Command) → slice_get (commands_of_session records e.named.name.conn e.named.name.session) x.named.name.index ≡ Some command → FailsLawfully rules.forget command x.named.call x.said)
       (of_session e.named.name.conn e.named.name.session entries) e own.failures (in_session e at) quiet.command quiet.is failed quiet.quiet
 
-  either_true : (a b : Bool) → (a || b) ≡ true → (a ≡ true) ⊎ (b ≡ true)
-  either_true true b is = inl refl
-  either_true false b is = inr is
-
-  may_lose : (key : List ℕ) → may_lose_by rules sessions key ≡ true → MayLoseAt whole key
-  may_lose key may = ⊎_elim (λ forget. inl forget) (λ lasting. inr ((hold.lasting key).0 lasting)) (either_true rules.forget (contains (slice_cmp nat_cmp) sessions.lasting key) may)
-
   abbrev steps : List ℕ → List KeyStep
   steps key = (stands.chains key).0
 
-  chain_at : (key : List ℕ) → IsChain whole key (stands.first key) (placed_at rules.shards key entries) (steps key)
-  chain_at key =
-      let stood = subst (λ (shards : ℕ). KeyStands (may_lose_by rules sessions key) (stands.first key) state.store key (placed_at shards key entries) (steps key)) stands.shards (stands.chains key).1 in
-      record {
-        forget = may_lose_by rules sessions key;
-        losses = may_lose key;
-        calls = stood.calls;
-        chain = record { allowed = stood.allowed; new = stood.new };
-      }
+  stood : (key : List ℕ) → KeyStands (may_lose_by rules lasting key) (held_at began key) state.store key (placed_at rules.shards key entries) (steps key)
+  stood key = subst (λ (shards : ℕ). KeyStands (may_lose_by rules lasting key) (held_at began key) state.store key (placed_at shards key entries) (steps key)) stands.shards (stands.chains key).1
+
+  chain_at : (key : List ℕ) → IsChain whole key (held_at began key) (placed_at rules.shards key entries) (steps key)
+  chain_at key = record {
+    forget = may_lose_by rules lasting key;
+    losses = may_lose key;
+    calls = (stood key).calls;
+    chain = record { allowed = (stood key).allowed; new = (stood key).new };
+  }
 
   have_sessions : HaveSessions whole
   have_sessions = record {
@@ -311,7 +324,7 @@ module _ (rules : Rules) (sessions : Sessions) (outputs : List (List (List ℕ))
         omega (arith, few, same);
   }
 
-  explained_by : IsExplainedBy whole cuts entries
+  abbrev explained_by : IsExplainedBy whole cuts entries
   explained_by = record {
     sessions = have_sessions;
     cut = λ conn session. (session_of conn session).is;
@@ -321,7 +334,7 @@ module _ (rules : Rules) (sessions : Sessions) (outputs : List (List (List ℕ))
     failures = All-weaker (Contains entries) (MayHaveFailed whole) lawful_entry entries (All-contains_itself entries);
     rises = stands.rises;
     timely = All-weaker (Contains entries) (IsTimely whole cuts) timely_entry entries (All-contains_itself entries);
-    first = stands.first;
+    first = held_at began;
     cold = stands.cold;
     steps = steps;
     chains = chain_at;
@@ -337,22 +350,58 @@ module _ (rules : Rules) (sessions : Sessions) (outputs : List (List (List ℕ))
       ∙ ap (total_below (other conn)) (number_on sessions count records hold conn below))
       ∙ ap (total_below (λ conn. total_below (other conn) (closes conn records + 1))) hold.count_is
 
+  commands_total : n.commands ≡ number_of_commands whole
+  commands_total =
+      numbers.commands
+      ∙ line_total (λ conn session. commands_in (session_at sessions conn session)) (λ conn session. length (session_commands whole conn session)) (λ conn session. (session_of conn session).commands_are)
+
+  ended_total : n.ended ≡ number_ended whole cuts
+  ended_total =
+      numbers.ended
+      ∙ line_total (λ conn session. ended_in (session_at sessions conn session) (track_at state.rows.items conn session))
+      (λ conn session. ended_among (marks_in records conn session) (map has_bytes (cuts conn session).texts)) (λ conn session. (session_of conn session).ended_are)
+
   pub explained_with : IsExplainedWith whole n.commands n.ended
-  explained_with = record {
-    cuts = cuts;
-    entries = entries;
-    explained = explained_by;
-    commands_are = numbers.commands
-        ∙ line_total (λ conn session. commands_in (session_at sessions conn session)) (λ conn session. length (session_commands whole conn session)) (λ conn session. (session_of conn session).commands_are);
-    ended_are = numbers.ended
-        ∙ line_total (λ conn session. ended_in (session_at sessions conn session) (track_at state.rows.items conn session))
-        (λ conn session. ended_among (marks_in records conn session) (map has_bytes (cuts conn session).texts)) (λ conn session. (session_of conn session).ended_are);
-  }
+  explained_with = record { cuts = cuts; entries = entries; explained = explained_by; commands_are = commands_total; ended_are = ended_total }
+
+  -- from what a server had at first, the order leads to what it has at last
+  module _ (from to : Standing) (earlier_is : earlier ≡ from.lasting) (began_as : Begins rules.shards from began) (at : StandsAt state.store lasting to)
+      (lasts : (key : List ℕ) → (Contains to.lasting key ↔ (Contains from.lasting key ⊎ HasExptime whole key))) where
+    abbrev leads : LeadsBetween whole cuts entries explained_by from to
+    leads = record {
+      begins = began_as.holds.held;
+      ends = λ key. (stood key).ends ∙ sym (at.items key);
+      losses = λ key is. may_lose key ((stood key).losses is);
+      lasting_is = earlier_is;
+      lasts = lasts;
+      uniques = λ key. given_within state.store.least state.store.most from.bound to.bound (stands.bounds.0 ∙ began_as.least) at.bound (steps key) (stood key).given;
+      rises = let kept = stands.bounds.1 in let first = began_as.most in let last = at.bound in omega (arith, kept, first, last);
+    }
+
+    pub between_with : IsExplainedBetweenWith whole from to n.commands n.ended
+    between_with = record { cuts = cuts; entries = entries; explained = explained_by; leads = leads; commands_are = commands_total; ended_are = ended_total }
+
+-- the entries that stand were made of the order, if there are numbers
+pub ends_by : (rules : Rules) (lasting : BTreeSet (List ℕ)) (sessions : Sessions) (outputs : List (List (List ℕ))) (old new : State)
+    → ((began : Store) → StandsSome rules lasting sessions outputs began old → StandsSome rules lasting sessions outputs began new)
+    → (r : Option Numbers) → IfSome r (AreNumbers sessions outputs new.rows.items (length sessions.lines.items))
+    → IfSome r (λ n. (began : Store) → StandsSome rules lasting sessions outputs began old → EndsAs rules lasting sessions outputs began new n)
+ends_by rules lasting sessions outputs old new on None numbers = tt
+ends_by rules lasting sessions outputs old new on (Some n) numbers = λ began stands. let led = on began stands in record { entries = led.0; stands = led.1; numbers = numbers }
+
+-- ---- without what came before
+
+pub either_true : (a b : Bool) → (a || b) ≡ true → (a ≡ true) ⊎ (b ≡ true)
+either_true true b is = inl refl
+either_true false b is = inr is
 
 -- whatever numbers there are, if any
-pub explained_some : (rules : Rules) (sessions : Sessions) (outputs : List (List (List ℕ))) (state : State) → StandsSome rules sessions outputs state → HaveTheirSessions sessions outputs → (r : Option Numbers)
-    → IfSome r (AreNumbers sessions outputs state.rows.items (length sessions.lines.items))
-    → IfSome r (λ n. (count : ℕ) (records : List Record) → SessionsHold sessions count records → IsExplainedWith (judged rules count records outputs) n.commands n.ended)
-explained_some rules sessions outputs state some have None numbers = tt
-explained_some rules sessions outputs state some have (Some n) numbers = λ count records hold.
-    explained_with rules sessions outputs state some.0 some.1 n have numbers count records hold (λ conn session none. others_have_nothing sessions count records hold conn session none)
+pub explained_some : (rules : Rules) (sessions : Sessions) (outputs : List (List (List ℕ))) (began : Store) (old new : State) → HaveTheirSessions sessions outputs → StandsSome rules sessions.lasting sessions outputs began old
+    → (r : Result (Option Numbers) NoMemory) → IfOk r (λ found. IfSome found (λ n. (from : Store) → StandsSome rules sessions.lasting sessions outputs from old → EndsAs rules sessions.lasting sessions outputs from new n))
+    → IfOk r (λ found. IfSome found (λ n. (count : ℕ) (records : List Record) → SessionsHold sessions count records → IsExplainedWith (judged rules count records outputs) n.commands n.ended))
+explained_some rules sessions outputs began old new have stands (Ok None) ends = tt
+explained_some rules sessions outputs began old new have stands (Ok (Some n)) ends = λ count records hold.
+    let end = ends began stands in
+    explained_with rules sessions.lasting [] sessions outputs began new end.entries end.stands n have end.numbers count records hold (λ conn session none. others_have_nothing sessions count records hold conn session none)
+    (λ key may. ⊎_elim (λ forget. inl forget) (λ lasting. inr (inl ((hold.lasting key).0 lasting))) (either_true rules.forget (contains (slice_cmp nat_cmp) sessions.lasting key) may))
+explained_some rules sessions outputs began old new have stands (Err refused) ends = tt

@@ -9,3 +9,6 @@ pub mod EndLemmas
 pub mod NumberLemmas
 pub mod MoreLemmas
 pub mod ByLemmas
+pub mod LastingLemmas
+pub mod BeginLemmas
+pub mod BetweenLemmas

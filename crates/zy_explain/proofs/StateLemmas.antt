@@ -1,4 +1,5 @@
 -- All tracks and the store, after one more call.
+use Rattle.std.specs.BTreeSet.{BTreeSet}
 use Rattle.std.specs.List.{slice_get, slice_set}
 use Rattle.std.proofs.Common.{◌≡◌, ⊎_elim, ℕ, ◌+◌, ◌≤◌, ◌==◌, ◌&&◌, Bool, true, false, List, [], ◌∷◌, ◌++◌, length, All, Option, None, Some, refl, sym, ap, ◌∙◌, subst, arith}
 use Rattle.std.proofs.lemmas.List.{length-append}
@@ -17,7 +18,7 @@ use Rattle.zy_verdict.specs.Entries.{MadeCall, is_of_session}
 use Rattle.zy_verdict.specs.Explained.{IsNotLater}
 use Rattle.zy_verdict.proofs.ListLemmas.{pairs_append, pairs_none}
 use Rattle.zy_confirm.specs.declared.store.Store.{Store}
-use Rattle.zy_confirm.specs.Store.{store_shards, held_at, is_used, AreUsed, ChangesAt, StandsAfter}
+use Rattle.zy_confirm.specs.Store.{store_shards, held_at, is_used, AreUsed, KeepsBounds, ChangesAt, StandsAfter}
 use Rattle.zy_confirm.specs.declared.outcome.After.TheVariants.{Put}
 use Rattle.zy_confirm.proofs.MakeLemmas.{same_key}
 use Rattle.zy_confirm.proofs.ChainLemmas.{stands_on, stands_without, nothing_stands}
@@ -50,6 +51,17 @@ chains_on may_lose first old new entries e carries stands =
 
 pub shards_on : (may_lose : List ℕ → Bool) (old new : Store) (call : ShardCall) (said : Said) → CarriesOut may_lose old new call said → store_shards new ≡ store_shards old
 shards_on may_lose old new call said carries = carries.makes.shards ∙ ⊎_elim (λ same. ap store_shards same) (λ some. some.loses.shards) carries.lost
+
+-- bounds that are kept twice are kept
+keeps_on : (began old new : Store) → KeepsBounds began old → KeepsBounds old new → KeepsBounds began new
+keeps_on began old new one other = (other.0 ∙ one.0, let first = one.1 in let second = other.1 in omega (arith, first, second))
+
+bounds_on : (may_lose : List ℕ → Bool) (old new : Store) (call : ShardCall) (said : Said) → CarriesOut may_lose old new call said → KeepsBounds old new
+bounds_on may_lose old new call said carries =
+    ⊎_elim
+    (λ same. subst (λ (x : Store). KeepsBounds x new) same carries.makes.bounds)
+    (λ some. keeps_on old carries.middle new some.loses.bounds carries.makes.bounds)
+    carries.lost
 
 -- ---- rows
 
@@ -91,7 +103,7 @@ elsewhere name c k differ = ap (λ b. b && (name.session == k)) (other_number na
 
 -- ---- the items at first
 
-used_on : (old new : Store) (key : List ℕ) (found : Option Item) → ((one : ℕ) → is_used old key one ≡ true → is_used new key one ≡ true) → AreUsed old key (first_uniques found) → AreUsed new key (first_uniques found)
+pub used_on : (old new : Store) (key : List ℕ) (found : Option Item) → ((one : ℕ) → is_used old key one ≡ true → is_used new key one ≡ true) → AreUsed old key (first_uniques found) → AreUsed new key (first_uniques found)
 used_on old new key None more are = tt
 used_on old new key (Some item) more are = (more item.unique are.0, tt)
 
@@ -141,16 +153,16 @@ module _ (rules : Rules) (sessions : Sessions) (outputs : List (List (List ℕ))
         stands = track_start rules.shards rules.forget s (output_in outputs conn session) conn session track.0 new.at new.answered new.count new.saids;
       }
 
-  pub begun : IsFirstStore rules state.store → state.moment ≡ 0 → StandsSome rules sessions outputs state
-  begun own first = (
+  pub begun : (lasting : BTreeSet (List ℕ)) → IsFirstStore rules state.store → state.moment ≡ 0 → StandsSome rules lasting sessions outputs state.store state
+  begun lasting own first = (
     [],
     record {
       shards = own.shards;
       each = λ conn session s is. fresh_on conn session s (slice_get sessions.lines.items conn) refl is;
       others = λ conn session none. refl;
-      first = held_at state.store;
       cold = own.cold;
-      chains = nothing_stands (may_lose_by rules sessions) (held_at state.store) state.store (record { held = λ key. refl; used = own.own });
+      chains = nothing_stands (may_lose_by rules lasting) (held_at state.store) state.store (record { held = λ key. refl; used = own.own });
+      bounds = (refl, omega arith);
       rises = pairs_none IsNotLater;
       latest = All-nil (λ (e : MadeCall). e.moment ≤ state.moment);
       within = λ count records hold. omega (arith, first);
@@ -168,16 +180,16 @@ module _ (sessions : Sessions) (count : ℕ) (records : List Record) (hold : Ses
   pub holds_at : session_at sessions conn session ≡ Some s → SessionHolds records conn session s
   holds_at has = holds_on (slice_get sessions.lines.items conn) refl has
 
-module _ (rules : Rules) (sessions : Sessions) (outputs : List (List (List ℕ))) (old new : State) (name : CallName) (s : Session) (row other : Row) (moment : ℕ)
+module _ (rules : Rules) (lasting : BTreeSet (List ℕ)) (sessions : Sessions) (outputs : List (List (List ℕ))) (began : Store) (old new : State) (name : CallName) (s : Session) (row other : Row) (moment : ℕ)
     (has : session_at sessions name.conn name.session ≡ Some s) (is : slice_get old.rows.items name.conn ≡ Some row)
-    (f : RowFollows rules sessions.lasting s (output_in outputs name.conn name.session) old.store new.store row other name old.moment moment)
+    (f : RowFollows rules lasting s (output_in outputs name.conn name.session) old.store new.store row other name old.moment moment)
     (set : new.rows.items ≡ slice_set old.rows.items name.conn other) (moment_is : new.moment ≡ moment)
-    (entries : List MadeCall) (stands : Stands rules sessions outputs old entries) where
-  abbrev makes : MakesNext rules.shards rules.forget (may_lose_by rules sessions) s old.store new.store f.follows.between f.other name old.moment moment
+    (entries : List MadeCall) (stands : Stands rules lasting sessions outputs began old entries) where
+  abbrev makes : MakesNext rules.shards rules.forget (may_lose_by rules lasting) s old.store new.store f.follows.between f.other name old.moment moment
   makes = f.follows.makes
 
   abbrev e : MadeCall
-  e = added rules.shards rules.forget (may_lose_by rules sessions) s (output_in outputs name.conn name.session) old.store new.store f.follows.between f.other name old.moment moment makes entries
+  e = added rules.shards rules.forget (may_lose_by rules lasting) s (output_in outputs name.conn name.session) old.store new.store f.follows.between f.other name old.moment moment makes entries
 
   abbrev all : List MadeCall
   all = entries ++ e ∷ []
@@ -193,7 +205,7 @@ module _ (rules : Rules) (sessions : Sessions) (outputs : List (List (List ℕ))
       record {
         track = f.other;
         is = ap (λ (l : List Row). track_at l name.conn name.session) set ∙ track_here old.rows.items name.conn name.session row other f.one f.other is f.is f.set;
-        stands = track_said rules.shards rules.forget (may_lose_by rules sessions) s output old.store new.store f.follows.between f.other name old.moment moment makes entries name.conn name.session refl refl (own_session name)
+        stands = track_said rules.shards rules.forget (may_lose_by rules lasting) s output old.store new.store f.follows.between f.other name old.moment moment makes entries name.conn name.session refl refl (own_session name)
             (f.follows.settles name.conn name.session entries before);
       }
 
@@ -241,16 +253,16 @@ module _ (rules : Rules) (sessions : Sessions) (outputs : List (List (List ℕ))
   later : (x : MadeCall) → x.moment ≤ old.moment → x.moment ≤ moment
   later x early = let order = makes.timely.later in omega (arith, early, order)
 
-  pub placed : StandsSome rules sessions outputs new
+  pub placed : StandsSome rules lasting sessions outputs began new
   placed = (
     all,
     record {
-      shards = shards_on (may_lose_by rules sessions) old.store new.store makes.call makes.said makes.carried ∙ stands.shards;
+      shards = shards_on (may_lose_by rules lasting) old.store new.store makes.call makes.said makes.carried ∙ stands.shards;
       each = each_stands;
       others = λ c k none. session_other c k entries e (none_apart c k none) ∙ stands.others c k none;
-      first = stands.first;
       cold = stands.cold;
-      chains = chains_on (may_lose_by rules sessions) stands.first old.store new.store entries e makes.carried stands.chains;
+      chains = chains_on (may_lose_by rules lasting) (held_at began) old.store new.store entries e makes.carried stands.chains;
+      bounds = keeps_on began old.store new.store stands.bounds (bounds_on (may_lose_by rules lasting) old.store new.store makes.call makes.said makes.carried);
       rises = pairs_append IsNotLater entries (e ∷ []) stands.rises (AllPairs-cons IsNotLater e [] (All-nil (IsNotLater e)) (pairs_none IsNotLater))
           (All-weaker (λ (x : MadeCall). x.moment ≤ old.moment) (λ (x : MadeCall). All (IsNotLater x) (e ∷ [])) (λ x early. All-cons (IsNotLater x) e [] (later x early) (All-nil (IsNotLater x))) entries stands.latest);
       latest =
@@ -267,10 +279,10 @@ module _ (rules : Rules) (sessions : Sessions) (outputs : List (List (List ℕ))
 
 -- ---- commands that are ended
 
-module _ (rules : Rules) (sessions : Sessions) (outputs : List (List (List ℕ))) (old new : State) (conn session : ℕ) (s : Session) (row other : Row)
+module _ (rules : Rules) (lasting : BTreeSet (List ℕ)) (sessions : Sessions) (outputs : List (List (List ℕ))) (began : Store) (old new : State) (conn session : ℕ) (s : Session) (row other : Row)
     (has : session_at sessions conn session ≡ Some s) (is : slice_get old.rows.items conn ≡ Some row) (f : RowSettles rules s (output_in outputs conn session) row other session)
     (set : new.rows.items ≡ slice_set old.rows.items conn other) (store_is : new.store ≡ old.store) (moment_is : new.moment ≡ old.moment)
-    (entries : List MadeCall) (stands : Stands rules sessions outputs old entries) where
+    (entries : List MadeCall) (stands : Stands rules lasting sessions outputs began old entries) where
   ended_here : SessionStands rules s (output_in outputs conn session) new.rows.items conn session entries
   ended_here =
       let was = stands.each conn session s has in
@@ -303,16 +315,16 @@ module _ (rules : Rules) (sessions : Sessions) (outputs : List (List (List ℕ))
       (ap (λ (l : List Row). track_at l c k) set ∙ track_elsewhere old.rows.items conn session row other f.one f.other is f.is f.set c k differ.1))
       (eqb_tells c conn)
 
-  pub ended : StandsSome rules sessions outputs new
+  pub ended : StandsSome rules lasting sessions outputs began new
   ended = (
     entries,
     record {
       shards = ap store_shards store_is ∙ stands.shards;
       each = ended_each;
       others = stands.others;
-      first = stands.first;
       cold = stands.cold;
-      chains = subst (λ (x : Store). StandsAfter (may_lose_by rules sessions) stands.first x entries) (sym store_is) stands.chains;
+      chains = subst (λ (x : Store). StandsAfter (may_lose_by rules lasting) (held_at began) x entries) (sym store_is) stands.chains;
+      bounds = subst (KeepsBounds began) (sym store_is) stands.bounds;
       rises = stands.rises;
       latest = All-weaker (λ (x : MadeCall). x.moment ≤ old.moment) (λ (x : MadeCall). x.moment ≤ new.moment) (λ x early. omega (arith, early, moment_is)) entries stands.latest;
       within = λ count records hold. let early = stands.within count records hold in omega (arith, early, moment_is);

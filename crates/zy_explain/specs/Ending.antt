@@ -1,19 +1,24 @@
 -- What is checked when an order was followed to its end. No public clause cites this module.
 use Rattle.std.specs.Prelude.{◌≡◌, ℕ, ◌+◌, ◌<◌, ◌≤◌, List, [], length, Option, None, Some}
+use Rattle.std.specs.BTreeSet.{BTreeSet}
 use Rattle.zy_capture.specs.declared.record.Record.{Record}
 use Rattle.zy_capture.specs.Streams.{sessions_of}
 use Rattle.zy_times.specs.First.{AreRises}
 use Rattle.zy_times.specs.InTime.{total_below}
 use Rattle.zy_times.specs.Sessions.{sent_in, marks_at, MarksFitIn}
+use Rattle.zy_verdict.specs.Entries.{MadeCall}
 use Rattle.zy_verdict.specs.Numbers.{ended_among}
+use Rattle.zy_confirm.specs.declared.store.Store.{Store}
 use Rattle.zy_sessions.specs.declared.session.Session.{Session}
 use Rattle.zy_sessions.specs.declared.sessions.Sessions.{Sessions}
 use Rattle.zy_sessions.specs.Sessions.{session_at}
+use Rattle.zy_explain.specs.declared.rules.Rules.{Rules}
+use Rattle.zy_explain.specs.declared.state.State.{State}
 use Rattle.zy_explain.specs.declared.track.Track.{Track}
 use Rattle.zy_explain.specs.declared.row.Row.{Row}
 use Rattle.zy_explain.specs.declared.numbers.Numbers.{Numbers}
 use Rattle.zy_explain.specs.Over.{IsWholeAt}
-use Rattle.zy_explain.specs.Following.{output_in, track_at, sessions_on}
+use Rattle.zy_explain.specs.Following.{output_in, track_at, sessions_on, Stands}
 
 -- ---- one session
 
@@ -73,6 +78,13 @@ pub record AreNumbers (sessions : Sessions) (outputs : List (List (List ℕ))) (
       commands_in (session_at sessions conn session)) (sessions_on sessions conn)) count
   pub ended : n.ended ≡ total_below (λ conn. total_below (λ session. ended_in (session_at sessions conn session)
       (track_at rows conn session)) (sessions_on sessions conn)) count
+
+-- entries that stand were made of an order, and these are the numbers of their recording
+pub record EndsAs (rules : Rules) (lasting : BTreeSet (List ℕ)) (sessions : Sessions)
+    (outputs : List (List (List ℕ))) (began : Store) (state : State) (n : Numbers) : Type 0 where
+  pub entries : List MadeCall
+  pub stands : Stands rules lasting sessions outputs began state entries
+  pub numbers : AreNumbers sessions outputs state.rows.items (length sessions.lines.items) n
 
 -- each output is that of a session
 pub record HaveTheirSessions (sessions : Sessions) (outputs : List (List (List ℕ))) : Type 0 where

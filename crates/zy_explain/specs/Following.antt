@@ -9,7 +9,6 @@ use Rattle.mc_answers.specs.Answer.{IsAnswer}
 use Rattle.mc_answers.specs.Output.{BeginsAnswer}
 use Rattle.mc_answers.specs.Said.{said_calls}
 use Rattle.mc_allows.specs.Steps.{first_uniques}
-use Rattle.mc_calls.specs.declared.item.Item.{Item}
 use Rattle.mc_parse.specs.declared.command.Command.{Command}
 use Rattle.zy_capture.specs.declared.record.Record.{Record}
 use Rattle.zy_capture.specs.Streams.{sessions_of}
@@ -20,7 +19,7 @@ use Rattle.zy_times.specs.Times.{trues}
 use Rattle.zy_verdict.specs.Entries.{NamedCall, MadeCall, named_parts, named_from, of_session, said_to}
 use Rattle.zy_verdict.specs.Explained.{IsNotLater}
 use Rattle.zy_confirm.specs.declared.store.Store.{Store}
-use Rattle.zy_confirm.specs.Store.{store_shards, held_at, AreUsed, StandsAfter}
+use Rattle.zy_confirm.specs.Store.{store_shards, held_at, AreUsed, KeepsBounds, StandsAfter}
 use Rattle.zy_sessions.specs.declared.line.Line.{Line}
 use Rattle.zy_sessions.specs.declared.session.Session.{Session}
 use Rattle.zy_sessions.specs.declared.sessions.Sessions.{Sessions}
@@ -121,9 +120,9 @@ sessions_in (Some line) = length line.sessions.items
 abbrev pub sessions_on : Sessions → ℕ → ℕ
 sessions_on sessions conn = sessions_in (slice_get sessions.lines.items conn)
 
--- the keys whose items may be lost
-abbrev pub may_lose_by : Rules → Sessions → List ℕ → Bool
-may_lose_by rules sessions key = may_lose_in rules.forget sessions.lasting key
+-- the keys whose items may be lost, if those of these keys may be
+abbrev pub may_lose_by : Rules → BTreeSet (List ℕ) → List ℕ → Bool
+may_lose_by rules lasting key = may_lose_in rules.forget lasting key
 
 -- a session has a track, which stands
 pub record SessionStands (rules : Rules) (s : Session) (output : List ℕ) (rows : List Row) (conn session : ℕ)
@@ -132,23 +131,29 @@ pub record SessionStands (rules : Rules) (s : Session) (output : List ℕ) (rows
   pub is : track_at rows conn session ≡ Some track
   pub stands : TrackStands rules.shards rules.forget s output conn session entries track
 
--- the entries are those that were made of an order
-pub record Stands (rules : Rules) (sessions : Sessions) (outputs : List (List (List ℕ))) (state : State)
-    (entries : List MadeCall) : Type 0 where
+-- the entries are those that were made of an order, from a store with which the server began
+pub record Stands (rules : Rules) (lasting : BTreeSet (List ℕ)) (sessions : Sessions)
+    (outputs : List (List (List ℕ))) (began : Store) (state : State) (entries : List MadeCall) : Type 0 where
   pub shards : store_shards state.store ≡ rules.shards
   pub each : (conn session : ℕ) (s : Session) → session_at sessions conn session ≡ Some s
       → SessionStands rules s (output_in outputs conn session) state.rows.items conn session entries
   pub others : (conn session : ℕ) → session_at sessions conn session ≡ None → of_session conn session entries ≡ []
-  pub first : List ℕ → Option Item
-  pub cold : rules.warm ≡ false → (key : List ℕ) → first key ≡ None
-  pub chains : StandsAfter (may_lose_by rules sessions) first state.store entries
+  pub cold : rules.warm ≡ false → (key : List ℕ) → held_at began key ≡ None
+  pub chains : StandsAfter (may_lose_by rules lasting) (held_at began) state.store entries
+  pub bounds : KeepsBounds began state.store
   pub rises : AllPairs IsNotLater entries
   pub latest : All (λ (e : MadeCall). e.moment ≤ state.moment) entries
   pub within : (count : ℕ) (records : List Record) → SessionsHold sessions count records → state.moment ≤ length records
 
 -- some entries were made of an order
-abbrev pub StandsSome : Rules → Sessions → List (List (List ℕ)) → State → Type 0
-StandsSome rules sessions outputs state = (entries : List MadeCall) × Stands rules sessions outputs state entries
+abbrev pub StandsSome : Rules → BTreeSet (List ℕ) → Sessions → List (List (List ℕ)) → Store → State → Type 0
+StandsSome rules lasting sessions outputs began state =
+    (entries : List MadeCall) × Stands rules lasting sessions outputs began state entries
+
+-- whatever the store was at first, entries that were made of an order stand after a change of what was noted
+abbrev pub KeepsStanding : Rules → Sessions → List (List (List ℕ)) → State → State → Type 0
+KeepsStanding rules sessions outputs old new = (lasting : BTreeSet (List ℕ)) (began : Store)
+    → StandsSome rules lasting sessions outputs began old → StandsSome rules lasting sessions outputs began new
 
 -- ---- one call
 
@@ -206,3 +211,8 @@ pub record IsFreshRow (count : ℕ) (row : Row) : Type 0 where
 pub record AreFreshRows (sessions : Sessions) (count : ℕ) (rows : List Row) : Type 0 where
   pub size : length rows ≡ count
   pub each : (conn : ℕ) (row : Row) → slice_get rows conn ≡ Some row → IsFreshRow (sessions_on sessions conn) row
+
+-- before the first call, no entries were made from a store with which the server may have begun
+abbrev pub StandsAtFirst : Sessions → Store → State → Type 0
+StandsAtFirst sessions store state = (rules : Rules) (lasting : BTreeSet (List ℕ)) (outputs : List (List (List ℕ)))
+    → IsFirstStore rules store → StandsSome rules lasting sessions outputs store state

@@ -1,5 +1,8 @@
 pub mod Judged
+pub mod Lasting
 pub mod Making
 pub mod Over
 pub mod Following
 pub mod Ending
+pub mod Beginning
+pub mod Between

@@ -1,11 +1,13 @@
 //! Checks that an order of calls explains a recording.
 #![tactic(auto)]
 
+mod beginning;
 mod calling;
 mod carrying;
 mod confirming;
 mod ending;
 mod first;
+mod lasting;
 mod numbers;
 mod over;
 mod row;
@@ -13,8 +15,10 @@ mod rules;
 mod settling;
 mod state;
 mod track;
+mod window;
 
 pub use confirming::confirm;
 pub use first::{First, Firsts};
 pub use numbers::Numbers;
 pub use rules::Rules;
+pub use window::{Window, confirm_between};

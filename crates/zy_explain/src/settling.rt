@@ -1,6 +1,6 @@
 //! Ending the commands whose calls are all made.
 ghost use Rattle.std.specs.Prelude.{◌≡◌, ◌≤◌, true, IfOk};
-ghost use Rattle.zy_explain.specs.Following.{StandsSome};
+ghost use Rattle.zy_explain.specs.Following.{KeepsStanding};
 
 use crate::rules::Rules;
 use crate::state::{State, output_of};
@@ -21,9 +21,8 @@ impl State {
     ) -> Result<bool, NoMemory>
         requires some { 1 ≤ rules.shards }
         requires limit { rules.shards ≤ 256 }
-        requires stands { StandsSome rules sessions.now outputs.now.sessions self.old }
         ensures stands { IfOk result (λ done. done ≡ true
-            → StandsSome rules sessions.now outputs.now.sessions self.new) }
+            → KeepsStanding rules sessions.now outputs.now.sessions self.old self.new) }
     {
         for conn in 0..self.rows.len() {
             if !self.settle_row(alloc, rules, sessions, outputs, conn)? {
@@ -44,9 +43,8 @@ impl State {
     ) -> Result<bool, NoMemory>
         requires some { 1 ≤ rules.shards }
         requires limit { rules.shards ≤ 256 }
-        requires stands { StandsSome rules sessions.now outputs.now.sessions self.old }
         ensures stands { IfOk result (λ done. done ≡ true
-            → StandsSome rules sessions.now outputs.now.sessions self.new) }
+            → KeepsStanding rules sessions.now outputs.now.sessions self.old self.new) }
     {
         if conn >= self.rows.len() {
             return Ok(false);
@@ -71,9 +69,8 @@ impl State {
     ) -> Result<bool, NoMemory>
         requires some { 1 ≤ rules.shards }
         requires limit { rules.shards ≤ 256 }
-        requires stands { StandsSome rules sessions.now outputs.now.sessions self.old }
         ensures stands { IfOk result (λ done. done ≡ true
-            → StandsSome rules sessions.now outputs.now.sessions self.new) }
+            → KeepsStanding rules sessions.now outputs.now.sessions self.old self.new) }
     {
         if 4_294_967_295 < conn {
             return Ok(false);

@@ -1,12 +1,15 @@
 //! How far an order was followed.
 ghost use Rattle.std.specs.Prelude.{◌≡◌, ◌≤◌, true, length, IfOk};
-ghost use Rattle.zy_explain.specs.Following.{AreFreshRows, IsFirstStore, StandsSome, output_in};
+ghost use Rattle.zy_confirm.specs.Store.{store_shards};
+ghost use Rattle.zy_confirm.specs.declared.store.Store.{Store};
+ghost use Rattle.zy_explain.specs.Following.{AreFreshRows, StandsAtFirst, StandsSome, output_in};
 
 use crate::ending::sessions_on;
 use crate::row::Row;
 use crate::rules::Rules;
 use std::alloc::Global;
-use zy_base::NoMemory;
+use std::collections::BTreeSet;
+use zy_base::{Blob, NoMemory};
 use zy_capture::Outputs;
 use zy_confirm::Store;
 use zy_sessions::Sessions;
@@ -23,15 +26,9 @@ pub(crate) struct State {
 
 impl State {
     /// Begins before the first call, with a store that has the items that the server had at first.
-    pub(crate) fn new(
-        alloc: Global,
-        rules: Rules,
-        store: Store,
-        sessions: &Sessions,
-        outputs: &Outputs,
-    ) -> Result<State, NoMemory>
-        requires first { IsFirstStore rules store }
-        ensures none { IfOk result (StandsSome rules sessions.now outputs.now.sessions) }
+    pub(crate) fn new(alloc: Global, store: Store, sessions: &Sessions) -> Result<State, NoMemory>
+        ensures store { IfOk result (λ state. state.store ≡ store) }
+        ensures none { IfOk result (StandsAtFirst sessions.now store) }
     {
         match fresh_rows(alloc, sessions) {
             Ok(rows) => Ok(State {
@@ -51,15 +48,18 @@ impl State {
         &mut self,
         alloc: Global,
         rules: Rules,
+        lasting: &BTreeSet<Blob>,
         sessions: &Sessions,
         outputs: &Outputs,
         placement: &Placement,
     ) -> Result<bool, NoMemory>
         requires some { 1 ≤ rules.shards }
         requires limit { rules.shards ≤ 256 }
-        requires stands { StandsSome rules sessions.now outputs.now.sessions self.old }
-        ensures stands { IfOk result (λ made. made ≡ true
-            → StandsSome rules sessions.now outputs.now.sessions self.new) }
+        requires shards { store_shards self.old.store ≡ rules.shards }
+        ensures shards { IfOk result (λ made. made ≡ true → store_shards self.new.store ≡ rules.shards) }
+        ensures stands { IfOk result (λ made. made ≡ true → (began : Store)
+            → StandsSome rules lasting.now sessions.now outputs.now.sessions began self.old
+            → StandsSome rules lasting.now sessions.now outputs.now.sessions began self.new) }
     {
         let name = placement.name;
         let conn = name.conn as usize;
@@ -74,7 +74,7 @@ impl State {
         match self.rows[conn].follow(
             alloc,
             rules,
-            &sessions.lasting,
+            lasting,
             session,
             output,
             &mut self.store,

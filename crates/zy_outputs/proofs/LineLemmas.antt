@@ -178,16 +178,16 @@ found_by r (Other conn session index) (Observings.EarlyEnd moment) is refutes = 
 found_by r (Other conn session index) (Observings.Other own_conn own_session own_index) is refutes = tt
 found_by r (Other conn session index) (Observings.Calls calls) is refutes = absurd is
 
-module _ (sessions : Sessions) (count : ℕ) (records : List Record) (outputs : AllOutputs) (shards : ℕ) (warm forget : Bool) (h : SessionsHold sessions count records) where
+module _ (sessions : Sessions) (count : ℕ) (records : List Record) (outputs : AllOutputs) (shards : ℕ) (warm forget : Bool) (lasting : List (List ℕ)) (h : SessionsHold sessions count records) where
   -- what the lines give is of the whole recording
   pub lines_give : (rules : Rules) → rules ≡ record { shards = shards; forget = forget } → (calls : List Observed) (found : Option Finding) → LinesAreDone rules sessions.lines.items outputs [] calls found
-      → IsDone (recorded_of count records outputs shards warm forget) [] calls (all_calls (recorded_of count records outputs shards warm forget) count) found
+      → IsDone (recorded_of count records outputs shards warm forget lasting) [] calls (all_calls (recorded_of count records outputs shards warm forget lasting) count) found
   lines_give rules is calls found done =
-      done (recorded_of count records outputs shards warm forget) (subst (λ (own : Rules). Obeys own (recorded_of count records outputs shards warm forget)) (sym is) (record { shards = refl; forget = refl })) refl h.count_is h.each
+      done (recorded_of count records outputs shards warm forget lasting) (subst (λ (own : Rules). Obeys own (recorded_of count records outputs shards warm forget lasting)) (sym is) (record { shards = refl; forget = refl })) refl h.count_is h.each
 
   -- each command is of a session that is noted
-  among : (conn session : ℕ) (command : Command) (index : ℕ) → slice_get (session_commands (recorded_of count records outputs shards warm forget) conn session) index ≡ Some command
-      → IsAmong (recorded_of count records outputs shards warm forget) conn session
+  among : (conn session : ℕ) (command : Command) (index : ℕ) → slice_get (session_commands (recorded_of count records outputs shards warm forget lasting) conn session) index ≡ Some command
+      → IsAmong (recorded_of count records outputs shards warm forget lasting) conn session
   among conn session command index is = go (within_or_nothing sessions count records h conn session)
     where
       go : ((conn < count) × (session < closes conn records + 1)) ⊎ HasNothing records conn session → (conn < count) × (session < closes conn records + 1)
@@ -195,19 +195,19 @@ module _ (sessions : Sessions) (count : ℕ) (records : List Record) (outputs : 
       go (inr nothing) = absurd (let e : slice_get {X = Command} [] index ≡ Some command = subst (λ (cs : List Command). slice_get cs index ≡ Some command) nothing.commands is in cc)
 
   pub calls_found : (rules : Rules) → rules ≡ record { shards = shards; forget = forget } → (calls : List Observed) → LinesAreDone rules sessions.lines.items outputs [] calls None
-      → AreShown (recorded_of count records outputs shards warm forget) calls
+      → AreShown (recorded_of count records outputs shards warm forget lasting) calls
   calls_found rules is calls done =
-      all_shown (recorded_of count records outputs shards warm forget) calls (lines_give rules is calls None done) (λ command named of. among named.name.conn named.name.session command named.name.index of.is)
+      all_shown (recorded_of count records outputs shards warm forget lasting) calls (lines_give rules is calls None done) (λ command named of. among named.name.conn named.name.session command named.name.index of.is)
 
   pub finding_found : (rules : Rules) → rules ≡ record { shards = shards; forget = forget } → (calls : List Observed) (finding : Finding) (observing : Observing) → LinesAreDone rules sessions.lines.items outputs [] calls (Some finding)
-      → IsFoundBy finding observing → IsObserving (recorded_of count records outputs shards warm forget) observing
-  finding_found rules is calls finding observing done by = found_by (recorded_of count records outputs shards warm forget) finding observing by (lines_give rules is calls (Some finding) done)
+      → IsFoundBy finding observing → IsObserving (recorded_of count records outputs shards warm forget lasting) observing
+  finding_found rules is calls finding observing done by = found_by (recorded_of count records outputs shards warm forget lasting) finding observing by (lines_give rules is calls (Some finding) done)
 
   pub told_found : (rules : Rules) → rules ≡ record { shards = shards; forget = forget } → (calls : List Observed) (found : Option Finding) (observing : Observing) → LinesAreDone rules sessions.lines.items outputs [] calls found
-      → IsTold found calls observing → IsObserving (recorded_of count records outputs shards warm forget) observing
+      → IsTold found calls observing → IsObserving (recorded_of count records outputs shards warm forget lasting) observing
   told_found rules is calls None (Observings.Kind conn session index) done told = absurd told
   told_found rules is calls None (Observings.Surplus conn session) done told = absurd told
   told_found rules is calls None (Observings.EarlyEnd moment) done told = absurd told
   told_found rules is calls None (Observings.Other conn session index) done told = absurd told
-  told_found rules is calls None (Observings.Calls own) done told = subst (AreShown (recorded_of count records outputs shards warm forget)) (sym told) (calls_found rules is calls done)
+  told_found rules is calls None (Observings.Calls own) done told = subst (AreShown (recorded_of count records outputs shards warm forget lasting)) (sym told) (calls_found rules is calls done)
   told_found rules is calls (Some finding) observing done told = finding_found rules is calls finding observing done told

@@ -15,9 +15,10 @@ use Rattle.zy_outputs.specs.declared.finding.Finding.TheVariants as Findings
 use Rattle.zy_outputs.specs.declared.observing.Observing.{Observing}
 use Rattle.zy_outputs.specs.declared.observing.Observing.TheVariants.{Kind, Surplus, EarlyEnd, Other, Calls}
 
--- the recording of a capture's records and of outputs, by a server that may be so
-abbrev pub recorded_of : ℕ → List Record → AllOutputs → ℕ → Bool → Bool → Recorded
-recorded_of count records outputs shards warm forget =
+-- the recording of a capture's records and of outputs, by a server that may be so, if an exptime other than 0 was given
+-- to these keys before
+abbrev pub recorded_of : ℕ → List Record → AllOutputs → ℕ → Bool → Bool → List (List ℕ) → Recorded
+recorded_of count records outputs shards warm forget lasting =
     record {
       count = count;
       records = records;
@@ -25,6 +26,7 @@ recorded_of count records outputs shards warm forget =
       shards = shards;
       warm = warm;
       forget = forget;
+      lasting = lasting;
     }
 
 -- the output of a session refutes the command with this index: no answers of the commands before it, whatever the

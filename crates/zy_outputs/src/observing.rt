@@ -45,8 +45,8 @@ pub fn observe(
     requires some { 1 ≤ shards }
     requires limit { shards ≤ 256 }
     ensures value { IfOk result (λ observing. (count : ℕ) (records : List Record) (warm : Bool)
-        → SessionsHold sessions.now count records
-        → IsObserving (recorded_of count records outputs.now shards warm forget) observing) }
+        (lasting : List (List ℕ)) → SessionsHold sessions.now count records
+        → IsObserving (recorded_of count records outputs.now shards warm forget lasting) observing) }
 {
     let mut calls = Items::new(alloc);
     match observe_lines(

@@ -1,7 +1,8 @@
 //! Commands that are not followed, behind the answers of a session.
 ghost use Rattle.std.specs.Prelude.{◌≡◌, IfOk};
 ghost use Rattle.mc_kind.specs.Cutting.{IsCutting};
-ghost use Rattle.zy_outputs.specs.Others.{IsFirstOther, IsFollowedCutting, IsOtherBehind, is_loud_fault, is_unfollowed, may_be_hidden};
+ghost use Rattle.zy_outputs.specs.Others.{IsFirstOther, IsFollowedCutting, IsOtherBehind, is_loud_fault};
+ghost use Rattle.zy_outputs.specs.Others.{is_unfollowed, may_be_hidden};
 
 use mc_kind::{Cutting, cut_session};
 use mc_parse::{Command, Meta};

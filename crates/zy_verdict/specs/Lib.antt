@@ -4,3 +4,4 @@ pub mod Entries
 pub mod Explained
 pub mod Course
 pub mod Numbers
+pub mod Between

@@ -51,6 +51,7 @@ pub record HasExptimeIn (records : List Record) (key : List ℕ) : Type 0 where
 abbrev pub HasExptime : Recorded → List ℕ → Type 0
 HasExptime r key = HasExptimeIn r.records key
 
--- the item of the key may be lost at any time
+-- the item of the key may be lost at any time: each may be, or some command gives the key an exptime other than 0, or
+-- one did so before the recording began
 abbrev pub MayLoseAt : Recorded → List ℕ → Type 0
-MayLoseAt r key = (r.forget ≡ true) ⊎ HasExptime r key
+MayLoseAt r key = (r.forget ≡ true) ⊎ (HasExptime r key ⊎ Contains r.lasting key)

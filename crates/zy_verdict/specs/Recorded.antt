@@ -20,6 +20,8 @@ pub record Recorded : Type 0 where
   pub warm : Bool
   -- the server may have lost any item at any time
   pub forget : Bool
+  -- the keys to which an exptime other than 0 was given before the recording began
+  pub lasting : List (List ℕ)
 
 -- the commands of a session of a connection, in order
 abbrev pub session_commands : Recorded → ℕ → ℕ → List Command

@@ -1,5 +1,5 @@
 -- What is found of calls.
-use Rattle.std.proofs.Common.{◌≡◌, inl, inr, ℕ, Bool, true, false, List, length, refl, sym, ◌∙◌, ap, true≢false}
+use Rattle.std.proofs.Common.{◌≡◌, inl, inr, ℕ, ◌<◌, Bool, true, false, List, length, refl, sym, ◌∙◌, ap, true≢false, arith}
 use Rattle.std.proofs.lemmas.List.Elements.{All-contains}
 use Rattle.std.specs.Prelude.{Option, None, Some, Result, Ok, Err, IfOk, IfSome}
 use Rattle.std.specs.List.{slice_get}
@@ -40,7 +40,8 @@ noted_commands sessions count r conn session s hold is =
 -- where not every item may be lost, the item of a key may be lost only if some command gives the key an exptime
 pub lasting_lost : (rules : Rules) (count : ℕ) (records : List Record) (outputs : List (List (List ℕ))) (key : List ℕ) → rules.forget ≡ false → MayLoseAt (judged rules count records outputs) key → HasExptimeIn records key
 lasting_lost rules count records outputs key kept (inl forget) = let both : true ≡ false = sym forget ∙ kept in absurd (true≢false both)
-lasting_lost rules count records outputs key kept (inr given) = given
+lasting_lost rules count records outputs key kept (inr (inl given)) = given
+lasting_lost rules count records outputs key kept (inr (inr none)) = let below : none.0 < 0 = none.1 in absurd (omega (arith, below))
 
 pub store_so : (rules : Rules) (sessions : Sessions) (key : List ℕ) (forget : Bool) → ((count : ℕ) (records : List Record) (outputs : List (List (List ℕ))) → SessionsHold sessions count records → MayLoseAt (judged rules count records outputs) key → forget ≡ true)
     → (count : ℕ) (records : List Record) (outputs : List (List (List ℕ))) → SessionsHold sessions count records → IsStoreAt (judged rules count records outputs) key (record { warm = rules.warm; forget = forget })

@@ -14,4 +14,4 @@ returns-in-Ok c =
     let found = c.in-Ok.found in
     let here = subst (λ (own : List Line). LinesAreDone rules own outputs c.new-calls.result calls found) c.deref.ensures.value c.in-Ok.ensures.done in
     let done = subst (λ (old : List Observed). LinesAreDone rules c.args.sessions.now.lines.items outputs old calls found) c.new-calls.ensures.value here in
-    record { value = λ count records warm h. told_found c.args.sessions.now count records outputs c.args.shards warm c.args.forget h rules refl calls found c.told_by.result done c.told_by.ensures.value }
+    record { value = λ count records warm lasting h. told_found c.args.sessions.now count records outputs c.args.shards warm c.args.forget lasting h rules refl calls found c.told_by.result done c.told_by.ensures.value }

@@ -1,4 +1,4 @@
-use Rattle.std.proofs.Common.{ℕ, List, Some, refl, sym, ◌∙◌, subst}
+use Rattle.std.proofs.Common.{rules, ℕ, List, Some, refl, sym, ◌∙◌, subst}
 use Rattle.std.specs.Ordering.{nat_cmp}
 use Rattle.std.specs.Cmp.Lexicographic.{slice_cmp}
 use Rattle.std.specs.BTreeMap.{Updates}
@@ -12,5 +12,6 @@ returns-in-Ok-insert c = record {
       let old = c.args.self.now in
       put_changes old _ c.args.key.now c.args.shard c.index_mut.result.now c.insert-2.new.self c.requires.within c.requires.own
       (slice_get_read old.shards.items _ c.args.shard c.index_mut.result.now refl c.requires.within c.index_mut.ensures.value) refl
-      c.args.item (subst (λ (k : List ℕ). Updates (slice_cmp nat_cmp) c.index_mut.result.now c.insert-2.new.self k (Some c.args.item)) c.in-Ok.ensures.value c.in-Ok-insert.ensures.updates) refl c.mark_of-mark.result c.mark_of-mark.ensures.value (sym c.in-Ok-true.field-0-test ∙ c.in-Ok-true.ensures.added) c.in-Ok-true.ensures.updates.0 c.in-Ok-true.ensures.updates.1;
+      c.args.item (subst (λ (k : List ℕ). Updates (slice_cmp nat_cmp) c.index_mut.result.now c.insert-2.new.self k (Some c.args.item)) c.in-Ok.ensures.value c.in-Ok-insert.ensures.updates) refl c.mark_of-mark.result c.mark_of-mark.ensures.value (sym c.in-Ok-true.field-0-test ∙ c.in-Ok-true.ensures.added) c.in-Ok-true.ensures.updates.0 c.in-Ok-true.ensures.updates.1
+      (search rules) (search rules) (search rules);
 }

@@ -14,9 +14,9 @@ returns c =
     let within = c.if-conn-len.false in
     let long = c.len.ensures in
     record {
-      stands = λ done. ended_some c.args.rules c.args.sessions.now c.args.outputs.now.sessions old _ c.args.conn c.args.number s row other
+      stands = λ done lasting began stands. ended_some c.args.rules lasting c.args.sessions.now c.args.outputs.now.sessions began old _ c.args.conn c.args.number s row other
           (sym c.in-Some.ensures.value)
           (slice_get_read rows (length rows) c.args.conn row refl (omega (arith, within, long)) c.index_mut.ensures.value)
           (subst (λ (o : List ℕ). RowSettles c.args.rules s o row other c.args.number) c.output_of-output.ensures.value (c.in_ok-done.ensures.settled done))
-          refl refl refl c.requires.stands;
+          refl refl refl stands;
     }
