@@ -1,0 +1,9 @@
+pub mod RecordLemmas
+pub mod WindowLemmas
+pub mod OutputLemmas
+pub mod StepLemmas
+pub mod EntryLemmas
+pub mod JoinLemmas
+pub mod NumberLemmas
+pub mod ChainLemmas
+pub mod ConnectionLemmas
