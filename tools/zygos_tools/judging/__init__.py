@@ -22,4 +22,5 @@
 | `certificate` | the capture, the journal and the replies that `linear` and `zygos check` take, with what is translated |
 | `judge` | all this, one after the other |
 | `asking` | asks the proved program `judge` before that |
+| `windows` | judges the windows of a recording, and keeps what was found |
 """

@@ -3,6 +3,7 @@
 usage: tools/judge [--check] [--out FILES] [--order FILE] [--over] [--shards N] [--times KIND] [--warm] [--may-forget]
                    [--keys GLOBS] [--except-keys GLOBS] [--first] [--json] [--seconds N] [--states N] [--processes N]
                    CAPTURE REPLIES
+       tools/judge --windows FOLDER [options]
 
     tools/judge --check examples/shared.cap examples/shared.replies
 
@@ -27,6 +28,8 @@ CAPTURE, REPLIES  what clients sent and what the server answered, best as `tools
               a part is used to fit keys to each other)
 --states N    gives up on a key after N of its states (if left out, 200,000)
 --processes N  searches keys in N processes (if left out, as many as there are processors that are not busy)
+--windows FOLDER  judges the windows of `tools/record --every`, N at a time, all but the first with --warm, and keeps
+              in FOLDER/NAME.judged what it finds, so that a later run judges only what is new
 
 The first line is `order found, by search: ..`, and a second one says what is translated; `no: ..`, with a few commands
 that no order explains; or `unknown: ..`, with the reason. Then follow how many keys have an order, and a line for each
@@ -42,7 +45,9 @@ line of a verdict says so.
 """
 from __future__ import annotations
 
+import contextlib
 import gc
+import io
 import json
 import os
 import re
@@ -61,7 +66,7 @@ from zygos_tools.files.formats import Output, shown
 from zygos_tools.files.inputs import capture_alone, outputs_in
 from zygos_tools.files.outputs import Beside, refuse_full, told_apart
 from zygos_tools.files.part import Fault
-from zygos_tools.judging import asking, sharing
+from zygos_tools.judging import asking, sharing, windows
 from zygos_tools.judging.certificate import Certificate
 from zygos_tools.judging.clock import Clock
 from zygos_tools.judging.events import No, Unknown, Verdict, counted
@@ -85,6 +90,7 @@ NOT_CLOSED = "commands name keys that are left out too, so no checker is asked"
 NOT_CERTIFIED = "not certified: --check asks the proved program, and --out FILES keeps the files for it"
 BY_PROGRAM = "order found, by the proved program, on the bytes as they were recorded"
 OF_TRANSLATED = "order found, by the proved program, on the bytes as they are translated"
+NO_CHECKER = "the proved program that certifies an order has no verdict"
 REFUSED = "the proved program refuses this order, so there is no verdict; please report it, with the recording"
 # how much processor time the search has
 SECONDS = 600
@@ -104,7 +110,8 @@ OPTIONS: dict[str, ends.Option | None] = {
            "--times": ("ends, segments or none", lambda word: word if word in (ENDS, SEGMENTS, NONE) else None),
            "--warm": None, "--may-forget": None, "--keys": GLOBS, "--except-keys": GLOBS, "--first": None,
            "--json": None,
-           "--seconds": ends.number(1), "--states": ends.number(1), "--processes": ends.number(1, 64)}
+           "--seconds": ends.number(1), "--states": ends.number(1), "--processes": ends.number(1, 64),
+           "--windows": ("a folder", lambda word: word or None)}
 
 
 def chosen_by(given: dict[str, Any]) -> Callable[[bytes], bool] | None:
@@ -453,10 +460,35 @@ class Judging:
         print(json.dumps({"verdict": "fault", "fault": why, "seconds": round(time.monotonic() - self.begun, 1)}))
 
 
+def line_of(names: list[str], given: dict[str, Any]) -> str:
+    """The line of --json about a recording."""
+    gc.disable()  # what is read stays to the end
+    said = io.StringIO()
+    judging = Judging(names, {**given, "--json": True, "--processes": 1})
+    with contextlib.redirect_stdout(said):
+        try:
+            judging.run()
+        except (Fault, OSError, MemoryError, ends.Stop) as fault:
+            judging.say_fault(fault)
+        except ends.End:
+            return json.dumps({"verdict": "fault", "fault": NO_CHECKER})
+    return said.getvalue()
+
+
+def judge_windows(given: dict[str, Any], names: list[str]) -> int:
+    """Judges the windows of a folder. Gives the status."""
+    alone = [option for option in windows.ALONE if option in given]
+    if names or alone:
+        ends.stop(f"--windows FOLDER takes no {alone[0] if alone else 'other files'}; --help has the options", 2)
+    return windows.Judging(given, line_of, ZYGOS).run()
+
+
 def main(words: list[str]) -> None:
-    """Judges a recording."""
+    """Judges a recording, or its windows."""
     ends.tell_failures_apart()
     given, names = ends.options(words, OPTIONS)
+    if "--windows" in given:
+        ends.end(judge_windows(given, names))
     if len(names) != 2 or names.count("-") > 1:
         ends.stop("judge takes [options] CAPTURE REPLIES; --help has the options", 2)
     gc.disable()  # what is read stays to the end

@@ -22,6 +22,10 @@ from zygos_tools.protocol.answers import FAULT
 from zygos_tools.protocol.meaning import line_of
 
 
+# of a recording without commands
+NOTHING = "no command was recorded"
+
+
 class Unfitted(Unknown):
     """The orders of some keys were not fitted to each other."""
 
@@ -45,7 +49,7 @@ class Judge:
         self.clock.set("reading answers")
         unfollowed = pairing.pair(self.recording, outputs)
         if not self.table.verb:
-            raise Unknown("no command was recorded")
+            raise Unknown(NOTHING)
         self.kind = times.set_times(self.recording, kind)
         leave_out_entering(self.recording)
         if asks and not unfollowed:
