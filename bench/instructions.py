@@ -19,9 +19,9 @@ usage: bench/run instructions [--traffic KIND] [--commands N] [--keys N] [--func
 --commands N   the number of commands (200000)
 --keys N       the number of keys of cache (half the commands)
 --functions N  the number of functions (40)
---check        counts 20,000 commands of our programs only, and the resident bytes of 100,000 in a run and a check; the
-               status is 1 if a command takes more than its bound. `linear` and `judge` are those that were built
-               beside PROGRAM, or are left out
+--check        counts 20,000 commands of our programs only, with the misses of a second cache of 1 MiB in a run, and the
+               resident bytes of 100,000 in a run and a check; the status is 1 if a command takes more than its bound.
+               `linear` and `judge` are those that were built beside PROGRAM, or are left out
 --note         writes them into bench/figures.json, which the pages quote
 PROGRAM        a program that is built (if left out, the repository's, which is proved and built first if it isn't)
 """
@@ -40,12 +40,15 @@ ALONE = ["run", "--cores", "1", "--threads", "1"]
 BOTH = [*ALONE, "--out", "both"]
 # For --check, the number of commands and the bounds on the instructions of one: 3 % more than it takes.
 FEW = 20_000
-MOST = {common.GENERATED: {"run": 5_310, "both": 8_630, "check": 10_980},
-        common.CACHE: {"run": 2_810, "both": 3_670, "check": 7_040},
+MOST = {common.GENERATED: {"run": 5_440, "both": 7_310, "check": 10_310},
+        common.CACHE: {"run": 2_620, "both": 3_150, "check": 6_240},
         "recorded": {"linear": 7_710, "judge": 15_420}}
 # The same for resident bytes: 10 % more than it takes. Of few commands they would be those of this script.
 MANY = 100_000
-MOST_BYTES = {common.GENERATED: {"run": 810, "check": 1_370}, common.CACHE: {"run": 610, "check": 900}}
+MOST_BYTES = {common.GENERATED: {"run": 804, "check": 1_370}, common.CACHE: {"run": 603, "check": 900}}
+# The caches that cachegrind simulates: the first with 32 KiB, the second with 1 MiB. The same bound for misses of the second.
+CACHES = ["--cache-sim=yes", "--I1=32768,8,64", "--D1=32768,8,64", "--LL=1048576,16,64"]
+MOST_MISSES = {common.GENERATED: 30.6, common.CACHE: 19.0}
 # The groups of bench/figures.json.
 GROUPS = {common.GENERATED: "instructions", common.CACHE: "instructions, cache"}
 # The functions by which a segment is fed.
@@ -103,6 +106,17 @@ def counted(room, path, command):
     return Count(out)
 
 
+def missed(room, path, command):
+    """The reads and writes of a command that reads this file which the second simulated cache misses."""
+    out = os.path.join(room, "misses")
+    common.run(["valgrind", "--tool=cachegrind", *CACHES, "--cachegrind-out-file=" + out, *command], path,
+               stderr=subprocess.DEVNULL)
+    with open(out, encoding="utf-8", errors="replace") as file:
+        words = dict(line.split(":", 1) for line in file if line.startswith(("events:", "summary:")))
+    found = dict(zip(words["events"].split(), map(int, words["summary"].split())))
+    return found["DLmr"] + found["DLmw"]
+
+
 def traffic(given, program, room, commands):
     """The path of a capture of the traffic that was asked for, and its numbers of commands and of segments."""
     commands = max(1, commands // common.CONNECTIONS) * common.CONNECTIONS
@@ -137,6 +151,13 @@ def is_within(room, path, command, kind, work):
     return each <= most
 
 
+def is_within_misses(room, path, command, kind):
+    """Checks whether a command of a run misses the second cache at most as often as its bound says, and prints both."""
+    each, most = missed(room, path, command) / FEW, MOST_MISSES[kind]
+    print(f"{kind} run misses: {each:.1f} a command of {FEW:,}, of a cache of 1 MiB; the bound is {most}", flush=True)
+    return each <= most
+
+
 def is_within_memory(path, command, kind, work):
     """Checks whether a command takes at most its bound of memory, and prints both."""
     each, most = common.run(command, path).resident / MANY, MOST_BYTES[kind][work]
@@ -150,6 +171,7 @@ def check(given, program, room):
     whole = joined(program, BOTH, path, room)
     run, checking = [program, *ALONE], [program, "check"]
     within = {"run": is_within(room, path, run, kind, "run"),
+              "run misses": is_within_misses(room, path, run, kind),
               "both": is_within(room, path, [program, *BOTH], kind, "both"),
               "check": is_within(room, whole, checking, kind, "check")}
     path = traffic(given, program, room, MANY)[0]
