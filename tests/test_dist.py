@@ -228,6 +228,11 @@ class Taken(Dist):
         self.assertEqual(["it fails", f"zygos: {self.room}/kit/failing does not make a program of dist/zygos.s and dist/rt.c"],
                          said.splitlines()[:2])
 
+    def test_missing_headers_are_named(self):
+        self.write("../kit/bare", "#!/bin/sh\ncase \"$*\" in -E*) ! grep -q errno ;; *) exit 1 ;; esac\n", 0o755)
+        said = self.run_it("zygos", "check", has_rt=False, CC=f"{self.room}/kit/bare")[1]
+        self.assertEqual("zygos: the headers of the C library are missing: apt-get install libc6-dev", said.splitlines()[1])
+
     def test_an_old_assembler_is_given_numbers_for_names_in_quotes(self):
         self.write("crates/zygos/src/main.rt", PROGRAM.replace(".Lmore", '"more::<#1>"'))
         self.assertEqual((0, "tools/release: dist/zygos.s is of this source\n"), self.run_it("tools/release", skipped=2))

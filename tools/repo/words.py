@@ -5,6 +5,7 @@ of the program's crate. They come from rt's own script, so that what tools/relea
 """
 import importlib.machinery
 import importlib.util
+import inspect
 import os
 import sys
 
@@ -19,13 +20,21 @@ def rt_of(kit):
     return module
 
 
+def crates_in(rt, root):
+    """Returns the crates of the repository, which stay as they are: some kits' own list of them first sets aside what was built."""
+    if len(inspect.signature(rt.crates_of).parameters) == 1:
+        return rt.crates_of(root)
+    rt.rtlib.Crate = rt.Crate
+    return rt.rtlib.crates_below(root)
+
+
 def main(kit, root, name):
     rt = rt_of(kit)
     os.chdir(root)
     # as `rt ci` has it: the crates above a library load its statements
     rt.Crate.cuts_libraries = True
     rt.Crate.allowed = rt.handles_of(root)
-    crate = next(crate for crate in rt.crates_of(root) if crate.name == name)
+    crate = next(crate for crate in crates_in(rt, root) if crate.name == name)
     print(*crate.words(["--jobs", "1"], keeps=False), sep="\n")
 
 

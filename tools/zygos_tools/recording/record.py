@@ -29,9 +29,9 @@ without them.
 With --every the files are my.000001.cap and my.000001.replies, my.000002.cap and so on. Each is there once it is
 whole, the replies first. A window ends at a quiet moment: clients are held until no command is in flight, and then go
 on in the next one, where an open connection is a new one. The first try holds them for 0.1 seconds. If it fails,
-clients go on; it is said, and tried again a second later, each time for twice as long, up to 0.8 seconds. A try fails
-if a client has sent only a part of a command, or if its last command has `noreply`. A window also ends at 3 GiB. --over
-removes older windows.
+clients go on; it is said, and tried again a second later, each time for twice as long, up to 0.8 seconds, until a try
+succeeds. A try fails if a client has sent only a part of a command, or if its last command has `noreply`. A window also
+ends at 3 GiB. --over removes older windows.
 
 With several processes or windows, what comes is in REPLIES.spool.0 and so on until the files are written; --repair
 completes a window too, by the names of its files.
