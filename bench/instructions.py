@@ -42,7 +42,7 @@ BOTH = [*ALONE, "--out", "both"]
 FEW = 20_000
 MOST = {common.GENERATED: {"run": 5_440, "both": 7_310, "check": 10_310},
         common.CACHE: {"run": 2_620, "both": 3_150, "check": 6_240},
-        "recorded": {"linear": 7_710, "judge": 15_420}}
+        "recorded": {"linear": 7_020, "judge": 10_770}}
 # The same for resident bytes: 10 % more than it takes. Of few commands they would be those of this script.
 MANY = 100_000
 MOST_BYTES = {common.GENERATED: {"run": 804, "check": 1_370}, common.CACHE: {"run": 603, "check": 900}}
