@@ -301,7 +301,7 @@ class Judging:
         return self.conclude()
 
     def search(self, kept: Kept) -> None:
-        """Judges each window that is there and of which nothing is known."""
+        """Judges each complete window without a kept result."""
         first = self.windows[0].number if "--warm" in self.given else 1
         there = {window.number: window for window in self.windows if window.is_there()}
         self.missing = [number for number in range(first, self.windows[-1].number + 1) if number not in there]
