@@ -37,7 +37,7 @@ NO_KEY = "no key "
 STATUS = {FOUND: 0, "no": 1, "unknown": 7}
 # options that are for one recording
 ALONE = ("--out", "--order", "--over")
-# of how many windows without an order something is said
+# how many windows without an order are named
 MOST_FAULTS = 100
 PIECE = 1 << 20
 
@@ -96,7 +96,7 @@ def sum_of_judge(zygos: str) -> str:
 
 
 def state_of(path: str) -> list[int]:
-    """What changes if a file is written: its size, and the time and the place of its bytes."""
+    """What changes if a file is written: its size, its time and its inode."""
     found = os.stat(path)
     return [found.st_size, found.st_mtime_ns, found.st_ino]
 
