@@ -1,6 +1,6 @@
 -- A shard after a get.
-use Rattle.std.proofs.Common.{◌≡◌, ℕ, ◌+◌, ◌<◌, ◌≤◌, ◌^◌, List, [], ◌∷◌, ◌++◌, Bool, true, false, refl, sym, ap, subst, ◌∙◌, arith}
-use Rattle.std.specs.Prelude.{Option, Some, None, IfSome, is_some}
+use Rattle.std.proofs.Common.{◌≡◌, ℕ, ◌<◌, ◌^◌, List, [], ◌∷◌, ◌++◌, Bool, true, false, refl, sym, ap, subst, ◌∙◌, arith}
+use Rattle.std.specs.Prelude.{Option, Some, None, is_some}
 use Rattle.mc_calls.specs.declared.item.Item.{Item}
 use Rattle.mc_calls.specs.declared.entry.Tag.{Tag}
 use Rattle.mc_calls.specs.declared.call.Call.TheVariants.{Get}
@@ -9,7 +9,6 @@ use Rattle.mc_calls.specs.declared.tallied.Tallied.{Tallied}
 use Rattle.mc_calls.specs.Bounds.{FitsReply}
 use Rattle.mc_calls.specs.Counted.{calls_with}
 use Rattle.mc_calls.specs.Shard.{State, Items, tallied, with_calls, outcome_of, reply_to}
-use Rattle.mc_calls.specs.Order.{last_stamp}
 use Rattle.mc_stats.specs.declared.counts.Counts.{Counts}
 use Rattle.mc_stats.specs.Counts.{with_get}
 use Rattle.mc_history.specs.declared.stored_item.StoredItem.{StoredItem}
@@ -17,9 +16,9 @@ use Rattle.mc_history.specs.Recorded as ledgers
 use Rattle.mc_history.specs.Recorded.{Recorded, recorded, item_at}
 use Rattle.mc_shard.specs.declared.contents.Contents.{Contents}
 use Rattle.mc_shard.specs.Contents.{AreCounts, call_counts_in}
-use Rattle.mc_shard.specs.Buckets.{place_in}
+use Rattle.mc_shard.specs.Places.{place_in, all_keys}
 use Rattle.mc_shard.specs.Shard.{Kept, kept, last_of, reply_of, entry_of, with_entry}
-use Rattle.mc_shard.specs.Index.{items_at, IsFor, found_at, reply_at, contents_in, IsIndex, IsIndexed}
+use Rattle.mc_shard.specs.Index.{items_at, found_at, reply_at, contents_in, IsIndexed}
 use Rattle.mc_shard.proofs.IndexLemmas.{item_got}
 use Rattle.mc_shard.proofs.CountLemmas.{few_gets, few_sets}
 use Rattle.mc_shard.proofs.SoundLemmas.{IsSound-got}
@@ -42,12 +41,12 @@ reply_by : (counts : Tallied) (stored : List StoredItem) (key : List ℕ) (found
 reply_by counts stored key None = refl
 reply_by counts stored key (Some place) = refl
 
-reply_found : (stored : List StoredItem) (contents : Contents) (key : List ℕ) (found : Option ℕ) → found ≡ place_in contents.places key
+reply_found : (stored : List StoredItem) (contents : Contents) (key : List ℕ) (found : Option ℕ) → found ≡ place_in (all_keys stored contents.places) key
     → reply_at stored found ≡ reply_to (contents_in stored contents) (Get key)
 reply_found stored contents key found is =
     let counts : Tallied = tallied (contents_in stored contents) in
     reply_by counts stored key found
-    ∙ ap (λ (o : Option Item). (outcome_of counts (Get key) o).reply) (ap (found_at stored) is ∙ sym (item_got stored contents.places key))
+    ∙ ap (λ (o : Option Item). (outcome_of counts (Get key) o).reply) (ap (found_at stored) is ∙ sym (item_got stored (all_keys stored contents.places) key))
 
 -- ---- the counts
 
@@ -65,7 +64,7 @@ counts_got false counts count items are =
 -- ---- the shard
 
 module _ (number shards last stamp : ℕ) (contents contents' : Contents) (ledger ledger' : Recorded) (tag : Tag) (key : List ℕ) (found : Option ℕ) (indexed : IsIndexed number shards last contents ledger)
-    (is : found ≡ place_in contents.places key) (ledger_is : ledger' ≡ ledgers.with_entry ledger tag stamp (Get key) (reply_at ledger.stored found)) where
+    (is : found ≡ place_in (all_keys ledger.stored contents.places) key) (ledger_is : ledger' ≡ ledgers.with_entry ledger tag stamp (Get key) (reply_at ledger.stored found)) where
   pub indexed_got : contents' ≡ record contents { counts = with_get (is_some found) contents.counts } → last < stamp → tag.part < 2 ^ 32 → FitsReply (reply_at ledger.stored found)
       → IsIndexed number shards stamp contents' ledger'
   indexed_got contents_are above part fits =
@@ -74,8 +73,9 @@ module _ (number shards last stamp : ℕ) (contents contents' : Contents) (ledge
       rw (ledger_is, contents_are) (record {
         here = indexed.here;
         index = record {
+          lines = indexed.index.lines;
           places = indexed.index.places;
-          counts_are = counts_got (is_some found) contents.counts contents.count (items_at ledger.stored contents.places) indexed.index.counts_are;
+          counts_are = counts_got (is_some found) contents.counts contents.count (items_at ledger.stored (all_keys ledger.stored contents.places)) indexed.index.counts_are;
         };
         sound = IsSound-got number shards last stamp before (contents_in ledger.stored (record contents { counts = with_get (is_some found) contents.counts }))
             ledger.entries (ledger.entries ++ ledgers.entry_of tag ledger.shard (Get key) reply stamp ∷ []) tag key reply indexed.sound

@@ -1,8 +1,9 @@
 -- The items at the places of their keys: what a change of the places, and of what was stored, changes.
-use Rattle.std.proofs.Common.{◌≡◌, ◌≢◌, ℕ, zero, suc, ◌+◌, ◌-◌, ◌<◌, ◌≤◌, ◌^◌, Bool, true, false, cond, List, [], ◌∷◌, ◌++◌, length, set, get_or, refl, sym, ap, subst, ◌∙◌, arith, length-append, length-set, get_or-set_same, slice_get}
-use Rattle.std.specs.Prelude.{Option, Some, None, IfSome, is_some, option_map}
+use Rattle.std.proofs.Common.{◌≡◌, ◌≢◌, ◌⊎◌, inl, inr, eqb, ℕ, zero, suc, ◌+◌, ◌<◌, ◌≤◌, Bool, true, false, cond, List, [], ◌∷◌, ◌++◌, length, set, get_or, refl, sym, ap, subst, ◌∙◌, arith, length-append, length-set, get_or-set_same}
+use Rattle.std.specs.Prelude.{Option, Some, None, IfSome, is_some}
+use Rattle.std.proofs.lemmas.Bool.Decides.{eqb_tells}
 use Rattle.std.specs.BTreeMap.{is_at}
-use Rattle.std.specs.FinMap.{get, insert, remove, contains_key, empty}
+use Rattle.std.specs.FinMap.{get, insert, remove, contains_key}
 use Rattle.std.proofs.Math.ListN.{get_or-append}
 use Rattle.std.proofs.Math.Seq.{get_or-append_seam}
 use Rattle.mc_calls.specs.declared.item.Item.{Item}
@@ -13,9 +14,14 @@ use Rattle.mc_stats.specs.Counts as stats
 use Rattle.mc_history.specs.declared.stored_item.StoredItem.{StoredItem}
 use Rattle.mc_history.specs.Recorded.{item_at, keyed, nothing}
 use Rattle.mc_shard.specs.declared.contents.Contents.{Contents}
-use Rattle.mc_shard.specs.Contents.{AreCounts, hashed_cmp, item_in, items_in, call_counts_in, with_item, without_item, without_items}
-use Rattle.mc_shard.specs.Buckets.{Keyed, place_in, IsWith}
-use Rattle.mc_shard.specs.Index.{pair_at, seen, items_at, IsFor, ArePlaces, found_at, place_at, contents_in, no_contents, IsIndex}
+use Rattle.mc_shard.specs.Contents.{hashed_cmp, item_in, call_counts_in, with_item, without_item, without_items}
+use Rattle.mc_calls.specs.Key.{hash_of}
+use Rattle.mc_shard.specs.declared.slot.Slot.{Slot}
+use Rattle.mc_shard.specs.declared.slot.Spot.{Spot}
+use Rattle.mc_shard.specs.declared.slot.Spot.TheVariants as Spots
+use Rattle.mc_shard.specs.Places.{Keyed, Held, Table, place_in, key_at, keys_in, keys_among, all_keys, no_places, slots_of, had_by, IsFirstAt, IsFor, IsWith, AreSlots, AreLines, IsAt, IsSpot, IsPut}
+use Rattle.mc_shard.specs.Index.{seen, items_at, ArePlaces, found_at, place_at, contents_in, no_contents, IsIndex}
+use Rattle.mc_shard.proofs.PlaceLemmas.{are_at}
 use Rattle.mc_shard.proofs.MapLemmas.{get-items_in, items_in-stored, items_in-removed, items_in-same, same_at, at_itself}
 use Rattle.mc_shard.proofs.CountLemmas.{counts_none, counts_put, counts_removed, counts_cleared, calls-put, calls-removed, some_items}
 
@@ -140,126 +146,177 @@ new_for stored x = record {
   key_is = ap (λ (y : StoredItem). y.key) (get_or-append_seam stored x [] nothing);
 }
 
+-- what was stored last has this key
+pub last_key : (stored stored' : List StoredItem) (x : StoredItem) (place : ℕ) → stored' ≡ stored ++ x ∷ [] → place ≡ length stored → (item_at stored' place).key ≡ x.key
+last_key stored stored' x place is at =
+    ap (λ (s : List StoredItem). (item_at s place).key) is ∙ ap (λ (n : ℕ). (item_at (stored ++ x ∷ []) n).key) at ∙ (new_for stored x).key_is
+
 -- ---- the contents
 
 abbrev state : Items → ℕ → CallCounts → State
 state items count calls = record { items = items; count = count; calls = calls }
 
 pub index_none : IsIndex [] no_contents
-index_none = record { places = λ key. tt; counts_are = counts_none }
+index_none = record { lines = tt; places = λ key. tt; counts_are = counts_none }
 
 -- a shard without contents has nothing stored, whatever was stored before
-pub index_cleared : (old stored : List StoredItem) (contents contents' : Contents) → contents' ≡ record contents { places = []; counts = stats.without_items contents.counts }
+pub index_cleared : (old stored : List StoredItem) (contents contents' : Contents) → contents' ≡ record contents { places = no_places; counts = stats.without_items contents.counts }
     → IsIndex old contents → IsIndex stored contents' × (contents_in stored contents' ≡ without_items (contents_in old contents))
 index_cleared old stored contents contents' is index =
-    rw (is) (record { places = λ key. tt; counts_are = counts_cleared contents.counts contents.count (items_at old contents.places) index.counts_are }, refl)
+    rw (is) (record { lines = tt; places = λ key. tt; counts_are = counts_cleared contents.counts contents.count (items_at old (all_keys old contents.places)) index.counts_are }, refl)
 
 -- the item of a key is put at this place
 module _ (old new : List StoredItem) (c c' : Contents) (key : List ℕ) (place : ℕ) (item : Item) (before : Option ℕ)
-    (on : GoesOn old new c.places key) (index : IsIndex old c) (is : IsFor new key place) (item_is : (item_at new place).item ≡ item)
-    (changed : IsWith c.places key (Some place) c'.places) (count_is : c'.count ≡ c.count + 1)
-    (counts_are : c'.counts ≡ cond (is_some before) c.counts (stats.with_item c.counts)) (before_is : before ≡ place_in c.places key) where
-  items_are : items_at new c'.places ≡ insert (items_at old c.places) key item
-  items_are = items_put old new c.places c'.places key place on changed ∙ ap (insert (items_at old c.places) key) item_is
+    (on : GoesOn old new (all_keys old c.places) key) (index : IsIndex old c) (lines : AreLines new c'.places.lines) (is : IsFor new key place) (item_is : (item_at new place).item ≡ item)
+    (changed : IsWith (all_keys old c.places) key (Some place) (all_keys new c'.places)) (count_is : c'.count ≡ c.count + 1)
+    (counts_are : c'.counts ≡ cond (is_some before) c.counts (stats.with_item c.counts)) (before_is : before ≡ place_in (all_keys old c.places) key) where
+  items_are : items_at new (all_keys new c'.places) ≡ insert (items_at old (all_keys old c.places)) key item
+  items_are = items_put old new (all_keys old c.places) (all_keys new c'.places) key place on changed ∙ ap (insert (items_at old (all_keys old c.places)) key) item_is
 
-  had : contains_key (items_at old c.places) key ≡ is_some before
-  had = has_item old c.places key ∙ ap is_some (sym before_is)
+  had : contains_key (items_at old (all_keys old c.places)) key ≡ is_some before
+  had = has_item old (all_keys old c.places) key ∙ ap is_some (sym before_is)
 
   pub index_put : IsIndex new c'
   index_put = record {
-    places = places_put old new c.places c'.places key place on changed is;
-    counts_are = rw (counts_are, count_is, items_are) (counts_put c.counts c.count (items_at old c.places) key item (is_some before) had index.counts_are);
+    lines = lines;
+    places = places_put old new (all_keys old c.places) (all_keys new c'.places) key place on changed is;
+    counts_are = rw (counts_are, count_is, items_are) (counts_put c.counts c.count (items_at old (all_keys old c.places)) key item (is_some before) had index.counts_are);
   }
 
   pub contents_put : contents_in new c' ≡ with_item (contents_in old c) (Some key) item
   contents_put =
       ap (λ (items : Items). state items c'.count (call_counts_in c'.counts)) items_are
-      ∙ ap (λ (n : ℕ). state (insert (items_at old c.places) key item) n (call_counts_in c'.counts)) count_is
-      ∙ ap (λ (calls : CallCounts). state (insert (items_at old c.places) key item) (c.count + 1) calls) (ap call_counts_in counts_are ∙ calls-put c.counts (is_some before))
+      ∙ ap (λ (n : ℕ). state (insert (items_at old (all_keys old c.places)) key item) n (call_counts_in c'.counts)) count_is
+      ∙ ap (λ (calls : CallCounts). state (insert (items_at old (all_keys old c.places)) key item) (c.count + 1) calls) (ap call_counts_in counts_are ∙ calls-put c.counts (is_some before))
 
 -- the item of a key is removed
-module _ (stored : List StoredItem) (c c' : Contents) (key : List ℕ) (index : IsIndex stored c) (changed : IsWith c.places key None c'.places) (count_is : c'.count ≡ c.count)
-    (counts_are : c'.counts ≡ cond (is_some (place_in c.places key)) (stats.without_item c.counts) c.counts) where
+module _ (stored : List StoredItem) (c c' : Contents) (key : List ℕ) (index : IsIndex stored c) (lines : AreLines stored c'.places.lines)
+    (changed : IsWith (all_keys stored c.places) key None (all_keys stored c'.places)) (count_is : c'.count ≡ c.count)
+    (counts_are : c'.counts ≡ cond (is_some (place_in (all_keys stored c.places) key)) (stats.without_item c.counts) c.counts) where
   pub index_out : IsIndex stored c'
   index_out = record {
-    places = places_out stored c.places c'.places key changed index.places;
-    counts_are = rw (counts_are, count_is, items_out stored c.places c'.places key changed)
-        (counts_removed c.counts c.count (items_at stored c.places) key (is_some (place_in c.places key)) (has_item stored c.places key) index.counts_are);
+    lines = lines;
+    places = places_out stored (all_keys stored c.places) (all_keys stored c'.places) key changed index.places;
+    counts_are = rw (counts_are, count_is, items_out stored (all_keys stored c.places) (all_keys stored c'.places) key changed)
+        (counts_removed c.counts c.count (items_at stored (all_keys stored c.places)) key (is_some (place_in (all_keys stored c.places) key)) (has_item stored (all_keys stored c.places) key) index.counts_are);
   }
 
   pub contents_out : contents_in stored c' ≡ without_item (contents_in stored c) (Some key)
   contents_out =
-      ap (λ (items : Items). state items c'.count (call_counts_in c'.counts)) (items_out stored c.places c'.places key changed)
-      ∙ ap (λ (n : ℕ). state (remove (items_at stored c.places) key) n (call_counts_in c'.counts)) count_is
-      ∙ ap (λ (calls : CallCounts). state (remove (items_at stored c.places) key) c.count calls) (ap call_counts_in counts_are ∙ calls-removed c.counts (is_some (place_in c.places key)))
+      ap (λ (items : Items). state items c'.count (call_counts_in c'.counts)) (items_out stored (all_keys stored c.places) (all_keys stored c'.places) key changed)
+      ∙ ap (λ (n : ℕ). state (remove (items_at stored (all_keys stored c.places)) key) n (call_counts_in c'.counts)) count_is
+      ∙ ap (λ (calls : CallCounts). state (remove (items_at stored (all_keys stored c.places)) key) c.count calls) (ap call_counts_in counts_are ∙ calls-removed c.counts (is_some (place_in (all_keys stored c.places) key)))
 
-pub some_counted : (stored : List StoredItem) (c : Contents) (key : List ℕ) → IsIndex stored c → is_some (place_in c.places key) ≡ true → 1 ≤ c.counts.items
-some_counted stored c key index has = some_items c.counts c.count (items_at stored c.places) key (has_item stored c.places key ∙ has) index.counts_are
+pub some_counted : (stored : List StoredItem) (c : Contents) (key : List ℕ) → IsIndex stored c → is_some (place_in (all_keys stored c.places) key) ≡ true → 1 ≤ c.counts.items
+some_counted stored c key index has = some_items c.counts c.count (items_at stored (all_keys stored c.places)) key (has_item stored (all_keys stored c.places) key ∙ has) index.counts_are
 
 -- the places are what they were
-module _ (stored : List StoredItem) (c c' : Contents) (index : IsIndex stored c) (same : (q : List ℕ) → place_in c'.places q ≡ place_in c.places q) (count_is : c'.count ≡ c.count)
-    (counts_are : c'.counts ≡ c.counts) where
+module _ (stored : List StoredItem) (c c' : Contents) (index : IsIndex stored c) (lines : AreLines stored c'.places.lines)
+    (same : (q : List ℕ) → place_in (all_keys stored c'.places) q ≡ place_in (all_keys stored c.places) q) (count_is : c'.count ≡ c.count) (counts_are : c'.counts ≡ c.counts) where
   pub index_same : IsIndex stored c'
   index_same = record {
-    places = same_places stored c.places c'.places same index.places;
-    counts_are = rw (counts_are, count_is, same_items stored c.places c'.places same) (index.counts_are);
+    lines = lines;
+    places = same_places stored (all_keys stored c.places) (all_keys stored c'.places) same index.places;
+    counts_are = rw (counts_are, count_is, same_items stored (all_keys stored c.places) (all_keys stored c'.places) same) (index.counts_are);
   }
 
   pub contents_same : contents_in stored c' ≡ contents_in stored c
   contents_same =
-      ap (λ (items : Items). state items c'.count (call_counts_in c'.counts)) (same_items stored c.places c'.places same)
-      ∙ ap (λ (n : ℕ). state (items_at stored c.places) n (call_counts_in c'.counts)) count_is
-      ∙ ap (λ (counts : Counts). state (items_at stored c.places) c.count (call_counts_in counts)) counts_are
+      ap (λ (items : Items). state items c'.count (call_counts_in c'.counts)) (same_items stored (all_keys stored c.places) (all_keys stored c'.places) same)
+      ∙ ap (λ (n : ℕ). state (items_at stored (all_keys stored c.places)) n (call_counts_in c'.counts)) count_is
+      ∙ ap (λ (counts : Counts). state (items_at stored (all_keys stored c.places)) c.count (call_counts_in counts)) counts_are
 
--- a key got a place, and then what it had before
-back_by : (b : Bool) (place : ℕ) (before now : Option ℕ) → (b ≡ true → before ≡ now) → cond b before (cond b (Some place) now) ≡ now
-back_by true place before now is = is refl
-back_by false place before now is = refl
+-- ---- the keys stay when more is stored
 
-pub put_back : (old middle new : Keyed) (key : List ℕ) (place : ℕ) (before : Option ℕ) → before ≡ place_in old key → IsWith old key (Some place) middle → IsWith middle key before new
-    → (q : List ℕ) → place_in new q ≡ place_in old q
-put_back old middle new key place before is first second q =
-    second q ∙ ap (λ (o : Option ℕ). cond (is_at (hashed_cmp key) q) before o) (first q)
-    ∙ back_by (is_at (hashed_cmp key) q) place before (place_in old q) (λ same. is ∙ ap (place_in old) (same_at key q same))
+-- what was stored has the keys that it had
+pub record Keeps (old new : List StoredItem) : Type 0 where
+  pub long : length old ≤ length new
+  pub same : (place : ℕ) → place < length old → (item_at new place).key ≡ (item_at old place).key
+
+module _ (old new : List StoredItem) (keeps : Keeps old new) where
+  keys_kept : (slots : List Slot) → AreSlots old slots → keys_in new slots ≡ keys_in old slots
+  keys_kept [] are = refl
+  keys_kept (s ∷ slots) are =
+      ap (λ (k : List ℕ). (k, s.place) ∷ keys_in new slots) (keeps.same s.place are.0.below)
+      ∙ ap (λ (l : Keyed). key_at old s ∷ l) (keys_kept slots are.1)
+
+  among_kept : (lines : List Held) → AreLines old lines → keys_among new lines ≡ keys_among old lines
+  among_kept [] are = refl
+  among_kept (line ∷ lines) are =
+      ap (λ (l : Keyed). l ++ keys_among new lines) (keys_kept line.slots are.0)
+      ∙ ap (λ (l : Keyed). keys_in old line.slots ++ l) (among_kept lines are.1)
+
+  all_kept : (t : Table) → AreLines old t.lines → all_keys new t ≡ all_keys old t
+  all_kept t are = ap (λ (l : Keyed). l ++ t.tree) (among_kept t.lines are)
+
+  slots_kept : (slots : List Slot) → AreSlots old slots → AreSlots new slots
+  slots_kept [] are = tt
+  slots_kept (s ∷ slots) are = (
+    record {
+      below = (let below = are.0.below in let long = keeps.long in omega (arith, below, long));
+      hash = are.0.hash ∙ ap hash_of (sym (keeps.same s.place are.0.below));
+    },
+    slots_kept slots are.1,
+  )
+
+  lines_kept : (lines : List Held) → AreLines old lines → AreLines new lines
+  lines_kept [] are = tt
+  lines_kept (line ∷ lines) are = (slots_kept line.slots are.0, lines_kept lines are.1)
+
+  at_kept : (t : Table) (key : List ℕ) (spot : Spot) → AreLines old t.lines → IsAt old t key spot → IsAt new t key spot
+  at_kept t key (Spots.Slot at) are is = subst (λ (l : Keyed). IsFirstAt l key at) (sym (keys_kept (slots_of t key) (are_at old t.lines _ are))) is
+  at_kept t key Spots.Tree are is = (ap (λ (l : Keyed). place_in l key) (keys_kept (slots_of t key) (are_at old t.lines _ are)) ∙ is.0, is.1)
+  at_kept t key Spots.New are is = tt
+
+  spot_kept : (t : Table) (key : List ℕ) (spot : Spot) → AreLines old t.lines → IsSpot old t key spot → IsSpot new t key spot
+  spot_kept t key spot are is = record {
+    had = ap (λ (l : Keyed). is_some (place_in l key)) (all_kept t are) ∙ is.had;
+    there = at_kept t key spot are is.there;
+  }
+
+keeps_more : (stored : List StoredItem) (x : StoredItem) → Keeps stored (stored ++ x ∷ [])
+keeps_more stored x = record {
+  long = omega (arith, length-append stored (x ∷ []));
+  same = λ place below. ap (λ (y : StoredItem). y.key) (get_or-append stored (x ∷ []) nothing place below);
+}
 
 -- ---- the item of a key is stored after all others
 
-module _ (stored stored' : List StoredItem) (c middle c' : Contents) (key : List ℕ) (place : ℕ) (x : StoredItem) (before : Option ℕ) (had : Bool)
-    (index : IsIndex stored c) (stored_is : stored' ≡ stored ++ x ∷ []) (place_is : place ≡ length stored) (key_is : x.key ≡ key)
-    (before_is : before ≡ place_in c.places key) (changed : IsWith c.places key (Some place) middle.places) (count_is : middle.count ≡ c.count) (counts_are : middle.counts ≡ c.counts)
-    (had_is : had ≡ is_some before)
-    (counted : c' ≡ record middle { count = middle.count + 1; counts = cond had middle.counts (stats.with_item middle.counts) }) where
-  placed_changed : IsWith c.places key (Some (length stored)) c'.places
-  placed_changed q = ap (λ (d : Contents). place_in d.places q) counted ∙ changed q ∙ ap (λ (n : ℕ). cond (is_at (hashed_cmp key) q) (Some n) (place_in c.places q)) place_is
+module _ (stored stored' : List StoredItem) (c c' : Contents) (key : List ℕ) (place : ℕ) (x : StoredItem) (spot : Spot)
+    (index : IsIndex stored c) (is : IsSpot stored c.places key spot) (stored_is : stored' ≡ stored ++ x ∷ []) (place_is : place ≡ length stored) (key_is : x.key ≡ key)
+    (put : IsPut c.places key spot place c'.places) (count_is : c'.count ≡ c.count + 1)
+    (counts_are : c'.counts ≡ cond (had_by spot) c.counts (stats.with_item c.counts)) where
+  abbrev more : List StoredItem
+  more = stored ++ x ∷ []
 
-  placed_count : c'.count ≡ c.count + 1
-  placed_count = ap (λ (d : Contents). d.count) counted ∙ ap (λ (n : ℕ). n + 1) count_is
+  placed_for : IsFor more key place
+  placed_for =
+      subst (λ (n : ℕ). IsFor more key n) (sym place_is) (subst (λ (k : List ℕ). IsFor more k (length stored)) key_is (new_for stored x))
 
-  placed_counts : c'.counts ≡ cond (is_some before) c.counts (stats.with_item c.counts)
-  placed_counts =
-      ap (λ (d : Contents). d.counts) counted
-      ∙ ap (λ (counts : Counts). cond had counts (stats.with_item counts)) counts_are
-      ∙ ap (λ (b : Bool). cond b c.counts (stats.with_item c.counts)) had_is
+  placed_item : (item_at more place).item ≡ x.item
+  placed_item = ap (λ (n : ℕ). (item_at more n).item) place_is ∙ ap (λ (y : StoredItem). y.item) (get_or-append_seam stored x [] nothing)
 
-  placed_for : IsFor (stored ++ x ∷ []) key (length stored)
-  placed_for = subst (λ (k : List ℕ). IsFor (stored ++ x ∷ []) k (length stored)) key_is (new_for stored x)
+  placed : AreLines more c'.places.lines × IsWith (all_keys more c.places) key (Some place) (all_keys more c'.places)
+  placed =
+      put more (lines_kept stored more (keeps_more stored x) c.places.lines index.lines) (spot_kept stored more (keeps_more stored x) c.places key spot index.lines is) placed_for
 
-  placed_item : (item_at (stored ++ x ∷ []) (length stored)).item ≡ x.item
-  placed_item = ap (λ (y : StoredItem). y.item) (get_or-append_seam stored x [] nothing)
+  placed_changed : IsWith (all_keys stored c.places) key (Some place) (all_keys more c'.places)
+  placed_changed = subst (λ (l : Keyed). IsWith l key (Some place) (all_keys more c'.places)) (all_kept stored more (keeps_more stored x) c.places index.lines) placed.1
+
+  placed_counts : c'.counts ≡ cond (is_some (place_in (all_keys stored c.places) key)) c.counts (stats.with_item c.counts)
+  placed_counts = counts_are ∙ ap (λ (b : Bool). cond b c.counts (stats.with_item c.counts)) (sym is.had)
 
   pub placed_index : IsIndex stored' c'
   placed_index =
       subst (λ (s : List StoredItem). IsIndex s c') (sym stored_is)
-      (index_put stored (stored ++ x ∷ []) c c' key (length stored) x.item before (goes_on stored x c.places key index.places) index placed_for placed_item placed_changed placed_count placed_counts before_is)
+      (index_put stored more c c' key place x.item (place_in (all_keys stored c.places) key) (goes_on stored x (all_keys stored c.places) key index.places) index placed.0 placed_for placed_item
+      placed_changed count_is placed_counts refl)
 
   pub placed_contents : contents_in stored' c' ≡ with_item (contents_in stored c) (Some key) x.item
   placed_contents =
       ap (λ (s : List StoredItem). contents_in s c') stored_is
-      ∙ contents_put stored (stored ++ x ∷ []) c c' key (length stored) x.item before (goes_on stored x c.places key index.places) index placed_for placed_item placed_changed placed_count placed_counts before_is
-
--- a key that was put is there
-pub put_has : (old new : Keyed) (key : List ℕ) (place : ℕ) → IsWith old key (Some place) new → is_some (place_in new key) ≡ true
-put_has old new key place changed = ap is_some (changed key ∙ ap (λ (b : Bool). cond b (Some place) (place_in old key)) (at_itself key))
+      ∙ contents_put stored more c c' key place x.item (place_in (all_keys stored c.places) key) (goes_on stored x (all_keys stored c.places) key index.places) index placed.0 placed_for placed_item
+      placed_changed count_is placed_counts refl
 
 -- the place of a call's key is one of those that were stored
 within_by : (stored : List StoredItem) (key : List ℕ) (place : Option ℕ) → IfSome place (IsFor stored key) → IfSome place (λ p. p < length stored)
@@ -300,14 +357,14 @@ set_for stored key q place x (Some p) here there other = record {
 }
 
 module _ (stored stored' : List StoredItem) (c c' : Contents) (key : List ℕ) (place : ℕ) (x : StoredItem) (item : Item)
-    (index : IsIndex stored c) (found : Some place ≡ place_in c.places key) (there : x ≡ get_or stored place x)
+    (index : IsIndex stored c) (found : Some place ≡ place_in (all_keys stored c.places) key) (there : x ≡ get_or stored place x)
     (stored_is : stored' ≡ set stored place (keyed x.key item))
     (counted : c' ≡ record c { count = c.count + 1; counts = c.counts }) where
   abbrev now : StoredItem
   now = keyed x.key item
 
   here : IsFor stored key place
-  here = is_for stored c.places key (Some place) found index.places
+  here = is_for stored (all_keys stored c.places) key (Some place) found index.places
 
   key_of_x : x.key ≡ key
   key_of_x = ap (λ (y : StoredItem). y.key) (there ∙ same_default stored place here.below) ∙ here.key_is
@@ -317,10 +374,10 @@ module _ (stored stored' : List StoredItem) (c c' : Contents) (key : List ℕ) (
       same_default (y ∷ xs) zero below = refl
       same_default (y ∷ xs) (suc n) below = same_default xs n (omega (arith, below))
 
-  set_on : GoesOn stored (set stored place now) c.places key
+  set_on : GoesOn stored (set stored place now) (all_keys stored c.places) key
   set_on = record {
-    same = λ q other. set_at stored key q place now (place_in c.places q) here (index.places q) other;
-    are = λ q other. set_for stored key q place now (place_in c.places q) here (index.places q) other;
+    same = λ q other. set_at stored key q place now (place_in (all_keys stored c.places) q) here (index.places q) other;
+    are = λ q other. set_for stored key q place now (place_in (all_keys stored c.places) q) here (index.places q) other;
   }
 
   at_place : item_at (set stored place now) place ≡ now
@@ -336,9 +393,27 @@ module _ (stored stored' : List StoredItem) (c c' : Contents) (key : List ℕ) (
   kept_by true p is = is refl
   kept_by false p is = refl
 
-  set_changed : IsWith c.places key (Some place) c'.places
-  set_changed q = ap (λ (d : Contents). place_in d.places q) counted
-      ∙ kept_by (is_at (hashed_cmp key) q) (place_in c.places q) (λ same. ap (place_in c.places) (sym (same_at key q same)) ∙ sym found)
+  set_keeps : Keeps stored (set stored place now)
+  set_keeps = record {
+    long = omega (arith, length-set stored place now);
+    same = λ p below. key_by p (eqb_tells p place);
+  }
+    where
+      key_by : (p : ℕ) → ((eqb p place ≡ true) × (p ≡ place)) ⊎ ((eqb p place ≡ false) × (p ≢ place)) → (item_at (set stored place now) p).key ≡ (item_at stored p).key
+      key_by p (inl same) =
+          ap (λ (n : ℕ). (item_at (set stored place now) n).key) same.1 ∙ ap (λ (y : StoredItem). y.key) at_place ∙ key_of_x ∙ sym here.key_is
+          ∙ ap (λ (n : ℕ). (item_at stored n).key) (sym same.1)
+      key_by p (inr differ) = ap (λ (y : StoredItem). y.key) (other_at stored place p now differ.1)
+
+  set_lines : AreLines (set stored place now) c'.places.lines
+  set_lines =
+      subst (λ (d : Contents). AreLines (set stored place now) d.places.lines) (sym counted) (lines_kept stored (set stored place now) set_keeps c.places.lines index.lines)
+
+  set_changed : IsWith (all_keys stored c.places) key (Some place) (all_keys (set stored place now) c'.places)
+  set_changed q =
+      ap (λ (d : Contents). place_in (all_keys (set stored place now) d.places) q) counted
+      ∙ ap (λ (l : Keyed). place_in l q) (all_kept stored (set stored place now) set_keeps c.places index.lines)
+      ∙ kept_by (is_at (hashed_cmp key) q) (place_in (all_keys stored c.places) q) (λ same. ap (place_in (all_keys stored c.places)) (sym (same_at key q same)) ∙ sym found)
 
   set_count : c'.count ≡ c.count + 1
   set_count = ap (λ (d : Contents). d.count) counted
@@ -349,9 +424,9 @@ module _ (stored stored' : List StoredItem) (c c' : Contents) (key : List ℕ) (
   pub replaced_index : IsIndex stored' c'
   replaced_index =
       subst (λ (s : List StoredItem). IsIndex s c') (sym stored_is)
-      (index_put stored (set stored place now) c c' key place item (Some place) set_on index set_here (ap (λ (y : StoredItem). y.item) at_place) set_changed set_count set_counts found)
+      (index_put stored (set stored place now) c c' key place item (Some place) set_on index set_lines set_here (ap (λ (y : StoredItem). y.item) at_place) set_changed set_count set_counts found)
 
   pub replaced_contents : contents_in stored' c' ≡ with_item (contents_in stored c) (Some key) item
   replaced_contents =
       ap (λ (s : List StoredItem). contents_in s c') stored_is
-      ∙ contents_put stored (set stored place now) c c' key place item (Some place) set_on index set_here (ap (λ (y : StoredItem). y.item) at_place) set_changed set_count set_counts found
+      ∙ contents_put stored (set stored place now) c c' key place item (Some place) set_on index set_lines set_here (ap (λ (y : StoredItem). y.item) at_place) set_changed set_count set_counts found

@@ -1,7 +1,8 @@
 pub mod MapLemmas
-pub mod BucketLemmas
+pub mod PlaceLemmas
+pub mod LineLemmas
+pub mod TableLemmas
 pub mod RowLemmas
-pub mod FingerprintLemmas
 pub mod SoundLemmas
 pub mod CountLemmas
 pub mod IndexLemmas

@@ -27,7 +27,7 @@ alike_by key q Less same = differ_by (nat_cmp (hash_of key) (hash_of q)) (slice_
 alike_by key q Greater same = differ_by (nat_cmp (hash_of key) (hash_of q)) (slice_cmp nat_cmp key q) (ap is_eq (sym same))
 
 -- the order by hashes finds the same keys as the order of a dictionary
-alike : (key q : List ℕ) → is_at (slice_cmp nat_cmp key) q ≡ is_at (hashed_cmp key) q
+pub alike : (key q : List ℕ) → is_at (slice_cmp nat_cmp key) q ≡ is_at (hashed_cmp key) q
 alike key q = sym (alike_by key q (slice_cmp nat_cmp key q) refl)
 
 same_by : (key q : List ℕ) (order : Ordering) → order ≡ slice_cmp nat_cmp key q → is_eq order ≡ true → key ≡ q

@@ -1,14 +1,14 @@
--- The items of one bucket: the first entry with a key, and what a change of the row or of the tree changes.
-use Rattle.std.proofs.Common.{◌≡◌, ℕ, zero, suc, ◌+◌, ◌<◌, Bool, true, false, cond, List, [], ◌∷◌, ◌++◌, length, set, slice_get, refl, sym, ap, subst, ◌∙◌, arith}
+-- Lists of keys with places: the first entry with a key, and what a change of one or of two lists changes.
+use Rattle.std.proofs.Common.{◌≡◌, ℕ, zero, suc, ◌+◌, Bool, true, false, cond, List, [], ◌∷◌, ◌++◌, length, set, slice_get, refl, sym, ap, subst, ◌∙◌, arith}
 use Rattle.std.specs.Prelude.{Option, Some, None}
 use Rattle.std.specs.List.{remove}
 use Rattle.std.specs.Cmp.{eq_by_cmp_equiv}
 use Rattle.std.specs.BTreeMap.{is_at}
 use Rattle.std.proofs.lemmas.Option.{same_Some}
 use Rattle.mc_shard.specs.Contents.{hashed_cmp, hashed_total}
-use Rattle.mc_shard.specs.Buckets.{Keyed, place_in, IsFirstAt, NoneBefore, IsWith, SamePlaces}
+use Rattle.mc_shard.specs.Places.{Keyed, place_in, IsFirstAt, NoneBefore, IsWith, SamePlaces}
 use Rattle.mc_shard.proofs.MapLemmas.{same_at}
-use Rattle.mc_shard.proofs.BucketLemmas.{first_of, lookup-append}
+use Rattle.mc_shard.proofs.PlaceLemmas.{first_of, lookup-append}
 
 -- a key with its place
 abbrev pub Pair : Type 0
@@ -55,12 +55,7 @@ pub none_found : (row : Keyed) (key : List ℕ) → NoneBefore row key (length r
 none_found [] key none = refl
 none_found (y ∷ row) key none = ap (λ b. cond b (Some y.1) (place_in row key)) none.0 ∙ none_found row key none.1
 
--- ---- an place in the row
-
-pub within_row : (row : Keyed) (key : List ℕ) (at : ℕ) → IsFirstAt row key at → at < length row
-within_row [] key at first = absurd first
-within_row (y ∷ row) key zero first = omega arith
-within_row (y ∷ row) key (suc at) first = let rest = within_row row key at first.1 in omega (arith, rest)
+-- ---- a place in the row
 
 pub item_got : (row : Keyed) (key : List ℕ) (at : ℕ) (x : Pair) → IsFirstAt row key at → slice_get row at ≡ Some x → place_in row key ≡ Some x.1
 item_got [] key at x first is = absurd first
@@ -85,7 +80,7 @@ item_put (y ∷ row) key (suc at) x place first is q =
     ap (λ o. cond (is_at (hashed_cmp q) y.0) (Some y.1) o) (item_put row key at x place first.1 is q)
     ∙ swap (is_at (hashed_cmp key) q) (is_at (hashed_cmp q) y.0) (Some place) (Some y.1) (place_in row q) (not_both key q y.0 (is_at (hashed_cmp q) y.0) first.0 refl)
 
--- ---- an place after the row
+-- ---- a place after the row
 
 joined : (row tree : Keyed) (q : List ℕ) → place_in (row ++ tree) q ≡ first_of (place_in row q) (place_in tree q)
 joined row tree q = lookup-append (is_at (hashed_cmp q)) row tree
@@ -109,19 +104,13 @@ put_by : (b : Bool) (one two : Option ℕ) (place : ℕ) → first_of (cond b (S
 put_by true one two place = refl
 put_by false one two place = refl
 
--- the row gets an place at a key
+-- the row gets a place at a key
 pub row_changed : (row row' tree : Keyed) (key : List ℕ) (place : ℕ) → IsWith row key (Some place) row' → IsWith (row ++ tree) key (Some place) (row' ++ tree)
 row_changed row row' tree key place changed q =
     joined row' tree q
     ∙ ap (λ o. first_of o (place_in tree q)) (changed q)
     ∙ put_by (is_at (hashed_cmp key) q) (place_in row q) (place_in tree q) place
     ∙ ap (λ o. cond (is_at (hashed_cmp key) q) (Some place) o) (sym (joined row tree q))
-
-pub item_before : (row tree : Keyed) (key : List ℕ) (place : ℕ) → place_in row key ≡ Some place → place_in (row ++ tree) key ≡ Some place
-item_before row tree key place is = joined row tree key ∙ ap (λ o. first_of o (place_in tree key)) is
-
-pub item_after : (row tree : Keyed) (key : List ℕ) → place_in row key ≡ None → place_in (row ++ tree) key ≡ place_in tree key
-item_after row tree key none = joined row tree key ∙ ap (λ o. first_of o (place_in tree key)) none
 
 -- an entry in front of others
 pub in_front : (tree : Keyed) (key : List ℕ) (place : ℕ) → IsWith tree key (Some place) ((key, place) ∷ tree)

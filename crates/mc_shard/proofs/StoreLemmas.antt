@@ -1,9 +1,7 @@
 -- A shard after a set, and after any call whose entry was appended.
-use Rattle.std.proofs.Common.{◌≡◌, ℕ, ◌+◌, ◌<◌, ◌≤◌, ◌^◌, List, [], ◌∷◌, ◌++◌, length, Bool, true, false, cond, refl, sym, ap, subst, ◌∙◌, arith}
-use Rattle.std.specs.Prelude.{Option, Some, None, is_some}
-use Rattle.std.specs.FinMap.{insert}
+use Rattle.std.proofs.Common.{◌≡◌, ℕ, ◌<◌, ◌≤◌, List, [], ◌∷◌, ◌++◌, true, false, refl, sym, ap, ◌∙◌, arith}
+use Rattle.std.specs.Prelude.{Option, Some, None}
 use Rattle.mc_calls.specs.declared.item.Item.{Item}
-use Rattle.mc_calls.specs.declared.entry.Entry.{Entry}
 use Rattle.mc_calls.specs.declared.entry.Tag.{Tag}
 use Rattle.mc_calls.specs.declared.call.Call.{Call}
 use Rattle.mc_calls.specs.declared.call.Call.TheVariants.{Set}
@@ -12,21 +10,19 @@ use Rattle.mc_calls.specs.declared.call_reply.CallReply.TheVariants.{Stored}
 use Rattle.mc_calls.specs.declared.tallied.Tallied.{Tallied}
 use Rattle.mc_calls.specs.Call.{key_of}
 use Rattle.mc_calls.specs.Counted.{CallCounts, calls_with}
-use Rattle.mc_calls.specs.Shard.{State, Items, Effect, Outcome, stored, stores, unique_of, tallied, with_calls, state_with, outcome_of, item_at}
+use Rattle.mc_calls.specs.Shard.{State, Items, Effect, Outcome, stored, tallied, with_calls, state_with, outcome_of, item_at}
 use Rattle.mc_calls.specs.Bounds.{FitsEntry}
 use Rattle.mc_stats.specs.declared.counts.Counts.{Counts}
-use Rattle.mc_stats.specs.Counts.{with_set, with_get}
 use Rattle.mc_history.specs.declared.stored_item.StoredItem.{StoredItem}
-use Rattle.mc_history.specs.declared.exchange.Exchange.{Exchange}
 use Rattle.mc_history.specs.Recorded as ledgers
 use Rattle.mc_history.specs.Recorded.{Recorded, keyed}
 use Rattle.mc_shard.specs.declared.contents.Contents.{Contents}
 use Rattle.mc_shard.specs.declared.contents.Noted.{Noted}
 use Rattle.mc_shard.specs.declared.contents.Noted.TheVariants as Noting
-use Rattle.mc_shard.specs.Contents.{AreCounts, IsSound, call_counts_in, with_item}
-use Rattle.mc_shard.specs.Buckets.{Keyed, place_in, IsWith}
+use Rattle.mc_shard.specs.Contents.{AreCounts, call_counts_in}
+use Rattle.mc_shard.specs.Places.{all_keys}
 use Rattle.mc_shard.specs.Shard.{Kept, kept, entry_of, with_entry}
-use Rattle.mc_shard.specs.Index.{items_at, IsFor, found_at, place_at, contents_in, no_contents, noted_by, tallied_by, IsIndex, HasEntry, IsIndexed}
+use Rattle.mc_shard.specs.Index.{items_at, found_at, place_at, contents_in, no_contents, noted_by, tallied_by, IsIndex, HasEntry, IsIndexed}
 use Rattle.mc_shard.proofs.IndexLemmas.{item_got, index_none}
 use Rattle.mc_shard.proofs.SoundLemmas.{IsSound-applied, calls-made}
 
@@ -49,13 +45,13 @@ counts_noted Noting.Other counts count items are = are
 
 pub index_noted : (stored : List StoredItem) (contents contents' : Contents) (noted : Noted) → contents' ≡ record contents { counts = noted_by noted contents.counts } → IsIndex stored contents → IsIndex stored contents'
 index_noted stored contents contents' noted is index =
-    rw (is) (record { places = index.places; counts_are = counts_noted noted contents.counts contents.count (items_at stored contents.places) index.counts_are })
+    rw (is) (record { lines = index.lines; places = index.places; counts_are = counts_noted noted contents.counts contents.count (items_at stored (all_keys stored contents.places)) index.counts_are })
 
 -- the item at a call's key is the one at its place
-pub found_is : (stored : List StoredItem) (contents : Contents) (key : Option (List ℕ)) (place : Option ℕ) → place ≡ place_at contents.places key
-    → found_at stored place ≡ item_at (items_at stored contents.places) key
+pub found_is : (stored : List StoredItem) (contents : Contents) (key : Option (List ℕ)) (place : Option ℕ) → place ≡ place_at (all_keys stored contents.places) key
+    → found_at stored place ≡ item_at (items_at stored (all_keys stored contents.places)) key
 found_is stored contents None place is = ap (found_at stored) is
-found_is stored contents (Some key) place is = ap (found_at stored) is ∙ sym (item_got stored contents.places key)
+found_is stored contents (Some key) place is = ap (found_at stored) is ∙ sym (item_got stored (all_keys stored contents.places) key)
 
 -- ---- a call whose entry was appended
 
@@ -72,7 +68,7 @@ contents_noted stored contents contents' noted shards number old effect call rep
 
 module _ (number shards last stamp : ℕ) (contents middle contents' : Contents) (ledger ledger' : Recorded) (tag : Tag) (call : Call) (reply : CallReply) (noted : Noted) (outcome : Outcome)
     (indexed : IsIndexed number shards last contents ledger)
-    (outcome_is : outcome ≡ outcome_of (tallied (contents_in ledger.stored contents)) call (item_at (items_at ledger.stored contents.places) (key_of call)))
+    (outcome_is : outcome ≡ outcome_of (tallied (contents_in ledger.stored contents)) call (item_at (items_at ledger.stored (all_keys ledger.stored contents.places)) (key_of call)))
     (reply_is : reply ≡ outcome.reply)
     (made : contents_in ledger'.stored middle ≡ state_with shards number (contents_in ledger.stored contents) outcome.effect)
     (index : IsIndex ledger'.stored middle)

@@ -1,5 +1,5 @@
 -- Where the items of a shard are among those that were ever stored. No public clause cites this module.
-use Rattle.std.specs.Prelude.{◌≡◌, ℕ, ◌<◌, ◌+◌, List, [], ◌++◌, ◌∷◌, length, map, Option, None, Some, IfSome}
+use Rattle.std.specs.Prelude.{◌≡◌, ℕ, List, [], ◌++◌, ◌∷◌, map, Option, None, Some, IfSome}
 use Rattle.mc_calls.specs.declared.item.Item.{Item}
 use Rattle.mc_calls.specs.declared.call_reply.CallReply.{CallReply}
 use Rattle.mc_calls.specs.declared.call_reply.CallReply.TheVariants.{Hit, Miss}
@@ -12,7 +12,7 @@ use Rattle.mc_history.specs.declared.stored_item.StoredItem.{StoredItem}
 use Rattle.mc_history.specs.declared.exchange.Exchange.{Exchange}
 use Rattle.mc_history.specs.Recorded.{Recorded, item_at, entry_of}
 use Rattle.mc_shard.specs.Contents.{IsSound, AreCounts, items_in, call_counts_in}
-use Rattle.mc_shard.specs.Buckets.{Keyed, place_in}
+use Rattle.mc_shard.specs.Places.{Keyed, place_in, all_keys, no_places, AreLines, IsFor}
 use Rattle.mc_shard.specs.declared.contents.Contents.{Contents}
 use Rattle.mc_shard.specs.declared.contents.Noted.{Noted}
 use Rattle.mc_shard.specs.declared.contents.Noted.TheVariants as Noting
@@ -30,11 +30,6 @@ seen stored places = map (pair_at stored) places
 -- the items at the places of their keys
 abbrev pub items_at : List StoredItem → Keyed → Items
 items_at stored places = items_in (seen stored places)
-
--- the place is that of something that was stored at this key
-pub record IsFor (stored : List StoredItem) (key : List ℕ) (place : ℕ) : Type 0 where
-  pub below : place < length stored
-  pub key_is : (item_at stored place).key ≡ key
 
 -- the place of each key is that of something that was stored at this key
 abbrev pub ArePlaces : List StoredItem → Keyed → Type 0
@@ -60,12 +55,13 @@ reply_at stored (Some place) =
 
 -- without an item, and with nothing counted
 abbrev pub no_contents : Contents
-no_contents = record { places = []; count = 0; counts = no_counts }
+no_contents = record { places = no_places; count = 0; counts = no_counts }
 
 -- the items, their counter and the counts of calls
 abbrev pub contents_in : List StoredItem → Contents → State
 contents_in stored contents =
-    record { items = items_at stored contents.places; count = contents.count; calls = call_counts_in contents.counts }
+    let items : Items = items_at stored (all_keys stored contents.places) in
+    record { items = items; count = contents.count; calls = call_counts_in contents.counts }
 
 -- what a tally answers by these counts
 abbrev pub tallied_by : Counts → Tallied
@@ -85,8 +81,9 @@ noted_by Noting.Other counts = counts
 
 -- the contents have the places of what was stored, and the counts of these items
 pub record IsIndex (stored : List StoredItem) (contents : Contents) : Type 0 where
-  pub places : ArePlaces stored contents.places
-  pub counts_are : AreCounts contents.counts contents.count (items_at stored contents.places)
+  pub lines : AreLines stored contents.places.lines
+  pub places : ArePlaces stored (all_keys stored contents.places)
+  pub counts_are : AreCounts contents.counts contents.count (items_at stored (all_keys stored contents.places))
 
 -- a ledger has one entry more, that of a call with this reply
 pub record HasEntry (old : Recorded) (tag : Tag) (stamp : ℕ) (exchange : Exchange) (new : Recorded) : Type 0 where

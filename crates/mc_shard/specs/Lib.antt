@@ -1,6 +1,6 @@
 pub mod Shard
 pub mod Replay
 pub mod Contents
-pub mod Buckets
+pub mod Places
 pub mod Index
 pub mod Step

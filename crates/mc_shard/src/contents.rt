@@ -1,17 +1,19 @@
 //! Where the items of a shard are, with their counter and its counts.
-ghost use Rattle.std.specs.Prelude.{◌≡◌, ◌+◌, ◌-◌, ◌^◌, ◌<◌, ◌≤◌, [], None, Some, is_some, true, IfOk, OnOk, OnErr, if◌then◌else◌};
+ghost use Rattle.std.specs.Prelude.{◌≡◌, ◌+◌, ◌-◌, ◌^◌, ◌<◌, ◌≤◌, None, is_some, true, IfOk, if◌then◌else◌};
 ghost use Rattle.mc_calls.specs.Kind.{MayAnswer};
 ghost use Rattle.mc_calls.specs.Counted.{calls_with};
 ghost use Rattle.mc_calls.specs.Shard.{unique_of};
 ghost use Rattle.mc_stats.specs.declared.counts.Counts.{Counts};
 ghost use Rattle.mc_stats.specs.Counts.{with_item, without_item, without_items};
 ghost use Rattle.mc_shard.specs.Contents.{call_counts_in};
-ghost use Rattle.mc_shard.specs.Buckets.{place_in, IsWith};
+ghost use Rattle.mc_shard.specs.Places.{place_in, all_keys, no_places, had_by, AreLines, IsWith, SamePlaces, HasRoom, IsSpot, IsPut};
 ghost use Rattle.mc_shard.specs.Index.{no_contents, tallied_by, noted_by};
 
-use crate::buckets::Buckets;
 use crate::counting::{count_put, count_removed};
 use crate::hashed::Sought;
+use crate::places::Places;
+use crate::slot::Spot;
+use crate::stored::Stored;
 use mc_calls::{Call, CallReply, Tallied};
 use mc_stats::Counts;
 use std::alloc::Global;
@@ -32,7 +34,7 @@ pub enum Noted {
 /// the shard counted.
 #[derive(Drop)]
 pub struct Contents {
-    pub(crate) places: Buckets,
+    pub(crate) places: Places,
     pub(crate) count: u64,
     pub(crate) counts: Counts,
 }
@@ -43,7 +45,7 @@ impl Contents {
         ensures value { result ≡ no_contents }
     {
         Contents {
-            places: Buckets::new(alloc),
+            places: Places::new(alloc),
             count: 0,
             counts: Counts::new(),
         }
@@ -80,40 +82,41 @@ impl Contents {
 
     /// Returns the place of a key's item.
     #[inline(always)]
-    pub fn place_of(&self, key: &Sought<'_>) -> Option<u32>
-        ensures value { result ≡ place_in self.now.places key.now }
+    pub fn place_of<S: Stored>(&self, stored: &S, key: &Sought<'_>) -> Option<u32>
+        requires lines { AreLines (S.stored stored.now) self.now.places.lines }
+        ensures value { result ≡ place_in (all_keys (S.stored stored.now) self.now.places) key.now }
     {
-        self.places.get(key)
+        self.places.get(stored, key)
     }
 
-    /// Puts the place of a key's item, and answers the one that it had. The item is counted by
-    /// `count_put`.
+    /// Finds the spot of a key, and room for it if it is new. If allocation fails, each key has the
+    /// place that it had.
     #[inline(always)]
-    pub fn put(&mut self, key: &Sought<'_>, place: u32) -> Result<Option<u32>, NoMemory>
-        ensures old { IfOk result (λ old. old ≡ place_in self.old.places key.now) }
-        ensures ok { OnOk result (IsWith self.old.places key.now (Some place) self.new.places) }
-        ensures err { OnErr result (self.new.places ≡ self.old.places) }
+    pub fn ready<S: Stored>(&mut self, stored: &S, key: &Sought<'_>) -> Result<Spot, NoMemory>
+        requires lines { AreLines (S.stored stored.now) self.old.places.lines }
+        ensures lines { AreLines (S.stored stored.now) self.new.places.lines }
+        ensures same { SamePlaces (all_keys (S.stored stored.now) self.old.places)
+            (all_keys (S.stored stored.now) self.new.places) }
+        ensures room { IfOk result (HasRoom self.new.places key.now) }
+        ensures spot { IfOk result (IsSpot (S.stored stored.now) self.new.places key.now) }
         ensures count { self.new.count ≡ self.old.count }
         ensures counts { self.new.counts ≡ self.old.counts }
     {
-        self.places.insert(key, place)
+        self.places.ready(stored, key, self.counts.items)
     }
 
-    /// Gives a key the place back that it had, or none. Takes no memory.
-    pub fn put_back(&mut self, key: &Sought<'_>, before: Option<u32>)
-        requires some { is_some (place_in self.old.places key.now) ≡ true }
-        ensures value { IsWith self.old.places key.now before self.new.places }
-        ensures count { self.new.count ≡ self.old.count }
-        ensures counts { self.new.counts ≡ self.old.counts }
+    /// Puts the place of a key's item into the key's spot, and counts the item. Takes no memory.
+    #[inline(always)]
+    pub fn put(&mut self, key: &Sought<'_>, spot: Spot, place: u32)
+        requires room { HasRoom self.old.places key.now spot }
+        requires count { self.old.count < 2 ^ 52 }
+        requires items { self.old.counts.items < 2 ^ 64 - 1 }
+        ensures places { IsPut self.old.places key.now spot place self.new.places }
+        ensures count { self.new.count ≡ self.old.count + 1 }
+        ensures counts { self.new.counts ≡ (if had_by spot then self.old.counts else with_item self.old.counts) }
     {
-        match before {
-            Some(place) => {
-                let _ = self.places.insert(key, place);
-            }
-            None => {
-                let _ = self.places.remove(key);
-            }
-        }
+        self.places.put(key, spot, place);
+        self.count_put(spot.had());
     }
 
     /// Counts an item that was stored at a key, by whether the key had one before.
@@ -131,20 +134,25 @@ impl Contents {
     }
 
     /// Removes the item of a key.
-    pub fn remove(&mut self, key: &Sought<'_>)
-        requires some { is_some (place_in self.old.places key.now) ≡ true → 1 ≤ self.old.counts.items }
-        ensures places { IsWith self.old.places key.now None self.new.places }
+    pub fn remove<S: Stored>(&mut self, stored: &S, key: &Sought<'_>)
+        requires lines { AreLines (S.stored stored.now) self.old.places.lines }
+        requires some { is_some (place_in (all_keys (S.stored stored.now) self.old.places) key.now) ≡ true
+            → 1 ≤ self.old.counts.items }
+        ensures lines { AreLines (S.stored stored.now) self.new.places.lines }
+        ensures places { IsWith (all_keys (S.stored stored.now) self.old.places) key.now None
+            (all_keys (S.stored stored.now) self.new.places) }
         ensures count { self.new.count ≡ self.old.count }
         ensures counts { self.new.counts
-            ≡ (if is_some (place_in self.old.places key.now) then without_item self.old.counts else self.old.counts) }
+            ≡ (if is_some (place_in (all_keys (S.stored stored.now) self.old.places) key.now)
+            then without_item self.old.counts else self.old.counts) }
     {
-        let found = self.places.remove(key);
+        let found = self.places.remove(stored, key);
         count_removed(&mut self.counts, found);
     }
 
     /// Removes all items.
     pub fn clear(&mut self)
-        ensures value { self.new ≡ record self.old { places = []; counts = without_items self.old.counts } }
+        ensures value { self.new ≡ record self.old { places = no_places; counts = without_items self.old.counts } }
     {
         self.places.clear();
         self.counts.emptied();

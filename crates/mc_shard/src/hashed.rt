@@ -7,7 +7,7 @@ ghost use Rattle.std.specs.BTreeMap.Comparable.{le_lt_trans};
 ghost use Rattle.mc_calls.specs.Call.{key_of};
 ghost use Rattle.mc_calls.specs.Key.{hash_of};
 ghost use Rattle.mc_shard.specs.Contents.{hashed_cmp, hashed_total};
-ghost use Rattle.mc_shard.specs.Buckets.{bucket_of, part_of, fingerprint_of};
+ghost use Rattle.mc_shard.specs.Places.{line_of};
 
 use mc_calls::{Call, hash_of};
 use std::cmp::Ordering;
@@ -85,38 +85,29 @@ impl<'a> Sought<'a> {
         }
     }
 
-    /// Returns the number of its bucket: the first eight bits of the hash.
+    /// Returns its hash.
     #[inline(always)]
-    pub fn bucket(&self) -> usize
-        ensures value { result ≡ bucket_of self.now }
-        ensures within { result < 256 }
+    pub fn hash(&self) -> u32
+        ensures value { result ≡ hash_of self.now }
     {
-        (self.hash / 16_777_216) as usize
+        self.hash
     }
 
-    /// Returns the number of its part: the next five bits of the hash.
+    /// Returns the number of its line: the hash without this many of its last bits.
     #[inline(always)]
-    pub fn part(&self) -> usize
-        ensures value { result ≡ part_of self.now }
-        ensures within { result < 32 }
+    pub fn line(&self, shift: u32) -> usize
+        requires within { shift < 32 }
+        ensures value { result ≡ line_of shift self.now }
     {
-        (self.hash / 524_288 % 32) as usize
-    }
-
-    /// Returns its fingerprint: the third eight bits of the hash.
-    #[inline(always)]
-    pub fn fingerprint(&self) -> u8
-        ensures value { result ≡ fingerprint_of self.now }
-    {
-        (self.hash / 256 % 256) as u8
+        (self.hash >> shift) as usize
     }
 
     /// Checks whether it is this key.
     #[inline(always)]
-    pub fn is(&self, other: &Hashed) -> bool
+    pub fn has(&self, other: &Blob) -> bool
         ensures value { result ≡ is_at (hashed_cmp self.now) other.now }
     {
-        self.hash == other.hash && *self.key == other.key
+        *self.key == *other
     }
 
     /// Copies the bytes of the key.

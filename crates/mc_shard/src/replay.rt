@@ -4,6 +4,7 @@ ghost use Rattle.mc_calls.specs.Shard.{empty_state, reply_to, state_with};
 ghost use Rattle.mc_shard.specs.Contents.{with_item};
 ghost use Rattle.mc_shard.specs.Replay.{replaying, state_replayed};
 ghost use Rattle.mc_shard.specs.Step.{effect_in};
+ghost use Rattle.mc_shard.specs.Places.{all_keys, AreLines};
 ghost use Rattle.mc_shard.specs.Index.{contents_in, IsIndex, place_at, found_at};
 
 use crate::change::{Change, Step};
@@ -39,6 +40,7 @@ impl Model for Replay {
     ghost use Rattle.std.specs.Coded.{codes};
     ghost use Rattle.mc_shard.specs.Contents.{items_code};
     ghost use Rattle.mc_shard.specs.Replay.{Replayed, replaying};
+    ghost use Rattle.mc_shard.specs.Places.{all_keys, AreLines};
     ghost use Rattle.mc_shard.specs.Index.{contents_in, IsIndex};
 
     ghost Value = { Replayed };
@@ -81,7 +83,7 @@ impl Replay {
             return Err(NoMemory);
         }
         let key = Sought::of_call(call);
-        let place = place_of(&self.contents, &key);
+        let place = place_of(&self.contents, &self.stored, &key);
         let found = item_at(&self.stored, place);
         let mut step = match step_of(self.alloc, call, counts, found) {
             Ok(step) => step,
@@ -123,11 +125,12 @@ fn share(step: &mut Step) -> Result<(), NoMemory>
 }
 
 // Returns the place of the item of a call's key, if the call has a key.
-fn place_of(contents: &Contents, key: &Option<Sought<'_>>) -> Option<u32>
-    ensures value { result ≡ place_at contents.now.places key.now }
+fn place_of(contents: &Contents, stored: &Vec<StoredItem>, key: &Option<Sought<'_>>) -> Option<u32>
+    requires lines { AreLines stored.now.items contents.now.places.lines }
+    ensures value { result ≡ place_at (all_keys stored.now.items contents.now.places) key.now }
 {
     match key {
-        Some(key) => contents.place_of(key),
+        Some(key) => contents.place_of(stored, key),
         None => None,
     }
 }
@@ -180,7 +183,7 @@ fn carry_out(
         }
         Change::Remove => {
             if let Some(key) = key {
-                contents.remove(key);
+                contents.remove(stored, key);
             }
             Ok(())
         }
@@ -208,7 +211,7 @@ fn put(
         ≡ contents_in stored.old.items contents.old) }
     ensures index { IsIndex stored.new.items contents.new }
 {
-    match contents.place_of(key) {
+    match contents.place_of(stored, key) {
         Some(place) => {
             drop(mem::replace(&mut stored[place as usize].item, item));
             contents.count_put(true);
@@ -248,10 +251,10 @@ fn put_new(
             return Err(refused);
         }
     };
-    match contents.put(key, place) {
-        Ok(before) => {
+    match contents.ready(stored, key) {
+        Ok(spot) => {
             stored.push_reserved(StoredItem { key: copy, item });
-            contents.count_put(before.is_some());
+            contents.put(key, spot, place);
             Ok(())
         }
         Err(refused) => {

@@ -3,6 +3,7 @@ ghost use Rattle.std.specs.Prelude.{◌≡◌, ◌+◌, ◌^◌, ◌<◌, length
 ghost use Rattle.mc_calls.specs.Call.{key_of};
 ghost use Rattle.mc_calls.specs.History.{IsHistory};
 ghost use Rattle.mc_shard.specs.Shard.{state_of, last_of, TallyCounts, entry_of, reply_of, with_entry, state_past};
+ghost use Rattle.mc_shard.specs.Places.{all_keys, AreLines};
 ghost use Rattle.mc_shard.specs.Index.{place_at, found_at};
 
 use super::Shard;
@@ -67,7 +68,7 @@ impl Shard {
         ensures sound { IsHistory self.new.shards self.new.number self.new.history }
     {
         let stamp = self.last.max(seen) + 1;
-        let place = place_at(&self.contents, &key);
+        let place = place_at(&self.contents, &self.ledger, &key);
         let found = item_at(&self.ledger, place);
         let Step { reply, change } = match step_of(
             self.alloc,
@@ -131,11 +132,12 @@ fn shared(call: &mut Call) -> Result<Option<Hashed>, NoMemory>
 }
 
 // Returns the place of the item of a call's key, if the call has a key.
-fn place_at(contents: &Contents, key: &Option<Hashed>) -> Option<u32>
-    ensures value { result ≡ place_at contents.now.places key.now }
+fn place_at(contents: &Contents, ledger: &Ledger, key: &Option<Hashed>) -> Option<u32>
+    requires lines { AreLines ledger.now.stored contents.now.places.lines }
+    ensures value { result ≡ place_at (all_keys ledger.now.stored contents.now.places) key.now }
 {
     match key {
-        Some(key) => contents.place_of(&key.sought()),
+        Some(key) => contents.place_of(ledger, &key.sought()),
         None => None,
     }
 }

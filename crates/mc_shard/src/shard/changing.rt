@@ -160,8 +160,8 @@ fn put_stored(
         drop(stored);
         return Err((exchange, NoMemory));
     };
-    let before = match contents.put(key, place) {
-        Ok(before) => before,
+    let spot = match contents.ready(ledger, key) {
+        Ok(spot) => spot,
         Err(refused) => {
             drop(stored);
             return Err((exchange, refused));
@@ -169,12 +169,11 @@ fn put_stored(
     };
     match ledger.push_other(tag, stamp, exchange, Some(stored)) {
         Ok(_) => {
-            contents.count_put(before.is_some());
+            contents.put(key, spot, place);
             Ok(())
         }
         Err((exchange, stored, refused)) => {
             drop(stored);
-            contents.put_back(key, before);
             Err((exchange, refused))
         }
     }
@@ -201,7 +200,7 @@ fn remove(
 {
     match keep(ledger, tag, stamp, exchange) {
         Ok(()) => {
-            contents.remove(&key.sought());
+            contents.remove(ledger, &key.sought());
             drop(key);
             Ok(())
         }

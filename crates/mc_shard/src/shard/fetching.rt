@@ -6,7 +6,8 @@ ghost use Rattle.mc_calls.specs.Key.{hash_of};
 ghost use Rattle.mc_calls.specs.History.{IsHistory};
 ghost use Rattle.mc_history.specs.Recorded as ledgers;
 ghost use Rattle.mc_shard.specs.Shard.{state_of, last_of, entry_of, reply_of, with_entry, state_past};
-ghost use Rattle.mc_shard.specs.Index.{IsFor, reply_at};
+ghost use Rattle.mc_shard.specs.Places.{IsFor};
+ghost use Rattle.mc_shard.specs.Index.{reply_at};
 
 use super::Shard;
 use crate::contents::Noted;
@@ -46,7 +47,9 @@ impl Shard {
         ensures sound { IsHistory self.new.shards self.new.number self.new.history }
     {
         let stamp = self.last.max(seen) + 1;
-        let found = self.contents.place_of(&Sought::with_hash(key, hash));
+        let found = self
+            .contents
+            .place_of(&self.ledger, &Sought::with_hash(key, hash));
         if replies.reserve(1).is_err() {
             return Err(NoMemory);
         }
@@ -75,7 +78,9 @@ impl Shard {
     {
         let stamp = self.last.max(seen) + 1;
         let hash = hash_of(key.bytes());
-        let found = self.contents.place_of(&Sought::with_hash(&key, hash));
+        let found = self
+            .contents
+            .place_of(&self.ledger, &Sought::with_hash(&key, hash));
         let reply = match take_get(&mut self.ledger, tag, stamp, key, found) {
             Ok(reply) => reply,
             Err(back) => return Err(back),

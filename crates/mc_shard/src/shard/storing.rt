@@ -89,19 +89,17 @@ fn put(
     let Ok(place) = ledger.next_place() else {
         return Err((key, item, NoMemory));
     };
-    let before = match contents.put(&Sought::with_hash(&key, hash), place) {
-        Ok(before) => before,
+    let spot = match contents.ready(ledger, &Sought::with_hash(&key, hash)) {
+        Ok(spot) => spot,
         Err(refused) => return Err((key, item, refused)),
     };
     match ledger.push_set(tag, stamp, key, item) {
         Ok(_) => {
-            contents.count_put(before.is_some());
+            let key = &ledger.stored(place).key;
+            contents.put(&Sought::with_hash(key, hash), spot, place);
             Ok(())
         }
-        Err((key, item, refused)) => {
-            contents.put_back(&Sought::with_hash(&key, hash), before);
-            Err((key, item, refused))
-        }
+        Err(back) => Err(back),
     }
 }
 

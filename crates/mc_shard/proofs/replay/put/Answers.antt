@@ -1,4 +1,4 @@
-use Rattle.std.proofs.Common.{List, set, ap}
+use Rattle.std.proofs.Common.{set, ap}
 use Rattle.mc_calls.specs.declared.item.Item.{Item}
 use Rattle.mc_history.specs.Recorded.{keyed}
 use Rattle.mc_shard.proofs.IndexLemmas.{replaced_index, replaced_contents}

@@ -1,4 +1,4 @@
-use Rattle.std.proofs.Common.{◌≡◌, refl, ap, sym, ◌∙◌}
+use Rattle.std.proofs.Common.{◌≡◌, ap, ◌∙◌}
 use Rattle.std.specs.Prelude.{Option, option_copied}
 use Rattle.mc_calls.specs.declared.item.Item.{Item}
 use Rattle.mc_calls.specs.declared.tallied.Tallied.{Tallied}
@@ -8,7 +8,8 @@ use Rattle.mc_calls.specs.Shard.{State, Outcome, tallied, outcome_of, outcome_on
 use Rattle.mc_shard.specs.declared.change.Step.{Step}
 use Rattle.mc_shard.specs.Step.{effect_in, outcome_in}
 use Rattle.mc_shard.specs.Replay.{Replayed, replaying, state_replayed}
-use Rattle.mc_shard.specs.Index.{contents_in, items_at, place_at}
+use Rattle.mc_shard.specs.Places.{all_keys}
+use Rattle.mc_shard.specs.Index.{contents_in, place_at}
 use Rattle.mc_shard.proofs.StoreLemmas.{tallied_is, found_is, contents_noted}
 use Rattle.mc_shard.proofs.replay.Replay.answer.Goals as goal
 
@@ -21,7 +22,7 @@ outcome_is c =
     ∙ ap (λ (counts : Tallied). outcome_of counts c.args.call.now (option_copied c.item_at-found.result)) (c.tallied-counts.ensures.value ∙ tallied_is stored contents c.self.invariant.2)
     ∙ ap (λ (found : Option Item). outcome_of (tallied (contents_in stored contents)) c.args.call.now found)
     (c.item_at-found.ensures.value ∙ found_is stored contents (key_of c.args.call.now) c.place_of-place.result
-    (c.place_of-place.ensures.value ∙ ap (place_at contents.places) c.of_call-key.ensures.value))
+    (c.place_of-place.ensures.value ∙ ap (place_at (all_keys stored contents.places)) c.of_call-key.ensures.value))
 
 pub returns-in-Ok-carry_out-clause-reply : goal.returns-in-Ok-carry_out-clause-reply
 returns-in-Ok-carry_out-clause-reply c =

@@ -1,10 +1,9 @@
-use Rattle.std.proofs.Common.{◌+◌, ◌<◌, ◌∷◌, [], ◌++◌, List, ap, ◌∙◌, arith}
+use Rattle.std.proofs.Common.{◌+◌, ◌∷◌, [], ◌++◌, List, ap, ◌∙◌, arith}
 use Rattle.mc_calls.specs.declared.call.Call.TheVariants.{Get}
 use Rattle.mc_calls.specs.declared.call_reply.CallReply.{CallReply}
-use Rattle.mc_calls.specs.Shard.{State}
 use Rattle.mc_stats.specs.Counts.{with_get}
 use Rattle.mc_shard.specs.Shard.{kept, reply_of}
-use Rattle.mc_shard.specs.Buckets.{place_in}
+use Rattle.mc_shard.specs.Places.{place_in, all_keys}
 use Rattle.mc_shard.proofs.IndexLemmas.{is_for}
 use Rattle.mc_shard.proofs.SoundLemmas.{state_longer}
 use Rattle.mc_shard.proofs.GetLemmas.{gets_fit, sets_fit, indexed_got, reply_got, view_got}
@@ -12,7 +11,7 @@ use Rattle.mc_shard.proofs.shard.Shard.fetch.Goals as goal
 
 pub note_get-requires : goal.note_get-requires
 note_get-requires c = record {
-  found = is_for c.self.inside.ledger.stored c.self.inside.contents.places c.args.key.now c.place_of-found.result (c.place_of-found.ensures.value ∙ ap (place_in c.self.inside.contents.places) c.with_hash.ensures.value) c.self.invariant.index.places;
+  found = is_for c.self.inside.ledger.stored (all_keys c.self.inside.ledger.stored c.self.inside.contents.places) c.args.key.now c.place_of-found.result (c.place_of-found.ensures.value ∙ ap (place_in (all_keys c.self.inside.ledger.stored c.self.inside.contents.places)) c.with_hash.ensures.value) c.self.invariant.index.places;
 }
 
 pub note-requires-clause-gets : goal.note-requires-clause-gets
@@ -32,7 +31,7 @@ note-requires-clause-misses c = c.self.invariant.index.counts_are.few_misses
 pub invariant_of-self-2 : goal.invariant_of-self-2
 invariant_of-self-2 c =
     indexed_got c.self.inside.number c.self.inside.shards c.self.inside.last (c.max-stamp.result + 1) c.self.inside.contents c.note.new.self c.self.inside.ledger c.note_get.new.ledger
-    c.args.tag c.args.key.now c.place_of-found.result c.self.invariant (c.place_of-found.ensures.value ∙ ap (place_in c.self.inside.contents.places) c.with_hash.ensures.value) c.in-Ok.ensures.ok
+    c.args.tag c.args.key.now c.place_of-found.result c.self.invariant (c.place_of-found.ensures.value ∙ ap (place_in (all_keys c.self.inside.ledger.stored c.self.inside.contents.places)) c.with_hash.ensures.value) c.in-Ok.ensures.ok
     (c.note.ensures.value ∙ ap (λ hit. record c.self.inside.contents { counts = with_get hit c.self.inside.contents.counts }) c.is_some.ensures)
     (omega arith) c.in-Ok.ensures.part c.in-Ok.ensures.fits
 
@@ -43,12 +42,12 @@ returns-clause-reply c =
     ∙ ap (λ (r : CallReply). c.args.replies.now.items ++ r ∷ [])
     (c.in-Ok.ensures.reply
     ∙ reply_got c.self.inside.number c.self.inside.shards c.self.inside.last (c.max-stamp.result + 1) c.self.inside.contents c.note.new.self c.self.inside.ledger c.note_get.new.ledger
-    c.args.tag c.args.key.now c.place_of-found.result c.self.invariant (c.place_of-found.ensures.value ∙ ap (place_in c.self.inside.contents.places) c.with_hash.ensures.value) c.in-Ok.ensures.ok c.args.self.now c.self.view_is)
+    c.args.tag c.args.key.now c.place_of-found.result c.self.invariant (c.place_of-found.ensures.value ∙ ap (place_in (all_keys c.self.inside.ledger.stored c.self.inside.contents.places)) c.with_hash.ensures.value) c.in-Ok.ensures.ok c.args.self.now c.self.view_is)
 
 pub returns-clause-ok : goal.returns-clause-ok
 returns-clause-ok c =
     view_got c.self.inside.number c.self.inside.shards c.self.inside.last (c.max-stamp.result + 1) c.self.inside.contents c.note.new.self c.self.inside.ledger c.note_get.new.ledger
-    c.args.tag c.args.key.now c.place_of-found.result c.self.invariant (c.place_of-found.ensures.value ∙ ap (place_in c.self.inside.contents.places) c.with_hash.ensures.value) c.in-Ok.ensures.ok c.args.self.now c.self.view_is
+    c.args.tag c.args.key.now c.place_of-found.result c.self.invariant (c.place_of-found.ensures.value ∙ ap (place_in (all_keys c.self.inside.ledger.stored c.self.inside.contents.places)) c.with_hash.ensures.value) c.in-Ok.ensures.ok c.args.self.now c.self.view_is
 
 pub returns-clause-state : goal.returns-clause-state
 returns-clause-state c =

@@ -1,16 +1,16 @@
-use Rattle.std.proofs.Common.{◌≡◌, ◌+◌, ◌<◌, ◌≤◌, ◌^◌, ℕ, List, refl, ap, sym, subst, ◌∙◌, arith}
+use Rattle.std.proofs.Common.{◌≡◌, ◌+◌, ◌<◌, ◌^◌, refl, ap, sym, subst, ◌∙◌, arith}
 use Rattle.std.specs.Prelude.{Option, option_copied}
 use Rattle.mc_calls.specs.declared.item.Item.{Item}
 use Rattle.mc_calls.specs.declared.tallied.Tallied.{Tallied}
 use Rattle.mc_calls.specs.Kind.{MayAnswer}
 use Rattle.mc_calls.specs.Call.{key_of}
-use Rattle.mc_calls.specs.Shard.{State, Outcome, Effect, tallied, item_at, outcome_of, reply_to, state_with}
+use Rattle.mc_calls.specs.Shard.{State, Outcome, tallied, item_at, outcome_of, reply_to}
 use Rattle.mc_calls.proofs.KindLemmas.{outcome_answers}
-use Rattle.mc_calls.proofs.ReplayLemmas.{calls-state_with}
 use Rattle.mc_shard.specs.Step.{effect_in, outcome_in}
 use Rattle.mc_calls.specs.declared.call_reply.CallReply.{CallReply}
 use Rattle.mc_shard.specs.Shard.{TallyCounts, state_of, entry_of, with_entry}
-use Rattle.mc_shard.specs.Index.{contents_in, items_at, found_at}
+use Rattle.mc_shard.specs.Places.{all_keys}
+use Rattle.mc_shard.specs.Index.{contents_in, items_at}
 use Rattle.mc_shard.proofs.IndexLemmas.{places_within}
 use Rattle.mc_shard.proofs.GetLemmas.{gets_fit, sets_fit}
 use Rattle.mc_shard.proofs.SoundLemmas.{calls-made, tally_counts}
@@ -18,11 +18,11 @@ use Rattle.mc_shard.proofs.StoreLemmas.{tallied_is, found_is, indexed_made, view
 use Rattle.mc_shard.proofs.shard.Shard.make_shared.Goals as goal
 
 pub item_at-found-requires : goal.item_at-found-requires
-item_at-found-requires c = record { within = places_within c.self.inside.ledger.stored c.self.inside.contents.places c.args.key c.place_at-place.result c.place_at-place.ensures.value c.self.invariant.index.places }
+item_at-found-requires c = record { within = places_within c.self.inside.ledger.stored (all_keys c.self.inside.ledger.stored c.self.inside.contents.places) c.args.key c.place_at-place.result c.place_at-place.ensures.value c.self.invariant.index.places }
 
 -- the outcome is that of the table
 outcome_is : (c : goal.After-self-1) → outcome_in c.args.key c.in-Ok.step
-    ≡ outcome_of (tallied (contents_in c.self.inside.ledger.stored c.self.inside.contents)) c.args.call (item_at (items_at c.self.inside.ledger.stored c.self.inside.contents.places) (key_of c.args.call))
+    ≡ outcome_of (tallied (contents_in c.self.inside.ledger.stored c.self.inside.contents)) c.args.call (item_at (items_at c.self.inside.ledger.stored (all_keys c.self.inside.ledger.stored c.self.inside.contents.places)) (key_of c.args.call))
 outcome_is c =
     let stored = c.self.inside.ledger.stored in
     let contents = c.self.inside.contents in
@@ -30,7 +30,7 @@ outcome_is c =
     ∙ ap (λ (counts : Tallied). outcome_of counts c.args.call (option_copied c.item_at-found.result)) (c.tallied.ensures.value ∙ tallied_is stored contents c.self.invariant.index)
     ∙ ap (λ (found : Option Item). outcome_of (tallied (contents_in stored contents)) c.args.call found)
     (c.item_at-found.ensures.value ∙ found_is stored contents c.args.key c.place_at-place.result c.place_at-place.ensures.value
-    ∙ ap (item_at (items_at stored contents.places)) c.requires.key)
+    ∙ ap (item_at (items_at stored (all_keys stored contents.places))) c.requires.key)
 
 -- the reply is of the table
 pub note_of-noted-requires : goal.note_of-noted-requires
