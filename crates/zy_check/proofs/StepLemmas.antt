@@ -1,10 +1,12 @@
 -- Walking through the entries: the connections.
 use Rattle.std.specs.List.{slice_get, slice_set}
+use Rattle.std.specs.Prelude.{IfSome}
 use Rattle.std.proofs.Common.{◌≡◌, ◌↔◌, ℕ, ◌+◌, ◌<◌, ◌≤◌, Bool, true, List, [], ◌∷◌, ◌++◌, length, get_or, take, Option, None, Some, refl, sym, ap, ◌∙◌, subst, arith}
 use Rattle.std.proofs.lemmas.List.{length-set, length-map, take_all}
 use Rattle.std.proofs.lemmas.Option.{slice_get_within, slice_get_past, slice_get-get_or}
 use mathlib.Core.Logic.{dite}
 use native.Mathlib.Decide.{ℕ_discrete}
+use Rattle.mc_calls.specs.declared.call.Call.{Call}
 use Rattle.mc_calls.specs.declared.call_reply.CallReply.{CallReply}
 use Rattle.mc_calls.specs.declared.entry.Entry.{Entry}
 use Rattle.mc_calls.specs.Kind.{MayAnswer}
@@ -22,10 +24,11 @@ use Rattle.zy_check.specs.declared.compared.Differing.{Differing}
 use Rattle.zy_check.specs.declared.track.Track.{Track}
 use Rattle.zy_check.specs.Given.{Given, due_in, IsNextCall, AreRight, HasEveryEntry, IsOutput}
 use Rattle.zy_check.specs.Cause.{IsComplete, IsMissing}
-use Rattle.zy_check.specs.Begun.{Begun, asked_in}
+use Rattle.zy_check.specs.Begun.{Begun, asked_in, IsCallAt}
 use Rattle.zy_check.specs.Track.{HasMadeCalls, IsAtCall, IsAtEnd, StandsAtSession, AreCompared, with_reply}
 use Rattle.zy_check.specs.Walk.{AreTracked, IsDueIn, IsNextIn}
 use Rattle.zy_check.specs.Missing.{AreEnded}
+use Rattle.zy_check.proofs.AskedLemmas.{none_left}
 use Rattle.zy_check.proofs.DueLemmas.{tagged_at}
 use Rattle.zy_check.proofs.ListLemmas.{there}
 use Rattle.zy_check.proofs.RightLemmas.{whole_all}
@@ -176,6 +179,26 @@ due_kind index e state reply b call due same is =
     let d : due_of e ≡ record { tag = tag_of e.tag.conn index (0 + length b.replies); call = call } = cc in
     let asked : e.call ≡ call.call = ap (λ (x : Due). x.call.call) d in
     subst (λ r. MayAnswer call.call r) (sym same) (subst (λ c. MayAnswer c (reply_to state e.call)) asked (reply_answers state e.call))
+
+-- the connection of an entry that is next has this call next
+pub due_here : (tracks : List Track) (e : Entry) (conn : ℕ) (t : Track) → IsNextIn tracks e → conn ≡ e.tag.conn → t ≡ get_or tracks conn t → IsDueIn t.begun t.commands e
+due_here tracks e conn t next is got =
+    next.due t (subst (λ n. slice_get tracks n ≡ Some t) is (slice_get-get_or tracks conn t (omega (arith, next.within, is)) ∙ ap Some (sym got)))
+
+-- the call that is next is that of the entry
+pub due_call : (begun : Option Begun) (index : ℕ) (e : Entry) (call : Call) → IsDueIn begun index e → ((b : Begun) → begun ≡ Some b → IsCallAt (asked_in b) (length b.replies) call) → call ≡ e.call
+due_call None index e call due is = absurd due
+due_call (Some b) index e call due is = go (slice_get (asked_in b) (length b.replies)) refl (is b refl)
+  where
+    go : (found : Option ShardCall) → slice_get (asked_in b) (length b.replies) ≡ found → IfSome found (λ (c : ShardCall). call ≡ c.call) → call ≡ e.call
+    go None none same = absurd (omega (none_left (asked_in b) (length b.replies) (sym none) (omega (arith, due.0)), arith, due.0))
+    go (Some c) there same =
+        let none : 0 + length b.replies ≡ length b.replies = omega arith in
+        let tagged : slice_get (due_at b.shards e.tag.conn index b.command) (length b.replies) ≡ Some (record { tag = tag_of e.tag.conn index (0 + length b.replies); call = c }) =
+        tagged_at e.tag.conn index 0 (length b.replies) (asked_in b) c there in
+        let both : Some (due_of e) ≡ Some (record { tag = tag_of e.tag.conn index (0 + length b.replies); call = c }) = sym due.1 ∙ tagged in
+        let d : due_of e ≡ record { tag = tag_of e.tag.conn index (0 + length b.replies); call = c } = cc in
+        same ∙ sym (ap (λ (x : Due). x.call.call) d)
 
 -- ---- the end of the walk
 

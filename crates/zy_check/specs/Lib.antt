@@ -4,6 +4,7 @@ pub mod Answered
 pub mod OfRun
 pub mod Cursor
 pub mod Begun
+pub mod Single
 pub mod Comparing
 pub mod Output
 pub mod Track

@@ -5,9 +5,9 @@ ghost use Rattle.mc_calls.specs.Kind.{MayAnswer};
 ghost use Rattle.mc_parse.specs.declared.shard_call.ShardCall.{ShardCall};
 ghost use Rattle.mc_parse.specs.Calls.{due_at, due_of, tag_of};
 ghost use Rattle.mc_reply.specs.Text.{text};
-ghost use Rattle.zy_check.specs.Begun.{asked_in};
+ghost use Rattle.zy_check.specs.Begun.{asked_in, IsCallAt};
 
-use mc_calls::{CallReply, Replies};
+use mc_calls::{Call, CallReply, Replies};
 use mc_history::EntryRef;
 use mc_parse::{Command, ShardCall, call_at};
 use mc_reply::reply_text;
@@ -80,6 +80,17 @@ impl Begun {
         }
     }
 
+    /// Returns its next call.
+    pub fn call(&self) -> &Call
+        requires more { length self.now.replies < length (asked_in self.now) }
+        ensures value { IsCallAt (asked_in self.now) (length self.now.replies) result.now }
+    {
+        match &self.next {
+            Some(next) => &next.call,
+            None => unreachable!(),
+        }
+    }
+
     /// Takes the reply to its next call.
     pub fn answer(&mut self, reply: CallReply) -> Result<(), NoMemory>
         requires more { length self.old.replies < length (asked_in self.old) }
@@ -127,8 +138,8 @@ impl Begun {
     }
 }
 
-// Checks whether an entry is this part of a command.
-fn is_call(entry: &EntryRef<'_>, conn: u32, index: u64, part: usize, call: &ShardCall) -> bool
+/// Checks whether an entry is this part of a command.
+pub fn is_call(entry: &EntryRef<'_>, conn: u32, index: u64, part: usize, call: &ShardCall) -> bool
     ensures exact { result ≡ true
         ↔ due_of entry.now ≡ record { tag = tag_of conn index part; call = call.now } }
 {

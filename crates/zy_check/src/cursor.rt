@@ -1,13 +1,13 @@
 //! The commands of a stream, one at a time.
-ghost use Rattle.std.specs.Prelude.{◌≡◌, ◌<◌, ◌≤◌, ℕ, List, [], length, IfOk, OnOk};
+ghost use Rattle.std.specs.Prelude.{◌<◌, ◌≤◌, ℕ, List, [], length, IfOk, OnOk, option_map};
 ghost use Rattle.mc_parse.specs.declared.command.Command.{Command};
+ghost use Rattle.zy_frame.specs.Frame.{command_of};
 ghost use Rattle.zy_check.specs.Cursor.{HasGivenCommands, GaveNext};
 
-use mc_parse::Command;
 use std::alloc::Global;
 use std::marker::Model;
 use zy_base::{Blob, NoMemory};
-use zy_frame::{Framer, Frames, meaning};
+use zy_frame::{Frame, Framer, Frames};
 
 // How many bytes are cut at a time. The commands that begin and end in a piece wait with its cursor,
 // and each connection has one.
@@ -44,24 +44,16 @@ impl Cursor {
         }
     }
 
-    /// Returns the next command of the stream; `None` after the last one. All calls are given the
-    /// same stream.
-    pub fn next(&mut self, stream: &[u8]) -> Result<Option<Command>, NoMemory>
-        ensures gave { IfOk result (GaveNext self.old self.new stream.now) }
+    /// Returns the frame of the next command of the stream; `None` after the last one. All calls are
+    /// given the same stream.
+    pub fn next(&mut self, stream: &[u8]) -> Result<Option<Frame>, NoMemory>
+        ensures gave { IfOk result (λ found.
+            GaveNext self.old self.new stream.now (option_map command_of found)) }
     {
         while self.at < stream.len() && self.frames.len() == 0 {
             self.read_on(stream)?;
         }
-        match self.frames.next() {
-            None => Ok(None),
-            Some(frame) => match meaning(self.alloc, frame) {
-                Ok(command) => Ok(Some(command)),
-                Err((frame, refused)) => {
-                    drop(frame);
-                    Err(refused)
-                }
-            },
-        }
+        Ok(self.frames.next())
     }
 
     // Cuts the next piece of the stream.

@@ -11,23 +11,21 @@ ghost use Rattle.zy_check.specs.Answered.{has_bytes};
 ghost use Rattle.zy_check.specs.Given.{Given, found_output};
 ghost use Rattle.zy_check.specs.Cursor.{HasGivenCommands};
 ghost use Rattle.zy_check.specs.Comparing.{Finishes};
-ghost use Rattle.zy_check.specs.Begun.{Begun, asked_in};
+ghost use Rattle.zy_check.specs.Begun.{Begun, asked_in, IsCallAt};
 ghost use Rattle.zy_check.specs.Track.{HasMadeCalls, IsAtCall, IsAtEnd, HasNoCallLeft, with_reply};
 
-use crate::begun::Begun;
 use crate::compared::{Compared, Differing};
 use crate::cursor::Cursor;
 use crate::files::Files;
-use mc_calls::CallReply;
+use crate::in_progress::InProgress;
+use mc_calls::{Call, CallReply};
 use mc_history::EntryRef;
 use std::alloc::Global;
 use std::mem;
 use zy_base::{Blob, NoMemory};
 
-// The most bytes and replies for which room is kept.
+// The most bytes for which room is kept.
 const TEXT_ROOM: usize = 4096;
-
-const REPLY_ROOM: usize = 128;
 
 /// A connection's place in its streams: the session that is read and the place in it, the command
 /// in progress, the number of commands before it, how far its outputs were compared, and which of its
@@ -37,12 +35,11 @@ pub struct Track {
     alloc: Global,
     session: u32,
     cursor: Cursor,
-    begun: Option<Begun>,
+    begun: InProgress,
     commands: u64,
     compared: Compared,
     answered: Vec<bool>,
-    // Room for the replies to the next command, and for its text, which those of the last one had.
-    replies: Vec<CallReply>,
+    // Room for the text of the next command, which that of the last one had.
     text: Blob,
 }
 
@@ -55,14 +52,13 @@ impl Track {
             alloc,
             session: 0,
             cursor: Cursor::new(alloc),
-            begun: None,
+            begun: InProgress::none(alloc),
             commands: 0,
             compared: Compared {
                 at: 0,
                 differing: None,
             },
             answered: Vec::new(alloc),
-            replies: Vec::new(alloc),
             text: Blob::new(alloc),
         }
     }
@@ -98,7 +94,7 @@ impl Track {
         ensures end { IfOk result (λ there. there ≡ false → IsAtEnd files.now conn self.new) }
     {
         for _ in 0..u64::MAX {
-            if self.is_at_call() {
+            if self.begun.is_at_call() {
                 return Ok(true);
             }
             self.finish(files, conn)?;
@@ -115,10 +111,16 @@ impl Track {
             ↔ slice_get (due_at b.shards conn self.now.commands b.command) (length b.replies)
             ≡ Some (due_of entry.now)) }
     {
-        match &self.begun {
-            Some(begun) => begun.is_due(entry, conn, self.commands),
-            None => false,
-        }
+        self.begun.is_due(entry, conn, self.commands)
+    }
+
+    /// Returns the call that is next.
+    pub fn call(&self) -> &Call
+        requires next { IsAtCall self.now.begun }
+        ensures value { (b : Begun) → self.now.begun ≡ Some b
+            → IsCallAt (asked_in b) (length b.replies) result.now }
+    {
+        self.begun.call()
     }
 
     /// Takes the reply to the call that is next.
@@ -129,25 +131,11 @@ impl Track {
         ensures ok { OnOk result (self.new ≡ record self.old { begun = with_reply self.old.begun reply }) }
         ensures err { OnErr result (self.new ≡ self.old) }
     {
-        match &mut self.begun {
-            Some(begun) => begun.answer(reply),
-            None => unreachable!(),
-        }
+        self.begun.answer(reply)
     }
 }
 
 impl Track {
-    // Checks whether the command that is begun has a call left.
-    fn is_at_call(&self) -> bool
-        ensures call { result ≡ true → IsAtCall self.now.begun }
-        ensures done { result ≡ false → HasNoCallLeft self.now.begun }
-    {
-        match &self.begun {
-            Some(begun) => !begun.is_done(),
-            None => false,
-        }
-    }
-
     // Compares the text of the command that is begun, if there is one; all its calls are answered.
     fn finish(&mut self, files: &Files, conn: u32) -> Result<(), NoMemory>
         requires done { HasNoCallLeft self.old.begun }
@@ -155,13 +143,13 @@ impl Track {
             → HasMadeCalls files.now conn self.new made) }
         ensures none { OnOk result (self.new.begun ≡ None) }
     {
-        let Some(begun) = &self.begun else {
+        if self.begun.is_none() {
             return Ok(());
-        };
+        }
         let Some(commands) = self.commands.checked_add(1) else {
             return Err(NoMemory);
         };
-        write_text(&mut self.text, begun)?;
+        self.begun.write_text(&mut self.text)?;
         self.compared.add(
             files.output(conn, self.session),
             self.session,
@@ -170,7 +158,7 @@ impl Track {
         note(&mut self.answered, self.text.bytes())?;
         self.commands = commands;
         keep_text_room(&mut self.text, self.alloc);
-        keep_reply_room(&mut self.replies, &mut self.begun);
+        self.begun.end();
         Ok(())
     }
 
@@ -187,11 +175,7 @@ impl Track {
             return Ok(false);
         }
         match self.cursor.next(files.stream(conn, self.session))? {
-            Some(command) => {
-                let room = empty_room(&mut self.replies, self.alloc);
-                let begun = Begun::new(command, files.shards(), room)?;
-                drop(mem::replace(&mut self.begun, Some(begun)));
-            }
+            Some(frame) => self.begun.begin(frame, files.shards())?,
             None => self.end_session(files, conn),
         }
         Ok(true)
@@ -215,43 +199,11 @@ impl Track {
     }
 }
 
-// Writes the text of a command whose calls are all answered.
-fn write_text(out: &mut Blob, begun: &Begun) -> Result<(), NoMemory>
-    requires done { length (asked_in begun.now) ≡ length begun.now.replies }
-    ensures value { OnOk result (out.new ≡ text begun.now.command begun.now.replies) }
-{
-    out.truncate(0);
-    begun.add_text(out)
-}
-
 // Lets the room of a text go if it is large.
 fn keep_text_room(room: &mut Blob, alloc: Global) {
     if room.bytes().len() > TEXT_ROOM {
         drop(mem::replace(room, Blob::new(alloc)));
     }
-}
-
-// Ends a command, and keeps the room of its replies.
-fn keep_reply_room(room: &mut Vec<CallReply>, ended: &mut Option<Begun>)
-    ensures none { ended.new ≡ None }
-{
-    match mem::replace(ended, None) {
-        Some(begun) => drop(mem::replace(room, begun.into_room())),
-        None => {}
-    }
-}
-
-// Takes the room of the last replies without them; if it is large, takes none.
-fn empty_room(room: &mut Vec<CallReply>, alloc: Global) -> Vec<CallReply>
-    ensures empty { result.items ≡ [] }
-{
-    let mut taken = mem::replace(room, Vec::new(alloc));
-    if taken.len() > REPLY_ROOM {
-        drop(taken);
-        return Vec::new(alloc);
-    }
-    taken.clear();
-    taken
 }
 
 // Notes whether a command with this text is answered.

@@ -55,7 +55,7 @@ fn wrong_at(
         return Ok(Some(Cause::NotNext { entry: at }));
     }
     // The shard's reply is kept, which shares its value with the shard's item; a copy of the entry's would not.
-    let reply = answer_again(entry, &mut states[entry.shard() as usize])?;
+    let reply = answer_again(tracks, entry, &mut states[entry.shard() as usize])?;
     if !entry.is_reply(&reply) {
         drop(reply);
         return Ok(Some(Cause::WrongReply { entry: at }));
@@ -64,15 +64,19 @@ fn wrong_at(
     Ok(None)
 }
 
-// Makes the call of an entry again on its shard, and returns the reply.
-fn answer_again(entry: &EntryRef<'_>, state: &mut Replay) -> Result<CallReply, NoMemory>
+// Makes the call of an entry again on its shard, and returns the reply. The call is that of the
+// connection, whose key and value its stream has: it need not be made of the entry.
+fn answer_again(
+    tracks: &[Track],
+    entry: &EntryRef<'_>,
+    state: &mut Replay,
+) -> Result<CallReply, NoMemory>
+    requires next { IsNextIn tracks.now entry.now }
     ensures reply { IfOk result (λ reply. reply ≡ reply_to state.old.state entry.now.call) }
     ensures ok { OnOk result (state.new ≡ state_replayed state.old entry.now.call) }
 {
-    let exchange = entry.exchange()?;
-    let reply = state.answer(exchange.call());
-    drop(exchange);
-    reply
+    let track = &tracks[entry.tag().conn as usize];
+    state.answer(track.call())
 }
 
 // Checks whether an entry is the next call of its connection. The connection goes on to that call.

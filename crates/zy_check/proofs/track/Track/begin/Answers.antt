@@ -13,7 +13,7 @@ returns-in-None-clause-kept c made has =
     let h : StandsAtSession g c.args.conn t.session t.cursor None t.commands t.compared t.answered.items made = subst (λ (o : Option Begun). StandsAtSession g c.args.conn t.session t.cursor o t.commands t.compared t.answered.items made) c.requires.none has in
     let size = c.sessions.ensures.value in
     let more = c.if-sessions-self.false in
-    let gave = rw c.in-None.is at c.in_ok-command.ensures.gave in
+    let gave = rw c.in-None.is at c.in_ok-frame.ensures.gave in
     let all = rw c.stream.ensures.value at gave in
     rw (ends.session, ends.same.0 ∙ c.requires.none, ends.same.1, ends.answered)
     (session_ended g c.args.conn t.session t.cursor t.commands t.compared t.answered.items made h (omega arith) all next.cursor next.compared ends.cursor ends.compared)
