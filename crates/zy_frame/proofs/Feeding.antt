@@ -1,6 +1,7 @@
 -- The frames that several steps give together, and what feeding a piece means for every stream that
 -- may have brought a framer to where it is.
-use Rattle.std.proofs.Common.{◌≡◌, ℕ, ◌≤◌, false, List, [], ◌++◌, length, drop, refl, sym, ap, ◌∙◌, subst, append_assoc}
+use Rattle.std.specs.Prelude.{Result, Ok, Err, IfOk, option_to_list}
+use Rattle.std.proofs.Common.{◌≡◌, ℕ, ◌≤◌, false, List, [], ◌∷◌, ◌++◌, length, drop, arith, refl, sym, ap, ◌∙◌, subst, append_assoc}
 use Rattle.std.proofs.lemmas.Bool.{lt-ltb}
 use Rattle.std.proofs.lemmas.List.{append-nil, drop_all}
 use Rattle.zy_frame.specs.declared.frame_kind.FrameKind.{FrameKind}
@@ -9,7 +10,7 @@ use Rattle.zy_frame.specs.declared.state.State.TheVariants.{Line, Long, Block, L
 use Rattle.zy_frame.specs.Cut.{frames_of, meets_quit}
 use Rattle.zy_frame.specs.Progress.{Progress, in_line, in_long_line, in_block, in_large_block, behind_quit, without_memory, Keeps, Outcome, outcome_of, with_frames, goes_on, StandsFor, is_quit}
 use Rattle.zy_frame.specs.Feed.{Appends, AppendsFirst}
-use Rattle.zy_frame.specs.Steps.{progress_of, Gives}
+use Rattle.zy_frame.specs.Steps.{progress_of, Gives, Moves}
 use Rattle.zy_frame.proofs.GoingOn.{outcome_of-unended}
 
 with_frames-append : (given more : List FrameKind) (o : Outcome) → with_frames given (with_frames more o) ≡ with_frames (given ++ more) o
@@ -107,6 +108,26 @@ taken_behind_quit frames piece = record { keeps = tt; given = []; appended = sym
 -- after a quit line
 pub taken_quit : (framer : Progress) (frames : List FrameKind) (piece : List ℕ) → framer ≡ behind_quit → Taken framer framer frames frames piece
 taken_quit framer frames piece is = subst (λ (s : Progress). Taken s s frames frames piece) (sym is) (taken_behind_quit frames piece)
+
+-- ---- a piece that is one request
+
+-- it was taken at the start of a line
+single_taken : (framer : Progress) (piece : List ℕ) (frame : FrameKind) → framer ≡ in_line [] → Moves (Line []) (Line []) [] (frame ∷ []) piece (length piece) → Taken framer framer [] (frame ∷ []) piece
+single_taken framer piece frame is m =
+    let gives : Gives (in_line []) (in_line []) [] (frame ∷ []) piece (length piece) = record { keeps = m.goes.keeps; given = option_to_list m.frame; appended = m.appended; on = m.goes.on } in
+    subst (λ (s : Progress). Taken s s [] (frame ∷ []) piece) (sym is) (taken_all (in_line []) (in_line []) [] (frame ∷ []) piece (length piece) (omega arith) gives)
+
+module _ (framer : Progress) (piece : List ℕ) (is : framer ≡ in_line []) where
+  pub single_fed : (r : Result FrameKind (List ℕ)) → IfOk r (λ frame. Moves (Line []) (Line []) [] (frame ∷ []) piece (length piece)) → IfOk r (λ _. (fed : List ℕ) → StandsFor framer fed → StandsFor framer (fed ++ piece))
+  single_fed (Ok frame) m = λ fed stands. stands_on framer framer [] (frame ∷ []) fed piece (single_taken framer piece frame is m) stands
+  single_fed (Err back) m = tt
+
+  pub single_due : (r : Result FrameKind (List ℕ)) → IfOk r (λ frame. Moves (Line []) (Line []) [] (frame ∷ []) piece (length piece))
+      → IfOk r (λ frame. (fed : List ℕ) → StandsFor framer fed → frames_of (fed ++ piece) ≡ frames_of fed ++ frame ∷ [])
+  single_due (Ok frame) m = λ fed stands.
+      let a = appends framer framer [] (frame ∷ []) fed piece (single_taken framer piece frame is m) stands in
+      a.due ∙ ap (λ (l : List FrameKind). frames_of fed ++ l) (sym a.appended)
+  single_due (Err back) m = tt
 
 -- ---- states
 

@@ -1,7 +1,7 @@
 -- The line and the block of a request that came whole.
 use Rattle.std.proofs.Common.{◌≡◌, ℕ, ◌+◌, ◌-◌, ◌≤◌, true, false, List, [], length, take, drop, sym, ap, ◌∙◌, arith}
 use Rattle.std.specs.Prelude.{nat_lt, if◌then◌else◌, Bool}
-use Rattle.std.proofs.lemmas.List.{length-take, take-take, drop-take}
+use Rattle.std.proofs.lemmas.List.{length-take, length-drop, take_all, take-take, drop-take}
 use Rattle.mc_calls.specs.Shard.{value_limit}
 use Rattle.mc_parse.specs.declared.need.Need.{Need}
 use Rattle.mc_parse.specs.declared.need.Need.TheVariants as Needs
@@ -38,6 +38,20 @@ pub block_last : (bytes : List ℕ) (line at more : ℕ) → line ≤ at + 1 →
 block_last bytes line at more within =
     let place : line + (at + 1 - line) ≡ at + 1 = omega arith in
     ap (λ (n : ℕ). drop n (take (at + 1 + more) bytes)) place ∙ drop-take (at + 1) more bytes
+
+-- the line of a piece that is one request
+pub single_line : (piece seen chomp : List ℕ) (at : ℕ) → seen ≡ piece → chomp ≡ chomped (take at seen) → chomp ≡ chomped (take at piece)
+single_line piece seen chomp at same is = is ∙ ap (λ (l : List ℕ). chomped (take at l)) same
+
+-- it comes first
+pub single_first : (piece chomp : List ℕ) (at : ℕ) → chomp ≡ chomped (take at piece) → take (length chomp) piece ≡ chomped (take at piece)
+single_first piece chomp at line = ap (λ (l : List ℕ). take (length l) piece) line ∙ line_first piece at
+
+-- its block is the rest
+pub single_rest : (piece chomp : List ℕ) (at size : ℕ) → chomp ≡ chomped (take at piece) → at + 1 + (size + 2) ≡ length piece → drop (length chomp + (at + 1 - length chomp)) piece ≡ take (size + 2) (drop (at + 1) piece)
+single_rest piece chomp at size line all =
+    let place : length chomp + (at + 1 - length chomp) ≡ at + 1 = omega (arith, ap length line, line_within piece at) in
+    ap (λ (n : ℕ). drop n piece) place ∙ sym (take_all (size + 2) (drop (at + 1) piece) (omega (arith, length-drop (at + 1) piece)))
 
 -- line and block make a frame
 pub is_whole_frame : (bytes : List ℕ) (at size : ℕ) → IsShort (take at bytes) → need (chomped (take at bytes)) ≡ Needs.Block size → size ≤ value_limit → size + 2 ≤ length (drop (at + 1) bytes)

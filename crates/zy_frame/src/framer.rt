@@ -1,13 +1,15 @@
 //! Cutting a stream as its pieces come.
-ghost use Rattle.std.specs.Prelude.{◌≡◌, ◌<◌, ◌≤◌, ℕ, List, [], ◌++◌, length, drop, Ok, IsErr, OnOk, OnErr};
+ghost use Rattle.std.specs.Prelude.{◌≡◌, ◌<◌, ◌≤◌, ℕ, List, [], ◌∷◌, ◌++◌, length, drop, Ok, IsErr, IfOk, IfErr, OnOk, OnErr};
 ghost use Rattle.zy_frame.specs.Cut.{frames_of, meets_quit};
 ghost use Rattle.zy_frame.specs.Progress.{StandsFor, IsQuit, IsRefused, kept_by, is_quit};
 ghost use Rattle.zy_frame.specs.Feed.{Appends, AppendsFirst};
 ghost use Rattle.zy_frame.specs.Steps.{Advances};
 
+use crate::frame::Frame;
 use crate::frames::Frames;
 use crate::state::{State, refuse};
 use crate::stepping::step;
+use crate::whole::take_single;
 use mc_parse::Parsed;
 use std::alloc::Global;
 use std::marker::Model;
@@ -85,6 +87,22 @@ impl Framer {
             }
         }
         Ok(())
+    }
+
+    /// Makes the frame of the next piece of the stream, if a request begins with the piece and is all of
+    /// it: a line, or a storage line with its block. The piece is moved into the frame, and the framer
+    /// stays where it is. Any other piece is handed back for `feed`. Takes no memory.
+    pub fn single_frame(&self, piece: Blob) -> Result<Frame, Blob>
+        ensures fed { IfOk result (λ _. (fed : List ℕ) → StandsFor self.now fed
+            → StandsFor self.now (fed ++ piece)) }
+        ensures due { IfOk result (λ frame. (fed : List ℕ) → StandsFor self.now fed
+            → frames_of (fed ++ piece) ≡ frames_of fed ++ frame ∷ []) }
+        ensures returned { IfErr result (λ back. back ≡ piece) }
+    {
+        match &self.state {
+            State::Line { kept } if kept.bytes().is_empty() => take_single(piece),
+            _ => Err(piece),
+        }
     }
 
     // Takes some bytes of a piece from a place on, at least one. If allocation fails, every later

@@ -1,5 +1,5 @@
 //! Taking requests that come whole.
-ghost use Rattle.std.specs.Prelude.{◌≡◌, ◌≤◌, ◌+◌, [], length, take, drop, IfOk, OnErr, IfSome};
+ghost use Rattle.std.specs.Prelude.{◌≡◌, ◌≤◌, ◌+◌, [], ◌∷◌, length, take, drop, IfOk, IfErr, OnErr, IfSome};
 ghost use Rattle.zy_base.specs.Rest.{IsRestOf};
 ghost use Rattle.mc_calls.specs.Shard.{value_limit};
 ghost use Rattle.mc_parse.specs.Words.{line_limit};
@@ -13,9 +13,9 @@ ghost use Rattle.zy_frame.specs.Steps.{LineAt, Moves, after_line, IsParsedFor};
 use crate::frame::Frame;
 use crate::frames::{Frames, append};
 use crate::keeping::{first_part, keep};
-use crate::line_end::chomp;
+use crate::line_end::{chomp, line_end};
 use mc_parse::{Need, Parsed, read_need};
-use zy_base::{Blob, NoMemory, VALUE_LIMIT};
+use zy_base::{Blob, LINE_LIMIT, NoMemory, VALUE_LIMIT};
 
 // What the end of a line gave: what the line still needs, and how many bytes were taken.
 #[derive(Clone, Copy)]
@@ -111,4 +111,55 @@ fn take_with_block(
     let whole = first_part(piece, bytes, at + 1 + (size as usize + 2))?;
     append(frames, Frame::of_whole(whole, line, at + 1 - line, parsed))?;
     Ok(())
+}
+
+// Makes the frame of a piece that is exactly one request, which is moved into it. Any other piece is
+// handed back. Takes no memory.
+pub(crate) fn take_single(piece: Blob) -> Result<Frame, Blob>
+    ensures value { IfOk result (λ frame. Moves (Line []) (Line []) [] (frame ∷ []) piece (length piece)) }
+    ensures returned { IfErr result (λ back. back ≡ piece) }
+{
+    let bytes = piece.bytes();
+    let len = bytes.len();
+    let Some(at) = line_end(bytes) else {
+        return Err(piece);
+    };
+    if at > LINE_LIMIT {
+        return Err(piece);
+    }
+    let mut parsed = Parsed::nothing();
+    match read_need(chomp(&bytes[..at]), &mut parsed) {
+        Need::Nothing if at + 1 == len => Ok(single_line(piece, at, &parsed)),
+        Need::Block { bytes: size } if size <= VALUE_LIMIT && at + 1 + (size as usize + 2) == len =>
+            { Ok(single_block(piece, at, size, &parsed)) }
+        _ => Err(piece),
+    }
+}
+
+// Makes the frame of a piece that is one line, whose line feed is at this place.
+fn single_line(piece: Blob, at: usize, parsed: &Parsed) -> Frame
+    requires line { LineAt piece at }
+    requires short { at ≤ line_limit }
+    requires alone { need (chomped (take at piece)) ≡ Needs.Nothing }
+    requires parsed { IsParsed (chomped (take at piece)) parsed.now }
+    ensures value { Moves (Line []) (Line []) [] (result ∷ []) piece (at + 1) }
+{
+    let mut piece = piece;
+    let line = chomp(&piece.bytes()[..at]).len();
+    piece.truncate(line);
+    Frame::of_line(piece, parsed)
+}
+
+// Makes the frame of a piece that is the storage line which ends at this place, with its block of this size.
+fn single_block(piece: Blob, at: usize, size: u32, parsed: &Parsed) -> Frame
+    requires line { LineAt piece at }
+    requires short { at ≤ line_limit }
+    requires sized { need (chomped (take at piece)) ≡ Needs.Block size }
+    requires small { size ≤ value_limit }
+    requires all { at + 1 + (size + 2) ≡ length piece }
+    requires parsed { IsParsed (chomped (take at piece)) parsed.now }
+    ensures value { Moves (Line []) (Line []) [] (result ∷ []) piece (at + 1 + (size + 2)) }
+{
+    let line = chomp(&piece.bytes()[..at]).len();
+    Frame::of_whole(piece, line, at + 1 - line, parsed)
 }

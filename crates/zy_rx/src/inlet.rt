@@ -1,5 +1,5 @@
 //! The end of a ring that items are offered to.
-ghost use Rattle.std.specs.Prelude.{◌≡◌, ◌+◌, ◌<◌, ◌≤◌, [], ◌∷◌, ◌++◌, IfSome, IfNone, IsNone};
+ghost use Rattle.std.specs.Prelude.{◌≡◌, ◌+◌, ◌<◌, ◌≤◌, [], ◌∷◌, ◌++◌, IfSome, IfNone, IsNone, true, false};
 
 use crate::rx::Rx;
 use rtrb::Producer;
@@ -37,10 +37,32 @@ impl<T> RingInlet<T> {
         ensures succeeds { 0 < self.old.free → IsNone result }
         ensures kept { self.new.ring ≡ self.old.ring }
     {
-        if self.producer.is_full() {
+        if !self.has_room() {
             return Some(item);
         }
-        self.producer.push_reserved(item);
+        self.offer_known(item);
         None
+    }
+
+    /// Checks whether this end knows a free slot; if it knew none, it looks.
+    #[inline(always)]
+    pub fn has_room(&mut self) -> bool
+        ensures some { result ≡ true → 0 < self.new.free }
+        ensures none { result ≡ false → self.new.free ≡ 0 }
+        ensures more { self.old.free ≤ self.new.free }
+        ensures kept { (self.new.ring ≡ self.old.ring) × (self.new.sent ≡ self.old.sent) }
+    {
+        !self.producer.is_full()
+    }
+
+    /// Appends the item to what was sent. This end knows a free slot.
+    #[inline(always)]
+    pub fn offer_known(&mut self, item: T)
+        requires room { 0 < self.old.free }
+        ensures sent { self.new.sent ≡ self.old.sent ++ item ∷ [] }
+        ensures few { self.old.free ≤ self.new.free + 1 }
+        ensures kept { self.new.ring ≡ self.old.ring }
+    {
+        self.producer.push_reserved(item);
     }
 }
