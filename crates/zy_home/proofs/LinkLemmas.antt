@@ -6,7 +6,7 @@ use Rattle.zy_frame.specs.declared.frame_kind.FrameKind.{FrameKind}
 use Rattle.zy_frame.specs.Cut.{frames_of}
 use Rattle.zy_frame.specs.Progress.{StandsFor}
 use Rattle.zy_frame.proofs.CutLaws.{frames_of_nil}
-use Rattle.zy_rx.specs.Session.{Sessions, no_sessions, with_close, streams_of}
+use Rattle.zy_rx.specs.Session.{Sessions, no_sessions, with_bytes, with_close, streams_of}
 use Rattle.zy_conn.specs.Ring.{EventInlet}
 use Rattle.zy_home.specs.Link.{Link, LinkStands, IsFresh, frames_in, ends_from}
 
@@ -36,6 +36,20 @@ ends_from-push before (stream ∷ streams) last =
 -- ---- what the connection may have received
 
 module _ (l m : Link) (s : Sessions) (h : LinkStands l s) where
+  -- bytes came that were one request, and its frame was offered or waits
+  pub stands_request : (bytes : List ℕ) (frame : FrameKind) → StandsFor m.framer (s.current ++ bytes) → frames_of (s.current ++ bytes) ≡ frames_of s.current ++ frame ∷ []
+      → m.inlet.sent ++ m.waiting ≡ l.inlet.sent ++ (l.waiting ++ frame ∷ []) → m.ends ≡ l.ends → m.cut ≡ l.cut + 1 → LinkStands m (with_bytes bytes s)
+  stands_request bytes frame framer due offers ends cut =
+      let closed = flat_map frames_of s.closed in
+      let all : frames_in (with_bytes bytes s) ≡ frames_in s ++ frame ∷ [] = frames_in-split (with_bytes bytes s) ∙ ap (λ (f : List FrameKind). closed ++ f) due
+      ∙ sym (append_assoc closed (frames_of s.current) (frame ∷ [])) ∙ ap (λ (f : List FrameKind). f ++ frame ∷ []) (sym (frames_in-split s)) in
+      record {
+        framer = framer;
+        frames = offers ∙ sym (append_assoc l.inlet.sent l.waiting (frame ∷ [])) ∙ ap (λ (f : List FrameKind). f ++ frame ∷ []) h.frames ∙ sym all;
+        ends = ends ∙ h.ends;
+        cut = omega (arith, cut, h.cut, ap (λ (f : List FrameKind). length f) all, length-append (frames_in s) (frame ∷ []));
+      }
+
   -- the session was closed
   pub stands_close : m.inlet ≡ l.inlet → m.waiting ≡ l.waiting → m.ends ≡ l.ends ++ l.cut ∷ [] → StandsFor m.framer [] → m.cut ≡ l.cut → LinkStands m (with_close s)
   stands_close inlet waiting ends framer cut =

@@ -1,4 +1,4 @@
--- How the frames that wait are offered.
+-- How frames are offered, and when they wait.
 use Rattle.std.specs.Prelude.{◌≡◌, ◌≢◌, ℕ, ◌+◌, ◌≤◌, List, [], ◌++◌, length}
 use Rattle.zy_frame.specs.declared.frame_kind.FrameKind.{FrameKind}
 use Rattle.zy_conn.specs.Ring.{EventInlet}
@@ -8,6 +8,10 @@ use Rattle.zy_home.specs.Link.{Link}
 -- the first frames that waited were offered, and the others still wait
 abbrev pub Offers : EventInlet → List FrameKind → EventInlet → List FrameKind → Type 0
 Offers inlet waiting inlet' waiting' = inlet'.sent ++ waiting' ≡ inlet.sent ++ waiting
+
+-- no frame was offered, and none waits
+abbrev pub IsUnoffered : Link → Link → Type 0
+IsUnoffered l l' = (l'.inlet ≡ l.inlet) × (l'.waiting ≡ [])
 
 -- a frame waits only if no slot is known to be free
 abbrev pub WaitsFull : Link → Type 0

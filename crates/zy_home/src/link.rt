@@ -1,16 +1,15 @@
 //! A connection of a home without its block.
-ghost use Rattle.std.specs.Prelude.{◌≡◌, ◌≢◌, ◌++◌, [], true, false, None, IfOk, OnOk, IfNone, option_to_list};
+ghost use Rattle.std.specs.Prelude.{◌≡◌, ◌≢◌, ◌+◌, [], ◌∷◌, ◌++◌, true, false, IfOk, OnOk};
 ghost use Rattle.zy_conn.specs.Work.{has_event};
 ghost use Rattle.zy_conn.specs.Block.{label_in};
 ghost use Rattle.zy_rx.specs.Session.{Sessions, with_bytes, with_close};
 ghost use Rattle.zy_home.specs.Link.{IsFor, IsFresh, LinkStands, SameLink, StandsOn, TakesIn, conn_of};
-ghost use Rattle.zy_home.specs.Offer.{Offers, IsFilled, WaitsBehind, WaitsFull};
+ghost use Rattle.zy_home.specs.Offer.{Offers, IsFilled, IsUnoffered, WaitsBehind, WaitsFull};
 ghost use Rattle.zy_home.specs.Idle.{IsIdleWith, due_mark, mark_in};
 ghost use Rattle.zy_home.specs.Place.{MeetsInlet, KnowsAll};
 
 use std::alloc::Global;
 use std::marker::Model;
-use std::mem;
 use zy_base::{Blob, NoMemory};
 use zy_calls::Output;
 use zy_conn::{Block, EventInlet};
@@ -24,8 +23,6 @@ pub struct Link {
     alloc: Global,
     inlet: EventInlet,
     framer: Framer,
-    // The frame that was handed back, which is the first of those that wait.
-    front: Option<Frame>,
     waiting: Frames,
     ends: Vec<u64>,
     cut: u64,
@@ -33,7 +30,6 @@ pub struct Link {
 }
 
 impl Model for Link {
-    ghost use Rattle.std.specs.Prelude.{◌++◌, option_to_list};
     ghost use Rattle.zy_home.specs.Link.{Link};
 
     ghost Value = { Link };
@@ -41,7 +37,7 @@ impl Model for Link {
     ghost view = { λ l. record {
       inlet = l.inlet;
       framer = l.framer;
-      waiting = option_to_list l.front ++ l.waiting;
+      waiting = l.waiting;
       ends = l.ends.items;
       cut = l.cut;
       output = l.output;
@@ -57,7 +53,6 @@ impl Link {
             alloc,
             inlet,
             framer: Framer::new(alloc),
-            front: None,
             waiting: Frames::new(alloc),
             ends: Vec::new(alloc),
             cut: 0,
@@ -77,44 +72,70 @@ impl Link {
         ensures some { result ≡ true → self.now.waiting ≢ [] }
         ensures none { result ≡ false → self.now.waiting ≡ [] }
     {
-        self.front.is_some() || self.waiting.len() > 0
+        self.waiting.len() > 0
     }
 
-    /// Receives an item of this connection: the bytes of a segment are cut, and the new frames
-    /// wait; a close ends the session, and a new one begins.
-    pub fn receive(&mut self, item: &Rx) -> Result<(), NoMemory>
-        requires own { IsFor (conn_of self.old) item.now }
-        ensures stands { OnOk result (TakesIn item.now self.old self.new) }
-        ensures kept { (self.new.inlet ≡ self.old.inlet) × (self.new.output ≡ self.old.output) }
+    /// Receives an item of this connection: the bytes of a segment are cut, and the new frames are
+    /// offered or wait; a close ends the session, and a new one begins. If the answer is `false`, no
+    /// frame was offered and none waits.
+    #[inline(always)]
+    pub fn receive(&mut self, item: Rx) -> Result<bool, NoMemory>
+        requires own { IsFor (conn_of self.old) item }
+        ensures stands { OnOk result (TakesIn item self.old self.new) }
+        ensures none { IfOk result (λ got. got ≡ false → IsUnoffered self.old self.new) }
+        ensures same { SameLink self.old self.new }
+        ensures output { self.new.output ≡ self.old.output }
     {
         match item {
             Rx::Segment { conn: _, bytes } => self.segment(bytes),
             Rx::Close { conn: _ } => self.close(),
-            Rx::End => Ok(()),
+            Rx::End => Ok(true),
         }
     }
 }
 
 impl Link {
-    // Cuts the next bytes of the session.
-    fn segment(&mut self, bytes: &Blob) -> Result<(), NoMemory>
+    // Cuts the next bytes of the session. If they are exactly one request, they are moved into its frame.
+    #[inline(always)]
+    fn segment(&mut self, bytes: Blob) -> Result<bool, NoMemory>
+        ensures stands { OnOk result ((s : Sessions) → LinkStands self.old s
+            → LinkStands self.new (with_bytes bytes s)) }
+        ensures none { IfOk result (λ got. got ≡ false → IsUnoffered self.old self.new) }
+        ensures same { SameLink self.old self.new }
+        ensures output { self.new.output ≡ self.old.output }
+    {
+        match self.framer.single_frame(bytes) {
+            Ok(frame) => {
+                offer_or_keep(&mut self.inlet, &mut self.waiting, frame)?;
+                self.cut = counted(self.cut, 1)?;
+                Ok(true)
+            }
+            Err(bytes) => {
+                let cut = self.feed(&bytes);
+                drop(bytes);
+                cut
+            }
+        }
+    }
+
+    // Cuts the next bytes of the session. The new frames wait.
+    fn feed(&mut self, bytes: &Blob) -> Result<bool, NoMemory>
         ensures stands { OnOk result ((s : Sessions) → LinkStands self.old s
             → LinkStands self.new (with_bytes bytes.now s)) }
+        ensures none { IfOk result (λ got. got ≡ false → self.new.waiting ≡ []) }
         ensures kept { (self.new.inlet ≡ self.old.inlet) × (self.new.output ≡ self.old.output) }
     {
         let before = self.waiting.len();
         self.framer.feed(bytes, &mut self.waiting)?;
         let given = self.waiting.len().saturating_sub(before) as u64;
-        match self.cut.checked_add(given) {
-            Some(cut) => self.cut = cut,
-            None => return Err(NoMemory),
-        }
-        Ok(())
+        self.cut = counted(self.cut, given)?;
+        Ok(self.is_waiting())
     }
 
     // Ends the session, and begins a new one.
-    fn close(&mut self) -> Result<(), NoMemory>
+    fn close(&mut self) -> Result<bool, NoMemory>
         ensures stands { OnOk result ((s : Sessions) → LinkStands self.old s → LinkStands self.new (with_close s)) }
+        ensures none { IfOk result (λ got. got ≡ false → self.new.waiting ≡ []) }
         ensures kept { (self.new.inlet ≡ self.old.inlet) × (self.new.output ≡ self.old.output) }
     {
         match self.ends.push(self.cut) {
@@ -122,11 +143,10 @@ impl Link {
             Err(_) => return Err(NoMemory),
         }
         self.framer = Framer::new(self.alloc);
-        Ok(())
+        Ok(self.is_waiting())
     }
 
-    /// Offers the frames that wait, the first one first, until one is handed back, which waits again.
-    /// Takes no memory.
+    /// Offers the frames that wait, the first one first, while there is room. Takes no memory.
     #[inline(always)]
     pub fn offer_waiting(&mut self)
         ensures same { SameLink self.old self.new × (self.new.output ≡ self.old.output) }
@@ -134,7 +154,7 @@ impl Link {
         ensures filled { IsFilled self.old.inlet self.new.inlet self.new.waiting }
         ensures full { WaitsFull self.new }
     {
-        offer_all(&mut self.inlet, &mut self.front, &mut self.waiting);
+        offer_all(&mut self.inlet, &mut self.waiting);
     }
 
     /// Settles the connection's block: moves its texts to the output, shows the block and the inlet
@@ -168,7 +188,6 @@ impl Link {
             alloc: _,
             inlet: _,
             framer: _,
-            front: _,
             waiting: _,
             ends,
             cut: _,
@@ -178,30 +197,51 @@ impl Link {
     }
 }
 
-// Takes the first of the frames that wait.
-fn next_waiting(front: &mut Option<Frame>, waiting: &mut Frames) -> Option<Frame>
-    ensures value { option_to_list front.old ++ waiting.old ≡ option_to_list result ++ waiting.new }
-    ensures front { front.new ≡ None }
-    ensures none { IfNone result (option_to_list front.old ++ waiting.old ≡ []) }
+// Adds to the number of frames that were cut.
+fn counted(cut: u64, given: u64) -> Result<u64, NoMemory>
+    ensures value { IfOk result (λ sum. sum ≡ cut + given) }
 {
-    if front.is_none() {
-        return waiting.next();
+    match cut.checked_add(given) {
+        Some(sum) => Ok(sum),
+        None => Err(NoMemory),
     }
-    mem::replace(front, None)
 }
 
-// Offers frames until one is handed back or none is left.
-fn offer_all(inlet: &mut EventInlet, front: &mut Option<Frame>, waiting: &mut Frames)
+// Offers a frame, if none waits before it and there is room. Otherwise it waits; if allocation fails, it
+// is dropped.
+#[inline(always)]
+fn offer_or_keep(inlet: &mut EventInlet, waiting: &mut Frames, frame: Frame) -> Result<(), NoMemory>
+    ensures ok { OnOk result (Offers inlet.old (waiting.old ++ frame ∷ []) inlet.new waiting.new) }
     ensures ring { inlet.new.ring ≡ inlet.old.ring }
-    ensures offers { Offers inlet.old (option_to_list front.old ++ waiting.old) inlet.new (option_to_list front.new
-        ++ waiting.new) }
-    ensures filled { IsFilled inlet.old inlet.new (option_to_list front.new ++ waiting.new) }
-    ensures full { option_to_list front.new ++ waiting.new ≢ [] → inlet.new.free ≡ 0 }
 {
-    while let Some(frame) = next_waiting(front, waiting) {
-        if let Some(frame) = inlet.offer(frame) {
-            *front = Some(frame);
+    if waiting.len() == 0 && inlet.has_room() {
+        inlet.offer_known(frame);
+        return Ok(());
+    }
+    match waiting.push(frame) {
+        Ok(()) => Ok(()),
+        Err((frame, e)) => {
+            drop(frame);
+            Err(e)
+        }
+    }
+}
+
+// Offers the frames that wait, until there is no room or none is left.
+#[inline(always)]
+fn offer_all(inlet: &mut EventInlet, waiting: &mut Frames)
+    ensures ring { inlet.new.ring ≡ inlet.old.ring }
+    ensures offers { Offers inlet.old waiting.old inlet.new waiting.new }
+    ensures filled { IsFilled inlet.old inlet.new waiting.new }
+    ensures full { waiting.new ≢ [] → inlet.new.free ≡ 0 }
+{
+    while waiting.len() > 0 {
+        if !inlet.has_room() {
             return;
         }
+        let Some(frame) = waiting.next() else {
+            return;
+        };
+        inlet.offer_known(frame);
     }
 }

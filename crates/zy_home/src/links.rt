@@ -13,6 +13,7 @@ pub struct Links {
     pub(crate) items: Vec<Link>,
     pub(crate) ended: bool,
     pub(crate) refused: bool,
-    // The places whose blocks got an event from the items that were cut last: they are left to settle.
+    // The places whose blocks may have got an event from the items that were cut last: they are left to
+    // settle. A place may be here twice.
     pub(crate) touched: Vec<usize>,
 }

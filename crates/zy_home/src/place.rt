@@ -111,30 +111,34 @@ pub(crate) fn settle_at<B: Publishing>(
 }
 
 // Cuts an item of the connection. If its block is away, the frames that wait are offered. Says
-// whether its block is in the slot, was idle until now, and has a frame waiting for it. It notes a
+// whether its block is in the slot and may have got a frame, so that it is left to settle. It notes a
 // failed allocation in `refused`.
+#[inline(always)]
 pub(crate) fn cut_at(
     slot: &Option<Block>,
     link: &mut Link,
-    item: &Rx,
+    item: Rx,
     refused: &mut bool,
 ) -> Result<bool, NoMemory>
-    requires own { IsFor (conn_of link.old) item.now }
+    requires own { IsFor (conn_of link.old) item }
     requires live { refused.old ≡ false }
-    ensures takes { OnOk result (TakesIn item.now link.old link.new) }
+    ensures takes { OnOk result (TakesIn item link.old link.new) }
     ensures away { OnOk result (slot.now ≡ None → WaitsFull link.new) }
     ensures idle { IfOk result (λ touched. touched ≡ false → StaysIdle slot.now link.old link.new) }
     ensures due { due_mark link.new ≡ due_mark link.old }
     ensures refused { refused.new ≡ is_err result }
 {
-    let waits = link.is_waiting();
-    if let Err(e) = link.receive(item) {
-        *refused = true;
-        return Err(e);
+    match link.receive(item) {
+        Ok(got) => {
+            if slot.is_some() {
+                return Ok(got);
+            }
+            link.offer_waiting();
+            Ok(false)
+        }
+        Err(e) => {
+            *refused = true;
+            Err(e)
+        }
     }
-    if slot.is_none() {
-        link.offer_waiting();
-        return Ok(false);
-    }
-    Ok(!waits && link.is_waiting())
 }

@@ -42,9 +42,7 @@ impl Home {
             drop(item);
             return Ok(());
         };
-        let cut = self.links.cut_for(at, &self.blocks, &item);
-        drop(item);
-        cut?;
+        self.links.cut_for(at, &self.blocks, item)?;
         self.links
             .settle_place(ring, &mut self.pass, &mut self.blocks, &mut self.room, at)
     }

@@ -64,20 +64,18 @@ impl Links {
             let Some(item) = outlet.take() else {
                 return Ok(count);
             };
-            let cut = self.cut_in(slots, &item);
-            drop(item);
-            cut?;
+            self.cut_in(slots, item)?;
         }
         Ok(ITEMS_AT_ONCE)
     }
 
     // Cuts an item, or drops it, or notes the end.
-    fn cut_in(&mut self, slots: &Vec<Option<Block>>, item: &Rx) -> Result<(), NoMemory>
+    fn cut_in(&mut self, slots: &Vec<Option<Block>>, item: Rx) -> Result<(), NoMemory>
         requires own { AreOfCore self.old }
         requires long { length slots.now.items ≡ length self.old.items.items }
         requires live { self.old.refused ≡ false }
         ensures value { OnOk result ((pass : Held Blocked)
-            → CutsIn (homed pass slots.now.items self.old) item.now (homed pass slots.now.items self.new)) }
+            → CutsIn (homed pass slots.now.items self.old) item (homed pass slots.now.items self.new)) }
         ensures sound { (pass : Held Blocked) → IsSoundBut self.old.touched.items (homed pass slots.now.items self.old)
             → IsSoundBut self.new.touched.items (homed pass slots.now.items self.new) }
         ensures room { length self.new.touched.items ≤ length self.old.touched.items + 1 }
@@ -85,8 +83,9 @@ impl Links {
         ensures same { SameConns self.old self.new }
         ensures refused { self.new.refused ≡ is_err result }
     {
-        let Some(at) = self.place_for(item) else {
-            self.ended = ended_by(self.ended, item);
+        let Some(at) = self.place_for(&item) else {
+            self.ended = ended_by(self.ended, &item);
+            drop(item);
             return Ok(());
         };
         match self.cut_for(at, slots, item) {
@@ -102,20 +101,20 @@ impl Links {
         }
     }
 
-    // Cuts an item for the connection at a place. Says whether its block is in the slot, was idle
-    // until now, and has a frame waiting for it.
+    // Cuts an item for the connection at a place. Says whether its block is in the slot and may have
+    // got a frame, so that it is left to settle.
     pub(crate) fn cut_for(
         &mut self,
         at: usize,
         slots: &Vec<Option<Block>>,
-        item: &Rx,
+        item: Rx,
     ) -> Result<bool, NoMemory>
         requires own { AreOfCore self.old }
         requires long { length slots.now.items ≡ length self.old.items.items }
-        requires comes { ComesIn self.old at item.now }
+        requires comes { ComesIn self.old at item }
         requires live { self.old.refused ≡ false }
         ensures value { OnOk result ((pass : Held Blocked)
-            → CutsIn (homed pass slots.now.items self.old) item.now (homed pass slots.now.items self.new)) }
+            → CutsIn (homed pass slots.now.items self.old) item (homed pass slots.now.items self.new)) }
         ensures sound { (pass : Held Blocked) (left : List ℕ) → IsSoundBut left (homed pass slots.now.items self.old)
             → IsSoundBut (left_after at result left) (homed pass slots.now.items self.new) }
         ensures same { SameConns self.old self.new }

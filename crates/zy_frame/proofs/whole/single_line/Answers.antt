@@ -1,7 +1,5 @@
-use Rattle.std.proofs.Common.{◌∷◌, [], List, refl, sym, ap, ◌∙◌, subst}
-use Rattle.mc_parse.specs.Parsed.{IsParsed}
+use Rattle.std.proofs.Common.{◌∷◌, [], refl, ap, ◌∙◌}
 use Rattle.zy_frame.specs.declared.frame_kind.FrameKind.{FrameKind}
-use Rattle.zy_frame.specs.Steps.{LineAt}
 use Rattle.zy_frame.specs.declared.state.State.TheVariants.{Line}
 use Rattle.zy_frame.proofs.GoingOn.{is_line_frame}
 use Rattle.zy_frame.proofs.StepLemmas.{line_short, line_moves, line_frame}

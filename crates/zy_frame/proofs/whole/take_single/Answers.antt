@@ -1,4 +1,4 @@
-use Rattle.std.proofs.Common.{List, ℕ, length, arith, ap}
+use Rattle.std.proofs.Common.{length, arith, ap}
 use Rattle.zy_frame.proofs.WholeLemmas.{line_within, single_line}
 use Rattle.zy_frame.proofs.whole.take_single.Goals as goal
 

@@ -22,26 +22,26 @@ loop-count-init c = record {
 pub loop-count-preserved : goal.loop-count-preserved
 loop-count-preserved c =
     let i = c.loop-count.invariant in
-    let s = c.in_ok-cut.ensures.same in record {
-      whole = λ pass. cuts_next _ _ _ _ _ _ _ _ (i.whole pass) (c.in_ok-cut.ensures.value pass) c.in-Some.ensures.taken;
-      left = λ pass k. c.in_ok-cut.ensures.sound pass (i.left pass k);
-      room = (let one = c.in_ok-cut.ensures.room in let room = i.room in omega arith);
+    let s = c.in_ok-cut_in.ensures.same in record {
+      whole = λ pass. cuts_next _ _ _ _ _ _ _ _ (i.whole pass) (c.in_ok-cut_in.ensures.value pass) c.in-Some.ensures.taken;
+      left = λ pass k. c.in_ok-cut_in.ensures.sound pass (i.left pass k);
+      room = (let one = c.in_ok-cut_in.ensures.room in let room = i.room in omega arith);
       same = record { share = s.share ∙ i.same.share; conns = s.conns ∙ i.same.conns };
-      own = same_own c.loop-count.self c.cut_in-cut.new.self i.own s;
-      still = λ e. let one = (c.in_ok-cut.ensures.still (ap (λ (l : Links). l.ended) (i.still e).0 ∙ e)).1 in subst (λ (l : Links). (l ≡ record c.args.self.now { touched = l.touched }) × (l.touched.items ≡ [])) (sym one) (i.still e);
-      live = c.in_ok-cut.ensures.refused;
+      own = same_own c.loop-count.self c.cut_in.new.self i.own s;
+      still = λ e. let one = (c.in_ok-cut_in.ensures.still (ap (λ (l : Links). l.ended) (i.still e).0 ∙ e)).1 in subst (λ (l : Links). (l ≡ record c.args.self.now { touched = l.touched }) × (l.touched.items ≡ [])) (sym one) (i.still e);
+      live = c.in_ok-cut_in.ensures.refused;
       ring = c.in-Some.ensures.kept ∙ i.ring;
     }
 
 -- memory was refused
-pub returns-in_err-cut-clause-err : goal.returns-in_err-cut-clause-err
-returns-in_err-cut-clause-err c = MatchResult-from_err c.from_residual.result _ _ c.from_residual.ensures.0 (λ _ pass.
+pub returns-in_err-cut_in-clause-err : goal.returns-in_err-cut_in-clause-err
+returns-in_err-cut_in-clause-err c = MatchResult-from_err c.from_residual.result _ _ c.from_residual.ensures.0 (λ _ pass.
     let s = c.loop-count.invariant.whole pass in
     let cut = homed pass c.args.slots.now.items c.loop-count.self in
     record { items = s.items; cut = cut; cuts = s.cuts; places = []; between = cut; settles = refl; hand = record { pass = refl; blocks = refl } })
 
-pub returns-in_err-cut-clause-still : goal.returns-in_err-cut-clause-still
-returns-in_err-cut-clause-still c e = absurd (let still = (c.in_err-cut.ensures.still (ap (λ (l : Links). l.ended) (c.loop-count.invariant.still e).0 ∙ e)).0 in let is = c.in_err-cut.is in cc)
+pub returns-in_err-cut_in-clause-still : goal.returns-in_err-cut_in-clause-still
+returns-in_err-cut_in-clause-still c e = absurd (let still = (c.in_err-cut_in.ensures.still (ap (λ (l : Links). l.ended) (c.loop-count.invariant.still e).0 ∙ e)).0 in let is = c.in_err-cut_in.is in cc)
 
 -- there were 64
 pub returns-clause-value : goal.returns-clause-value
