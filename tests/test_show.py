@@ -67,6 +67,29 @@ def choices():
     prints("replies and a key", b"replies, version 2\n", "show", "--key", "a", given=given)
 
 
+# ---- items files
+
+ITEMS = formats.Items(28, [formats.Item(b"a", 0, 28, b"x"), formats.Item(b"a\xff", 7, 3, b"")], [b"b", b"ba"])
+
+
+def items_files():
+    """What is written is read back, each error is at its byte, and the file is printed."""
+    text = formats.items_file(ITEMS)
+    same("an items file read back", ITEMS, formats.read_items(Part("items", text)))
+    shown = [b"items, bound 28\n", b"  'a' flags 0 unique 28 value 'x'\n", b"  'a\\xff' flags 7 unique 3 value ''\n",
+             b"  lasting 'b'\n", b"  lasting 'ba'\n"]
+    prints("an items file", b"".join(shown), "show", given=text)
+    prints("an items file and a key", shown[0] + shown[1], "show", "--key", "a", given=text)
+    prints("the first item", b"".join(shown[:2]), "show", "--first", "1", given=text)
+    for at, byte, wanted in ((7, 0, "form at 7"), (16, 74, "form at 16"), (24, 0, "form at 17"), (24, 251, "form at 17"),
+                             (37, 29, "form at 30"), (56, 0, "form at 56"), (88, 73, "form at 88")):
+        faulty = text[:at] + bytes([byte]) + text[at + 1 :]
+        says(f"byte {byte} at {at} of an items file", f"standard input: items: {wanted}", "show", given=faulty)
+    says("an items file that is cut off", f"standard input: items: truncated at {len(text) - 1}", "show", given=text[:-1])
+    with open(f"{TOP}/examples/first.items", "rb") as file:
+        same("the example", formats.Items(28, ITEMS.items[:1], [b"b"]), formats.read_items(Part("items", file.read())))
+
+
 # ---- parts
 
 
@@ -196,7 +219,7 @@ def large(size=12 << 20):
             fail("a part of a large file", f"status {status}, {memory:.0f} MiB")
 
 
-Tests = cases(lines, choices, parts, readers, heads, large)
+Tests = cases(lines, choices, items_files, parts, readers, heads, large)
 
 if __name__ == "__main__":
     unittest.main()

@@ -8,4 +8,6 @@ mod failing;
 #[cfg(test)]
 mod inputs;
 #[cfg(test)]
+mod items;
+#[cfg(test)]
 mod sinks;

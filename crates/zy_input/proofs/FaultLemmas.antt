@@ -9,7 +9,7 @@ use Rattle.zy_capture.specs.RepliesVerdict as Replies
 use Rattle.zy_journal.specs.declared.journal.Journal.{Journal}
 use Rattle.zy_journal_reader.specs.Verdict as Journals
 use Rattle.zy_input.specs.declared.stop.Refusal.{Refusal}
-use Rattle.zy_input.specs.declared.stop.Refusal.TheVariants.{Capture, Journal as OfJournal, Replies as OfReplies, Pcap}
+use Rattle.zy_input.specs.declared.stop.Refusal.TheVariants.{Capture, Journal as OfJournal, Replies as OfReplies, Items, Pcap}
 use Rattle.zy_input.specs.Parts.{IsCaptureText, IsJournalText, IsMadeOfParts, HasCaptureFault, HasJournalFault, HasRepliesFault, HasPartFault}
 use Rattle.zy_input.proofs.FormatLemmas.{one_rest}
 use Rattle.zy_input.proofs.CaptureLemmas as OfCapture
@@ -35,6 +35,7 @@ no_fault text streams journal outputs (Capture fault) parts has = has.none parts
 no_fault text streams journal outputs (OfJournal fault) parts has =
     let rest : has.rest ≡ parts.journal_text ++ parts.replies_text = after_capture text has.capture_text has.rest parts.capture_text (parts.journal_text ++ parts.replies_text) has.whole parts.whole has.of_capture (is_capture parts.capture_text streams parts.of_capture) in
     has.none parts.journal_text parts.replies_text rest (is_journal parts.journal_text journal parts.of_journal)
+no_fault text streams journal outputs (Items fault) parts has = absurd has
 no_fault text streams journal outputs (Pcap fault) parts has = absurd has
 no_fault text streams journal outputs (OfReplies fault) parts has =
     let behind : has.journal_text ++ has.rest ≡ parts.journal_text ++ parts.replies_text = after_capture text has.capture_text (has.journal_text ++ has.rest) parts.capture_text (parts.journal_text ++ parts.replies_text) has.whole parts.whole has.of_capture (is_capture parts.capture_text streams parts.of_capture) in
@@ -86,3 +87,7 @@ one_fault text (Capture first) (Pcap second) one two = absurd two
 one_fault text (OfJournal first) (Pcap second) one two = absurd two
 one_fault text (OfReplies first) (Pcap second) one two = absurd two
 one_fault text (Pcap first) second one two = absurd one
+one_fault text (Capture first) (Items second) one two = absurd two
+one_fault text (OfJournal first) (Items second) one two = absurd two
+one_fault text (OfReplies first) (Items second) one two = absurd two
+one_fault text (Items first) second one two = absurd one

@@ -7,6 +7,8 @@ pub mod JournalLemmas
 pub mod WholeLemmas
 pub mod FaultLemmas
 pub mod RecordingLemmas
+pub mod ItemsLemmas
+pub mod WindowLemmas
 pub mod FileLemmas
 pub mod PacketLemmas
 pub mod LawfulLemmas

@@ -12,7 +12,7 @@ use Rattle.zy_pcap.specs.Packets.FoundPackets.{Packets, Bad}
 use Rattle.zy_pcap.specs.Standing.{PcapReading, StandsForFile, FeedsFile, TellsFileFault, TellsLastingFault, FinishesAs, FinishesBy}
 use Rattle.zy_input.specs.declared.packets_part.PacketsPart.{PacketsPart}
 use Rattle.zy_input.specs.declared.stop.Refusal.{Refusal}
-use Rattle.zy_input.specs.declared.stop.Refusal.TheVariants.{Capture, Journal as OfJournal, Replies as OfReplies, Pcap}
+use Rattle.zy_input.specs.declared.stop.Refusal.TheVariants.{Capture, Journal as OfJournal, Replies as OfReplies, Items as OfItems, Pcap}
 use Rattle.zy_input.specs.Parts.{HasPackets, HasReadPackets}
 use Rattle.zy_input.specs.Reading.{IsUnfinished, IsFaultyText, HasFaultBehind, Reads, never}
 use Rattle.zy_input.specs.Kinds.{StandsForPackets, packets_kind}
@@ -81,5 +81,6 @@ packets_read port rest faults first now left (Err (Refused (Pcap fault))) stops 
 packets_read port rest faults first now left (Err (Refused (Capture fault))) stops = let is : Capture fault ≡ Pcap stops.0.1.0 = stops.0.1.1 in cc
 packets_read port rest faults first now left (Err (Refused (OfJournal fault))) stops = let is : OfJournal fault ≡ Pcap stops.0.1.0 = stops.0.1.1 in cc
 packets_read port rest faults first now left (Err (Refused (OfReplies fault))) stops = let is : OfReplies fault ≡ Pcap stops.0.1.0 = stops.0.1.1 in cc
+packets_read port rest faults first now left (Err (Refused (OfItems fault))) stops = let is : OfItems fault ≡ Pcap stops.0.1.0 = stops.0.1.1 in cc
 packets_read port rest faults first now left (Err ReadFault) stops = stops
 packets_read port rest faults first now left (Err NoMemory) stops = tt

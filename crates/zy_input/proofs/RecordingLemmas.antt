@@ -10,7 +10,7 @@ use Rattle.zy_read.specs.declared.stop.Stop.{Stop}
 use Rattle.zy_read.specs.declared.stop.Stop.TheVariants.{Refused, ReadFault, NoMemory}
 use Rattle.zy_input.specs.declared.recording.NotedRecording.{NotedRecording}
 use Rattle.zy_input.specs.declared.stop.Refusal.{Refusal}
-use Rattle.zy_input.specs.declared.stop.Refusal.TheVariants.{Capture, Journal, Replies as OfReplies, Pcap}
+use Rattle.zy_input.specs.declared.stop.Refusal.TheVariants.{Capture, Journal, Replies as OfReplies, Items, Pcap}
 use Rattle.zy_input.specs.Parts.{IsCaptureText, HasNotes}
 use Rattle.zy_input.specs.Recording.{IsMadeOfRecording, HasLastFault, HasRecordingFault, HasReadRecording}
 use Rattle.zy_input.specs.Reading.{Kind, HasFaultBehind, HasReadPart, StopsPartBy, never}
@@ -75,6 +75,7 @@ both_parts Holds rest faults first now left bytes recording noted has = (
 pub no_fault : (text : List ℕ) (streams : List (List (List ℕ))) (outputs : AllOutputs) (refusal : Refusal) → IsMadeOfRecording text streams outputs → HasRecordingFault text refusal → ⊥
 no_fault text streams outputs (Capture fault) parts has = has.none parts.capture_text parts.replies_text parts.whole (is_capture parts.capture_text streams parts.of_capture)
 no_fault text streams outputs (Journal fault) parts has = has
+no_fault text streams outputs (Items fault) parts has = has
 no_fault text streams outputs (Pcap fault) parts has = has
 no_fault text streams outputs (OfReplies fault) parts has =
     let rest : has.rest ≡ parts.replies_text = after_capture text has.capture_text has.rest parts.capture_text parts.replies_text has.whole parts.whole has.of_capture (is_capture parts.capture_text streams parts.of_capture) in
@@ -89,10 +90,13 @@ pub one_fault : (text : List ℕ) (first second : Refusal) → HasRecordingFault
 one_fault text (Capture first) (Capture second) one two = ap (λ (f : CaptureFault). Capture f) (captures_differ text first second one.bad two.bad)
 one_fault text (Capture first) (OfReplies second) one two = absurd (not_later text two.capture_text two.rest first one two.whole two.of_capture)
 one_fault text (Capture first) (Journal second) one two = absurd two
+one_fault text (Capture first) (Items second) one two = absurd two
 one_fault text (Capture first) (Pcap second) one two = absurd two
 one_fault text (OfReplies first) (Capture second) one two = absurd (not_later text one.capture_text one.rest second two one.whole one.of_capture)
 one_fault text (OfReplies first) (OfReplies second) one two = ap (λ (f : FileFault). OfReplies f) (one_last text first second one two)
 one_fault text (OfReplies first) (Journal second) one two = absurd two
+one_fault text (OfReplies first) (Items second) one two = absurd two
 one_fault text (OfReplies first) (Pcap second) one two = absurd two
 one_fault text (Journal first) second one two = absurd one
+one_fault text (Items first) second one two = absurd one
 one_fault text (Pcap first) second one two = absurd one

@@ -19,12 +19,17 @@ use Rattle.zy_journal.specs.declared.journal.Journal.{Journal}
 use Rattle.zy_journal_reader.specs.Standing.{StandsForJournal}
 use Rattle.zy_journal_reader.specs.Verdict as Journals
 use Rattle.zy_input.specs.declared.capture_part.CapturePart.{CapturePart}
+use Rattle.zy_items.specs.declared.standing.Standing.{Standing as Kept}
+use Rattle.zy_items.specs.Places.{StandsForItems}
+use Rattle.zy_items.specs.Standing.{standing_of}
+use Rattle.zy_items.specs.Verdict as Items
+use Rattle.zy_input.specs.declared.items_part.ItemsPart.{ItemsPart}
 use Rattle.zy_input.specs.declared.journal_part.JournalPart.{JournalPart}
 use Rattle.zy_input.specs.declared.journal_part.Until.{Until}
 use Rattle.zy_input.specs.declared.journal_part.Until.TheVariants.{OwnEnd, SourceEnd}
 use Rattle.zy_input.specs.declared.packets_part.PacketsPart.{PacketsPart}
 use Rattle.zy_input.specs.declared.replies_part.RepliesPart.{RepliesPart}
-use Rattle.zy_input.specs.declared.stop.Refusal.TheVariants.{Capture, Journal as OfJournal, Replies as OfReplies, Pcap}
+use Rattle.zy_input.specs.declared.stop.Refusal.TheVariants.{Capture, Journal as OfJournal, Replies as OfReplies, Items as OfItems, Pcap}
 use Rattle.zy_input.specs.declared.notes.Noted.{Noted}
 use Rattle.zy_input.specs.Parts.{HasNotes, HasPackets}
 use Rattle.zy_input.specs.Reading.{Kind, format_kind, never}
@@ -74,6 +79,21 @@ abbrev pub journal_kind : Until → Kind JournalPart Journal
 journal_kind until =
     format_kind Journals.journals (is_whole until) (λ fault. OfJournal fault) (StandsForJournalPart until)
     (λ journal text. Journals.journal_verdict text ≡ Journals.JournalVerdict.Good journal)
+
+-- ---- items files
+
+-- these bytes of an items file were fed
+pub record StandsForItemsPart (part : ItemsPart) (bytes : List ℕ) : Type 0 where
+  pub given : List ⊤
+  pub reader : StandsForItems part.reader given bytes
+
+-- the text is an items file that says this
+abbrev pub SaysStanding : Kept → List ℕ → Type 0
+SaysStanding kept text = Items.items_verdict text ≡ Items.ItemsVerdict.Good (standing_of kept)
+
+-- the kind of items files
+abbrev pub items_kind : Kind ItemsPart Kept
+items_kind = format_kind Items.items_files Items.is_good_items (λ fault. OfItems fault) StandsForItemsPart SaysStanding
 
 -- ---- replies files, which end with the source
 

@@ -23,7 +23,7 @@ use Rattle.zy_input.specs.declared.parts.Parts.{Parts}
 use Rattle.zy_input.specs.declared.parts.NotedParts.{NotedParts}
 use Rattle.zy_input.specs.declared.stop.Refusal.{Refusal}
 use Rattle.zy_input.specs.declared.stop.Refusal.TheVariants.{Capture, Journal as OfJournal}
-use Rattle.zy_input.specs.declared.stop.Refusal.TheVariants.{Replies as OfReplies, Pcap}
+use Rattle.zy_input.specs.declared.stop.Refusal.TheVariants.{Replies as OfReplies, Items, Pcap}
 use Rattle.zy_read.specs.Bytes.{ReadsAll}
 use Rattle.zy_read.specs.declared.stop.Stop.{Stop}
 use Rattle.zy_read.specs.declared.stop.Stop.TheVariants.{Refused, ReadFault, NoMemory}
@@ -119,6 +119,7 @@ abbrev pub HasPartFault : List ℕ → Refusal → Type 0
 HasPartFault text (Capture fault) = HasCaptureFault text fault
 HasPartFault text (OfJournal fault) = HasJournalFault text fault
 HasPartFault text (OfReplies fault) = HasRepliesFault text fault
+HasPartFault text (Items fault) = ⊥
 HasPartFault text (Pcap fault) = ⊥
 
 -- an input of a check can have this fault

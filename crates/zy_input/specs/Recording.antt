@@ -9,7 +9,7 @@ use Rattle.zy_capture.specs.Replies.{items_of}
 use Rattle.zy_capture.specs.RepliesVerdict as Replies
 use Rattle.zy_input.specs.declared.recording.NotedRecording.{NotedRecording}
 use Rattle.zy_input.specs.declared.stop.Refusal.{Refusal}
-use Rattle.zy_input.specs.declared.stop.Refusal.TheVariants.{Capture, Journal, Replies as OfReplies, Pcap}
+use Rattle.zy_input.specs.declared.stop.Refusal.TheVariants.{Capture, Journal, Replies as OfReplies, Items, Pcap}
 use Rattle.zy_input.specs.Parts.{IsCaptureText, HasStreams, HasCaptureFault}
 use Rattle.zy_read.specs.Bytes.{ReadsAll}
 use Rattle.zy_read.specs.declared.stop.Stop.{Stop}
@@ -46,6 +46,7 @@ abbrev pub HasRecordingFault : List ℕ → Refusal → Type 0
 HasRecordingFault text (Capture fault) = HasCaptureFault text fault
 HasRecordingFault text (OfReplies fault) = HasLastFault text fault
 HasRecordingFault text (Journal fault) = ⊥
+HasRecordingFault text (Items fault) = ⊥
 HasRecordingFault text (Pcap fault) = ⊥
 
 -- a recording can have this fault

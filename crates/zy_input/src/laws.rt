@@ -5,6 +5,8 @@ ghost use Rattle.zy_journal.specs.declared.journal.Journal.{Journal};
 ghost use Rattle.zy_input.specs.declared.stop.Refusal.{Refusal};
 ghost use Rattle.zy_input.specs.Parts.{IsMadeOfParts, HasPartFault};
 ghost use Rattle.zy_input.specs.Recording.{IsMadeOfRecording, HasRecordingFault};
+ghost use Rattle.zy_input.specs.Window.{IsMadeOfWindow, HasWindowFault};
+ghost use Rattle.zy_items.specs.Standing.{Standing};
 
 /// An input that has parts has no fault.
 pub fn parts_have_no_fault()
@@ -29,4 +31,17 @@ pub fn recordings_have_no_fault()
 pub fn there_is_one_recording_fault()
     ensures same { (text : List ℕ) (first second : Refusal)
         → HasRecordingFault text first → HasRecordingFault text second → first ≡ second }
+{}
+
+/// A text that is a window has no fault as one.
+pub fn windows_have_no_fault()
+    ensures none { (text : List ℕ) (streams : List (List (List ℕ))) (standing : Standing)
+        (outputs : AllOutputs) (refusal : Refusal)
+        → IsMadeOfWindow text streams standing outputs → ¬ HasWindowFault text refusal }
+{}
+
+/// A text has at most one first fault as a window.
+pub fn there_is_one_window_fault()
+    ensures same { (text : List ℕ) (first second : Refusal)
+        → HasWindowFault text first → HasWindowFault text second → first ≡ second }
 {}

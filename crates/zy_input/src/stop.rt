@@ -14,6 +14,8 @@ pub enum Refusal {
     Journal(FileFault),
     /// The replies file has this fault.
     Replies(FileFault),
+    /// The items file of a window has this fault; no part of a check's input has it.
+    Items(FileFault),
     /// Recorded packets have this fault; no part of a check's input has it.
     Pcap(PcapFault),
 }

@@ -9,8 +9,9 @@ use Rattle.zy_input.specs.declared.stop.Refusal.{Refusal}
 use Rattle.zy_input.specs.declared.stop.Refusal.TheVariants.{Capture, Journal, Pcap}
 use Rattle.zy_input.specs.Parts.{IsMadeOfParts, HasPartFault}
 use Rattle.zy_input.proofs.RecordingLemmas as Recordings
+use Rattle.zy_input.proofs.WindowLemmas as Windows
 use Rattle.zy_shell.specs.Input.{Input, HasInputFault}
-use Rattle.zy_shell.specs.Input.Input.{CaptureInput, CheckInput, JudgeInput, PacketsInput, JournalInput}
+use Rattle.zy_shell.specs.Input.Input.{CaptureInput, CheckInput, JudgeInput, WindowInput, PacketsInput, JournalInput}
 
 -- parts of a check's input have no fault
 abbrev pub PartsHaveNone : Type 0
@@ -29,6 +30,7 @@ one_fault one CaptureInput bytes (Capture f) second x y = absurd y
 one_fault one CaptureInput bytes first second x y = absurd x
 one_fault one CheckInput bytes first second x y = one bytes first second x y
 one_fault one JudgeInput bytes first second x y = Recordings.one_fault bytes first second x y
+one_fault one WindowInput bytes first second x y = Windows.one_fault bytes first second x y
 one_fault one (PacketsInput port) bytes (Pcap f) (Pcap g) x y =
     let both : Recorded.FoundPackets.Bad f ≡ Recorded.FoundPackets.Bad g = sym x ∙ y in
     let same : f ≡ g = cc in ap (λ h. Pcap h) same

@@ -9,7 +9,7 @@ use Rattle.zy_capture.specs.declared.capture_fault.CaptureFault.TheVariants.{Too
 use Rattle.zy_pcap.specs.declared.pcap_fault.PcapFault.{PcapFault}
 use Rattle.zy_pcap.specs.declared.pcap_fault.PcapFault.TheVariants as Packets
 use Rattle.zy_input.specs.declared.stop.Refusal.{Refusal}
-use Rattle.zy_input.specs.declared.stop.Refusal.TheVariants.{Capture, Journal, Replies, Pcap}
+use Rattle.zy_input.specs.declared.stop.Refusal.TheVariants.{Capture, Journal, Replies, Items, Pcap}
 use Rattle.zy_shell.specs.Line.{line_with, line_with_two}
 
 -- how the line of a fault of a capture begins
@@ -53,6 +53,12 @@ replies_text (Files.Form at) = codes "replies: form at "
 replies_text (Files.Truncated at) = codes "replies: truncated at "
 replies_text Files.TooLong = codes "replies: too-long\n"
 
+-- how the line of a fault of an items file begins
+abbrev pub items_text : FileFault → List ℕ
+items_text (Files.Form at) = codes "items: form at "
+items_text (Files.Truncated at) = codes "items: truncated at "
+items_text Files.TooLong = codes "items: too-long\n"
+
 -- the line of a fault of a file, which begins with this text
 abbrev pub file_line : List ℕ → FileFault → List ℕ
 file_line text (Files.Form at) = line_with text at
@@ -84,4 +90,5 @@ abbrev pub refusal_line : Refusal → List ℕ
 refusal_line (Capture fault) = fault_line fault
 refusal_line (Journal fault) = file_line (journal_text fault) fault
 refusal_line (Replies fault) = file_line (replies_text fault) fault
+refusal_line (Items fault) = file_line (items_text fault) fault
 refusal_line (Pcap fault) = line_with pcap_text (pcap_number fault)

@@ -2,7 +2,7 @@
 ghost use Rattle.std.specs.Prelude.{◌≡◌};
 ghost use Rattle.zy_base.specs.Outside.{Writes};
 ghost use Rattle.zy_shell.specs.FaultLine.{refusal_line, fault_line, fault_text, fault_middle, journal_text};
-ghost use Rattle.zy_shell.specs.FaultLine.{replies_text, file_line, pcap_number};
+ghost use Rattle.zy_shell.specs.FaultLine.{replies_text, items_text, file_line, pcap_number};
 
 use crate::lines::{write_number, write_two};
 use zy_base::{Failed, FileFault, Sink, write_whole};
@@ -18,6 +18,7 @@ pub(crate) fn write_refusal<E: Sink>(says: &mut E, refusal: Refusal) -> Result<(
         Refusal::Capture(fault) => write_capture_fault(says, fault),
         Refusal::Journal(fault) => write_file_fault(says, journal_text(fault), fault),
         Refusal::Replies(fault) => write_file_fault(says, replies_text(fault), fault),
+        Refusal::Items(fault) => write_file_fault(says, items_text(fault), fault),
         Refusal::Pcap(fault) => write_number(says, b"pcap: fault ", pcap_number(fault)),
     }
 }
@@ -68,7 +69,8 @@ fn fault_middle(fault: CaptureFault) -> &'static [u8]
     }
 }
 
-// Writes the line of a fault of a journal or a replies file, which begins with this text.
+// Writes the line of a fault of a journal, a replies file or an items file, which begins with this
+// text.
 fn write_file_fault<E: Sink>(
     says: &mut E,
     text: &'static [u8],
@@ -101,6 +103,17 @@ fn replies_text(fault: FileFault) -> &'static [u8]
         FileFault::Form { .. } => b"replies: form at ",
         FileFault::Truncated { .. } => b"replies: truncated at ",
         FileFault::TooLong => b"replies: too-long\n",
+    }
+}
+
+// Returns the beginning of the line of a fault of an items file.
+fn items_text(fault: FileFault) -> &'static [u8]
+    ensures value { result.now ≡ items_text fault }
+{
+    match fault {
+        FileFault::Form { .. } => b"items: form at ",
+        FileFault::Truncated { .. } => b"items: truncated at ",
+        FileFault::TooLong => b"items: too-long\n",
     }
 }
 

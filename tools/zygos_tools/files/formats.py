@@ -1,4 +1,4 @@
-"""The files of zygos, captures, journals and replies files, read and written as docs/FORMATS.md says.
+"""The files of zygos, captures, journals, replies files and items files, read and written as docs/FORMATS.md says.
 
 `capture_records`, `journal_records`, `replies_records` and the like give what bytes spell, a record after the other, or
 raise the first fault; they keep nothing of what they gave. `read_capture` and its like gather all records. `capture`,
@@ -117,6 +117,24 @@ class Replies(NamedTuple):
     outputs: list[Output]
 
 
+class Item(NamedTuple):
+    """A key and its item."""
+
+    key: bytes
+    flags: int
+    unique: int
+    value: bytes
+
+
+class Items(NamedTuple):
+    """What a server has between two recordings."""
+
+    bound: int
+    items: list[Item]
+    # the keys to which an exptime was given
+    lasting: list[bytes]
+
+
 Coded = TypeVar("Coded", Call, Reply)
 Table = list[tuple[str, str]]
 
@@ -131,7 +149,7 @@ REPLIES = [("miss", ""), ("hit", "flags unique value"), ("stored", ""), ("not st
            ("flushed", ""), ("tally", "gets sets hits misses items")]
 
 # how the files of each format begin, and how they all end
-FORMATS = {b"ZYGCAP": "capture", b"ZYGJRN": "journal", b"ZYGREP": "replies"}
+FORMATS = {b"ZYGCAP": "capture", b"ZYGJRN": "journal", b"ZYGREP": "replies", b"ZYGITM": "items"}
 END = b"E"
 
 # more bytes than an entry or a segment has
@@ -467,6 +485,57 @@ def sessions(texts: Iterable[Iterable[bytes]]) -> bytes:
                             for session, text in enumerate(of_sessions)])
 
 
+# ---- items files
+
+ITEMS_START = b"ZYGITM1\n"
+
+
+def items_bound(part: Part) -> int:
+    """The bound of an items file, after its magic."""
+    part.magic([ITEMS_START])
+    return part.number(8)
+
+
+def items_records(part: Part, bound: int) -> Iterator[Item | bytes]:
+    """The items of an items file after its bound, and then its lasting keys."""
+    last = last_lasting = b""
+    while (tag := part.take(1)) != END:
+        if tag == b"I" and not last_lasting:
+            last = next_key(part, last)
+            yield Item(last, part.number(4), part.within(8, 0, bound), part.take(part.number(8)))
+        elif tag == b"L":
+            last_lasting = next_key(part, last_lasting)
+            yield last_lasting
+        else:
+            raise part.fault(f"form at {part.place - 1}")
+
+
+def next_key(part: Part, last: bytes) -> bytes:
+    """A key that is above another one, or above none."""
+    length, at = part.within(8, 1, MOST_KEY), part.place
+    key = part.take(length)
+    if key <= last:
+        raise part.fault(f"form at {at}")
+    return key
+
+
+def read_items(part: Part) -> Items:
+    bound = items_bound(part)
+    records = list(items_records(part, bound))
+    return Items(bound, [record for record in records if isinstance(record, Item)],
+                 [record for record in records if not isinstance(record, Item)])
+
+
+def items_file(items: Items) -> bytes:
+    texts = [b"I" + sized(one.key) + big(4, one.flags) + big(8, one.unique) + sized(one.value) for one in items.items]
+    return ITEMS_START + big(8, items.bound) + b"".join([*texts, *(b"L" + sized(key) for key in items.lasting)]) + END
+
+
+def sized(text: bytes) -> bytes:
+    """Bytes after their length."""
+    return big(8, len(text)) + text
+
+
 # ---- what all share
 
 
@@ -477,6 +546,8 @@ def skim(part: Part) -> None:
         records = capture_records(part, *capture_head(part))
     elif part.name == "journal":
         records = journal_records(part)
+    elif part.name == "items":
+        records = items_records(part, items_bound(part))
     else:
         records = replies_heads(part, replies_version(part))
     for _ in records:

@@ -15,8 +15,10 @@ from zygos_tools.files.part import PIECE, Fault, Part
 MAGIC = 6
 # what to do about a text, and about another file than a capture
 TEXT = {kinds.TEXT: "tools/capture makes a capture of text"}
-NO_CAPTURE = {kinds.REPLIES: "the capture comes first", kinds.JOURNAL: "a capture is read here", **TEXT}
-NO_REPLIES = {kinds.CAPTURE: "the replies file comes second", kinds.JOURNAL: "replies are read here"}
+NO_CAPTURE = {kinds.REPLIES: "the capture comes first", kinds.JOURNAL: "a capture is read here",
+              kinds.ITEMS: "a capture is read here", **TEXT}
+NO_REPLIES = {kinds.CAPTURE: "the replies file comes second", kinds.JOURNAL: "replies are read here",
+              kinds.ITEMS: "replies are read here"}
 
 
 class Reads(Protocol):

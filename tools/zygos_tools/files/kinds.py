@@ -4,11 +4,12 @@ from __future__ import annotations
 import re
 
 # what a file may be, by its beginning; how many bytes say so
-CAPTURE, REPLIES, JOURNAL = "a capture", "a replies file", "a journal"
+CAPTURE, REPLIES, JOURNAL, ITEMS = "a capture", "a replies file", "a journal", "an items file"
 PACKETS, COMPRESSED, TEXT, EMPTY = "recorded packets", "a compressed file", "text", "an empty file"
 CHANGED = "a file whose line ends were changed"
 HEAD = 200
-KINDS = ((rb"ZYG(CAP|JRN|REP)\d\r\n", CHANGED), (rb"ZYGCAP[12]\n", CAPTURE), (rb"ZYGJRN1\n", JOURNAL), (rb"ZYGREP[12]\n", REPLIES),
+KINDS = ((rb"ZYG(CAP|JRN|REP|ITM)\d\r\n", CHANGED), (rb"ZYGCAP[12]\n", CAPTURE), (rb"ZYGJRN1\n", JOURNAL), (rb"ZYGREP[12]\n", REPLIES),
+         (rb"ZYGITM1\n", ITEMS),
          (rb"\xa1\xb2[\xc3\x3c][\xd4\x4d]|[\xd4\x4d][\xc3\x3c]\xb2\xa1|\n\r\r\n", PACKETS),
          (rb"\x1f\x8b|\x28\xb5\x2f\xfd|BZh|\xfd7zXZ|PK\x03\x04|\x04\x22\x4d\x18", COMPRESSED),
          (rb"\Z", EMPTY), (rb"[\t\n\r -~\x80-\xff]+\Z", TEXT))

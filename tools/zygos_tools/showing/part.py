@@ -1,6 +1,6 @@
 """Cuts one file out of an input of several, one after the other.
 
-usage: tools/part capture|journal|replies [FILE] > PART
+usage: tools/part capture|journal|replies|items [FILE] > PART
 
     ./zygos run --out both < examples/first.cap | tools/part journal | ./zygos report
 
@@ -17,7 +17,7 @@ from zygos_tools.files.formats import FORMATS, cut
 
 # what writes a part that is missing
 HINTS = {"capture": "; tools/record and tools/packets write one", "journal": "; `zygos run --out both` writes one",
-         "replies": "; `zygos run` writes one"}
+         "replies": "; `zygos run` writes one", "items": ""}
 
 
 def main(words: list[str]) -> None:

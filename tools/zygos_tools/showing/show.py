@@ -1,4 +1,4 @@
-"""Prints captures, replies files and journals as text.
+"""Prints captures, replies files, journals and items files as text.
 
 usage: tools/show [--connection N] [--key K] [--answers] [--first N] [FILE ..]
 
@@ -11,7 +11,8 @@ stream is on a line of its own, without its \\r\\n; if the \\r is missing, `(no 
 --connection N  only what is of connection N
 --key K         of a journal, only the calls of the key K; of a capture, only the commands that name it, each with its
                 number on its connection and that of the record that completes it, from 0 on, as tools/judge numbers
-                them. K is written as it is shown. Nothing of replies is printed
+                them; of an items file, only what is of that key. K is written as it is shown. Nothing of replies is
+                printed
 --answers       of a replies file, each answer after its number, from 0 on, as tools/compare numbers them; an output is
                 then kept in memory as a whole
 --first N       the first N records that would be printed
@@ -164,6 +165,22 @@ class Shown:
             self.write(b"  hold of connection %d by core %d: %d commands\n" % record)
             self.count()
 
+    # ---- items files
+
+    def items(self, part: Part) -> None:
+        bound = formats.items_bound(part)
+        self.write(b"items, bound %d\n" % bound)
+        for record in formats.items_records(part, bound):
+            key = record.key if isinstance(record, formats.Item) else record
+            if self.connection is not None or self.key not in (None, key):
+                continue
+            if isinstance(record, formats.Item):
+                self.write(f"  '{formats.shown(key)}' flags {record.flags} unique {record.unique} "
+                           f"value '{formats.shown(record.value)}'\n".encode())
+            else:
+                self.write(f"  lasting '{formats.shown(key)}'\n".encode())
+            self.count()
+
 
 def main(words: list[str]) -> None:
     given, files = ends.options(words, OPTIONS)
@@ -172,4 +189,5 @@ def main(words: list[str]) -> None:
     shown = Shown(given.get("--connection"), key, given.get("--first"), "--answers" in given)
     for name in files or ["-"]:
         for part in inputs.parts(name):
-            {"capture": shown.capture, "replies": shown.replies, "journal": shown.journal}[part.name](part)
+            {"capture": shown.capture, "replies": shown.replies, "journal": shown.journal,
+             "items": shown.items}[part.name](part)

@@ -1,0 +1,4 @@
+pub mod StateLemmas
+pub mod KeyLemmas
+pub mod WriteLemmas
+pub mod StandingLemmas
