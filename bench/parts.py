@@ -1,4 +1,4 @@
-"""Times parts of the program by `zygos_bench`: what `bench/run` calls for the names in PARTS."""
+"""Times parts of the program, most by `zygos_bench`: what `bench/run` calls for the names in PARTS."""
 import os
 import random
 import struct
@@ -6,7 +6,7 @@ import subprocess
 import tempfile
 
 import common
-from zygos_tools.files.formats import Call, Entry, Reply, capture as capture_of, journal as journal_of, segment
+from zygos_tools.files.formats import capture as capture_of, segment
 
 
 class Bench:
@@ -81,29 +81,21 @@ def capture(bench):
     return False
 
 
-def journal(bench):
-    """merging 16 and 256 histories, writing a journal and reading one"""
+def journal(program):
+    """runs that write their journal, which merges the histories of 16 and 256 shards, beside runs without it"""
     worst = 0
-    for shards in (16, 256):
-        few, many = (bench.each(3, "journal", "merge", entries, shards) for entries in (100_000, 1_000_000))
-        worst = max(worst, many / few * 10)
-        print(f"merging {shards} histories: {1e3 / many:.1f} million entries a second; "
-              f"ten times the entries in {many / few * 10:.1f} times the time")
-    few, many = (bench.least(3, "journal", "write", entries) for entries in (100_000, 1_000_000))
-    print(f"writing: {1e3 * many[0] / many[1]:.0f} MB/s; "
-          f"ten times the entries in {many[1] / few[1]:.1f} times the time")
-    worst = max(worst, many[1] / few[1])
-    found, call, stored = [], Call("set", b"key:0123", 0, None, b"0123456789"), Reply("stored")
     with tempfile.TemporaryDirectory() as room:
-        for count in (100_000, 1_000_000):
-            path = os.path.join(room, str(count))
-            with open(path, "wb") as out:
-                entries = [Entry(i + 1, i % 16, i % 100, i // 100, 0, call, stored) for i in range(count)]
-                out.write(journal_of(entries, []))
-            found.append((os.path.getsize(path), bench.fed(path, "journal", "read")))
-    ratio = found[1][1] / found[0][1]
-    print(f"reading: {found[1][0] / found[1][1] * 1e3:.0f} MB/s; ten times the entries in {ratio:.1f} times the time")
-    return max(worst, ratio) > 12
+        sizes = (100_000, 1_000_000)
+        paths = [common.generated(program, os.path.join(room, str(commands)), commands) for commands in sizes]
+        for shards in (16, 256):
+            words = [program, "run", *common.cores(1), "--shards", shards, "--out"]
+            alone = common.least(3, [*words, "replies"], paths[1]).used
+            few, many = (common.least(3, [*words, "both"], path).used for path in paths)
+            worst = max(worst, many / few)
+            print(f"{shards} shards, {sizes[1]} commands: {1e6 * (many - alone) / sizes[1]:.2f} microseconds of processor time "
+                  f"a command for the journal, of {1e6 * many / sizes[1]:.2f}; "
+                  f"ten times the commands in {many / few:.1f} times the time", flush=True)
+    return worst > 12
 
 
 def packets_of(path, size, length, swapped=False):
@@ -123,7 +115,7 @@ def packets_of(path, size, length, swapped=False):
             out.write(struct.pack(">IIBBHHH", length * number, 0, 80, 16, 65_535, 0, 0) + payload)
 
 
-def pcap(bench):
+def pcap(program):
     """making the capture of recorded packets, 16 MB and 160 MB, in order and not"""
     worst = 0
     with tempfile.TemporaryDirectory() as room:
@@ -132,13 +124,13 @@ def pcap(bench):
             times = []
             for size in (16_000_000, 160_000_000):
                 packets_of(path, size, length, swapped)
-                times.append((os.path.getsize(path), bench.fed(path, "pcap")))
+                times.append((os.path.getsize(path), common.least(3, [program, "pcap"], path).used))
             name = f"payloads of {length} bytes, {'each pair swapped' if swapped else 'in order'}"
             ratio = times[1][1] / times[0][1]
-            print(f"{name}: {times[1][0] / times[1][1] * 1e3:.0f} MB per processor second; "
-                  f"ten times the bytes in {ratio:.1f} times the time")
+            print(f"{name}: {times[1][0] / times[1][1] / 1e6:.0f} MB per processor second; "
+                  f"ten times the bytes in {ratio:.1f} times the time", flush=True)
             if length == 1448 and not swapped:
-                worst = max(ratio / 12, times[1][1] / times[1][0] / 5)
+                worst = max(ratio / 12, times[1][1] / times[1][0] / 5e-9)
     return worst > 1
 
 
@@ -194,17 +186,21 @@ def home(bench):
     return 2 * served > 3 * held
 
 
-PARTS = {part.__name__: part for part in (shard, frames, parse, capture, pcap, journal, store, shuffle, hold, home)}
+# commands of the program itself, in processor time
+OF_ZYGOS = {part.__name__: part for part in (pcap, journal)}
+PARTS = {**{part.__name__: part for part in (shard, frames, parse, capture, store, shuffle, hold, home)}, **OF_ZYGOS}
 PAGE = """Measures {what}: {said}.
 
 usage: bench/run {what} [PROGRAM]
 
-PROGRAM       `zygos_bench`, built (if left out, that of the repository, which is proved and built first if it isn't)
+PROGRAM       `{program}`, built (if left out, that of the repository, which is proved and built first if it isn't)
 """
 
 
 def main(what, words):
     """Measures a part; the status is 1 if it costs more than it may."""
     common.called(f"bench/run {what}")
-    given = common.Words(PAGE.format(what=what, said=PARTS[what].__doc__), "program").given(words)
-    return int(PARTS[what](Bench(common.built("zygos_bench", given.program))))
+    program = "zygos" if what in OF_ZYGOS else "zygos_bench"
+    page = PAGE.format(what=what, said=PARTS[what].__doc__, program=program)
+    path = common.built(program, common.Words(page, "program").given(words).program)
+    return int(PARTS[what](path if what in OF_ZYGOS else Bench(path)))

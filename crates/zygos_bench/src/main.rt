@@ -5,12 +5,9 @@ mod calls;
 mod capture;
 mod clock;
 mod conn;
-mod counting;
 mod done;
 mod frames;
-mod journal;
 mod parse;
-mod pcap;
 mod shard;
 mod shuffle;
 mod store;
@@ -53,8 +50,6 @@ fn measured<R: Threads + Wait + Clock + CpuClock + Sync, I: Read>(
         Some(What::Frames) => frames::measured(rt, alloc, one, two),
         Some(What::Parse) => parse::measured(rt, alloc, one),
         Some(What::Capture) => capture::measured(rt, alloc, input),
-        Some(What::Journal(part)) => journal::measured(rt, alloc, input, part, one, two),
-        Some(What::Pcap) => pcap::measured(rt, alloc, input),
         Some(What::Store(part)) => store::measured(rt, alloc, part, one, two),
         Some(What::Shuffle(queue)) => shuffle::measured(rt, alloc, queue, one, two),
         Some(What::Conn(part)) => conn::measured(rt, alloc, part, one, two),

@@ -1,5 +1,5 @@
 //! The words of the command line.
-use crate::{conn, journal, shuffle, store};
+use crate::{conn, shuffle, store};
 use std::env::Env;
 use zy_base::read_number;
 
@@ -10,8 +10,6 @@ pub(crate) enum What {
     Frames,
     Parse,
     Capture,
-    Journal(journal::Part),
-    Pcap,
     Store(store::Part),
     Shuffle(shuffle::Queue),
     Conn(conn::Part),
@@ -30,10 +28,7 @@ pub(crate) fn read_words<R: Env>(rt: &R) -> Asked {
     let (mut one, mut two) = ([0u8; 20], [0u8; 20]);
     let what = what_named(word(rt, 1, &mut one), word(rt, 2, &mut two));
     let numbers = match what {
-        Some(What::Journal(_))
-        | Some(What::Store(_))
-        | Some(What::Shuffle(_))
-        | Some(What::Conn(_)) => 3,
+        Some(What::Store(_)) | Some(What::Shuffle(_)) | Some(What::Conn(_)) => 3,
         _ => 2,
     };
     Asked {
@@ -59,10 +54,6 @@ fn what_named(word: &[u8], part: &[u8]) -> Option<What> {
         (b"frames", _) => Some(What::Frames),
         (b"parse", _) => Some(What::Parse),
         (b"capture", _) => Some(What::Capture),
-        (b"pcap", _) => Some(What::Pcap),
-        (b"journal", b"merge") => Some(What::Journal(journal::Part::Merge)),
-        (b"journal", b"write") => Some(What::Journal(journal::Part::Write)),
-        (b"journal", b"read") => Some(What::Journal(journal::Part::Read)),
         (b"store", b"shard") => Some(What::Store(store::Part::Shard)),
         (b"store", b"pass") => Some(What::Store(store::Part::Pass)),
         (b"store", b"threads") => Some(What::Store(store::Part::Threads)),
