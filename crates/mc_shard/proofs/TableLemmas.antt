@@ -182,6 +182,18 @@ tree_others shift tree tree' key place changed q differ = changed q ∙ ap (λ b
 
 module _ (shift : ℕ) (lines : List Held) (tree tree' : Keyed) (key : List ℕ) (place : ℕ) (t : IsTable (table shift lines tree)) (changed : IsWith tree key (Some place) tree')
     (some : is_some (place_in tree key) ≡ true) where
+  none_by : (q : List ℕ) (b : Bool) → b ≡ is_at (hashed_cmp key) q → place_in tree q ≡ None → cond b (Some place) (place_in tree q) ≡ None
+  none_by q true same none =
+      let gone : is_some (place_in tree key) ≡ false = ap (λ (k : List ℕ). is_some (place_in tree k)) (same_at key q (sym same)) ∙ ap is_some none in
+      cc
+  none_by q false same none = none
+
+  pub tree_table : IsTable (table shift lines tree')
+  tree_table = record {
+    within = t.within;
+    own = t.own;
+    marks = λ q un. changed q ∙ none_by q (is_at (hashed_cmp key) q) refl (t.marks q un);
+  }
 
   pub tree_put : IsPut (table shift lines tree) key Spots.Tree place (table shift lines tree')
   tree_put stored are spot for = (

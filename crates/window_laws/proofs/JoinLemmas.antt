@@ -14,18 +14,20 @@ use Rattle.mc_parse.specs.declared.command.Command.{Command}
 use Rattle.zy_check.specs.Answered.{has_bytes}
 use Rattle.zy_times.specs.Sessions.{sent_in, marks_at, MarksFitIn, AllMarksFit}
 use Rattle.zy_times.specs.Times.{trues}
-use Rattle.zy_verdict.specs.declared.standing.KeptItem.{KeptItem}
+use Rattle.zy_items.specs.declared.standing.KeptItem.{KeptItem}
 use Rattle.zy_verdict.specs.Recorded.{Recorded, session_commands, last_moment}
 use Rattle.zy_verdict.specs.Losses.{HasExptime, MayLoseAt}
 use Rattle.zy_verdict.specs.Entries.{MadeCall, named_from, is_of_session, of_session, said_to, placed_at, AreStepsOf}
 use Rattle.zy_verdict.specs.Explained.{OutputCuts, answered_by_cut, IsTimely, IsNotLater, MayHaveFailed, IsChain, AreDue, IsExplainedBy}
-use Rattle.zy_verdict.specs.Between.{Standing, IsStanding, item_in, has_loss, LeadsBetween, IsExplainedBetween}
+use Rattle.zy_items.specs.Standing.{Standing, IsStanding}
+use Rattle.zy_verdict.specs.Between.{item_in, has_loss, LeadsBetween, IsExplainedBetween}
 use Rattle.zy_verdict.proofs.ListLemmas.{contains_kept, pairs_append}
 use Rattle.zy_times.proofs.RecordLemmas.{is_same as is_equal}
+use Rattle.zy_verdict.proofs.GivenLemmas.{wider}
 use Rattle.window_laws.specs.Joined.{raised, HasConnections, joined_windows, AreOfOneServer}
 use Rattle.window_laws.proofs.WindowLemmas.{by_window, first_commands, first_sent, first_ended, later_commands, later_sent, later_ended, first_exptime, later_exptime, either_exptime, no_commands_behind}
 use Rattle.window_laws.proofs.OutputLemmas.{both_sessions, joined_cuts, first_cut, later_cut, both_cuts}
-use Rattle.window_laws.proofs.StepLemmas.{renamed, renamed_after, renamed_new, renamed_allowed, renamed_loss, renamed_within, after_both, loss_both, allowed_so, allowed_both, wider, within_both, IsUpTo, new_both}
+use Rattle.window_laws.proofs.StepLemmas.{renamed, renamed_after, renamed_new, renamed_allowed, renamed_loss, renamed_within, after_both, loss_both, allowed_so, allowed_both, within_both, IsUpTo, new_both}
 use Rattle.window_laws.proofs.EntryLemmas.{later_name, later_call, later_entry, later_names, both, first_said, later_said, both_placed, first_calls, later_calls, later_steps, both_steps, mapped_pairs}
 
 -- a call is of its own session
@@ -320,8 +322,8 @@ module _ (r next : Recorded) (own : HasConnections r) (server : AreOfOneServer r
                 (renamed_allowed (later_name r.count) (any_loss key) start (y.first key) (y.steps key)
                 (allowed_so last.forget (any_loss key) (y.first key) start (y.first key) (y.steps key) (or_right (has_loss (x.steps key)) (has_loss (y.steps key))) last.chain.allowed)));
             new =
-                new_both a.bound b.bound c.bound (first_uniques (x.first key)) (first_uniques (y.first key)) (x.steps key) (steps_later key) (first_low key) (one.uniques key)
-                (renamed_within (later_name r.count) b.bound c.bound (y.steps key) (two.uniques key)) first.chain.new
+                new_both (a.bound + 1) b.bound c.bound (first_uniques (x.first key)) (first_uniques (y.first key)) (x.steps key) (steps_later key) (first_low key) (one.uniques key)
+                (renamed_within (later_name r.count) (b.bound + 1) c.bound (y.steps key) (two.uniques key)) first.chain.new
                 (renamed_new (later_name r.count) (first_uniques (y.first key)) (y.steps key) last.chain.new);
           };
         }
@@ -367,9 +369,9 @@ module _ (r next : Recorded) (own : HasConnections r) (server : AreOfOneServer r
       uniques = λ key.
           let rises = two.rises in
           let began = one.rises in
-          within_both a.bound c.bound (x.steps key) (steps_later key)
-          (wider a.bound b.bound a.bound c.bound (x.steps key) (omega arith) rises (one.uniques key))
-          (wider b.bound c.bound a.bound c.bound (steps_later key) began (omega arith) (renamed_within (later_name r.count) b.bound c.bound (y.steps key) (two.uniques key)));
+          within_both (a.bound + 1) c.bound (x.steps key) (steps_later key)
+          (wider (a.bound + 1) b.bound (a.bound + 1) c.bound (x.steps key) (omega arith) rises (one.uniques key))
+          (wider (b.bound + 1) c.bound (a.bound + 1) c.bound (steps_later key) (omega (arith, began)) (omega arith) (renamed_within (later_name r.count) (b.bound + 1) c.bound (y.steps key) (two.uniques key)));
       rises = let one_rises = one.rises in let two_rises = two.rises in omega (arith, one_rises, two_rises);
     }
 

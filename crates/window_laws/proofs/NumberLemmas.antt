@@ -7,7 +7,8 @@ use Rattle.zy_times.specs.Times.{marks_in}
 use Rattle.zy_verdict.specs.Recorded.{Recorded, session_commands}
 use Rattle.zy_verdict.specs.Explained.{OutputCuts, answered_by_cut}
 use Rattle.zy_verdict.specs.Numbers.{ended_among, total_of, number_of_commands, number_ended}
-use Rattle.zy_verdict.specs.Between.{Standing, IsStanding, IsExplainedBetweenWith}
+use Rattle.zy_items.specs.Standing.{Standing, IsStanding}
+use Rattle.zy_verdict.specs.Between.{IsExplainedBetweenWith}
 use Rattle.window_laws.specs.Joined.{HasConnections, joined_windows, AreOfOneServer}
 use Rattle.window_laws.proofs.RecordLemmas.{first_marks, first_closes, later_marks, later_closes}
 use Rattle.window_laws.proofs.WindowLemmas.{first_commands, later_commands}

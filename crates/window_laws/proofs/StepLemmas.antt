@@ -1,10 +1,10 @@
 -- Steps at a key that follow those of an earlier window.
-use Rattle.std.proofs.Common.{◌≡◌, inl, ℕ, ◌<◌, ◌≤◌, Bool, true, ◌||◌, List, [], ◌∷◌, ◌++◌, map, All, Option, None, Some, refl, arith}
+use Rattle.std.proofs.Common.{◌≡◌, inl, ℕ, ◌+◌, ◌<◌, ◌≤◌, Bool, true, ◌||◌, List, [], ◌∷◌, ◌++◌, map, All, Option, None, Some, refl, arith}
 use Rattle.std.proofs.lemmas.List.Elements.{All-nil, All-cons, All-head, All-tail}
 use Rattle.mc_allows.specs.declared.call_name.CallName.{CallName}
 use Rattle.mc_allows.specs.Steps.{KeyStep, made, lost, AreAllowed, item_after, unique_stored, IsNoneOf, IsNewUnique, uniques_with, HaveNewUniques}
 use Rattle.mc_calls.specs.declared.item.Item.{Item}
-use Rattle.zy_verdict.specs.Between.{has_loss, IsGivenWithin, AreGivenWithin}
+use Rattle.zy_verdict.specs.Between.{has_loss, IsGivenFrom, AreGivenFrom}
 
 -- ---- names
 
@@ -70,38 +70,29 @@ allowed_both forget first before (lost ∷ steps) later allowed next = (allowed.
 abbrev pub IsUpTo : ℕ → ℕ → Type 0
 IsUpTo bound unique = unique ≤ bound
 
-one_wider : (above most low high : ℕ) (given : Option ℕ) → low ≤ above → most ≤ high → IsGivenWithin above most given → IsGivenWithin low high given
-one_wider above most low high None lower higher within = within
-one_wider above most low high (Some unique) lower higher within = let first = within.0 in let last = within.1 in (omega (arith, first, lower), omega (arith, last, higher))
+pub renamed_within : (f : CallName → CallName) (least most : ℕ) (steps : List KeyStep) → AreGivenFrom least most steps → AreGivenFrom least most (map (renamed f) steps)
+renamed_within f least most [] within = within
+renamed_within f least most (made name call said after ∷ steps) within = (within.0, renamed_within f least most steps within.1)
+renamed_within f least most (lost ∷ steps) within = renamed_within f least most steps within
 
-pub wider : (above most low high : ℕ) (steps : List KeyStep) → low ≤ above → most ≤ high → AreGivenWithin above most steps → AreGivenWithin low high steps
-wider above most low high [] lower higher within = within
-wider above most low high (made name call said after ∷ steps) lower higher within =
-    (one_wider above most low high (unique_stored said after) lower higher within.0, wider above most low high steps lower higher within.1)
-wider above most low high (lost ∷ steps) lower higher within = wider above most low high steps lower higher within
-
-pub renamed_within : (f : CallName → CallName) (above most : ℕ) (steps : List KeyStep) → AreGivenWithin above most steps → AreGivenWithin above most (map (renamed f) steps)
-renamed_within f above most [] within = within
-renamed_within f above most (made name call said after ∷ steps) within = (within.0, renamed_within f above most steps within.1)
-renamed_within f above most (lost ∷ steps) within = renamed_within f above most steps within
-
-pub within_both : (above most : ℕ) (steps later : List KeyStep) → AreGivenWithin above most steps → AreGivenWithin above most later → AreGivenWithin above most (steps ++ later)
-within_both above most [] later within next = next
-within_both above most (made name call said after ∷ steps) later within next = (within.0, within_both above most steps later within.1 next)
-within_both above most (lost ∷ steps) later within next = within_both above most steps later within next
+pub within_both : (least most : ℕ) (steps later : List KeyStep) → AreGivenFrom least most steps → AreGivenFrom least most later → AreGivenFrom least most (steps ++ later)
+within_both least most [] later within next = next
+within_both least most (made name call said after ∷ steps) later within next = (within.0, within_both least most steps later within.1 next)
+within_both least most (lost ∷ steps) later within next = within_both least most steps later within next
 
 -- numbers above a bound that are none of some uniques are none of others
 abbrev pub AreLike : ℕ → List ℕ → List ℕ → Type 0
 AreLike bound some others = (unique : ℕ) → bound < unique → IsNoneOf some unique → IsNoneOf others unique
 
-new_like : (bound most : ℕ) (some others : List ℕ) (given : Option ℕ) → AreLike bound some others → IsGivenWithin bound most given → IsNewUnique some given
+new_like : (bound most : ℕ) (some others : List ℕ) (given : Option ℕ) → AreLike bound some others → IsGivenFrom (bound + 1) most given → IsNewUnique some given
     → IsNewUnique others given × AreLike bound (uniques_with some given) (uniques_with others given)
 new_like bound most some others None like within new = (new, like)
 new_like bound most some others (Some unique) like within new =
-    (like unique within.0 new, λ other high none. (none.0, like other high none.1))
+    let low = within.0 in
+    (like unique (omega (arith, low)) new, λ other high none. (none.0, like other high none.1))
 
 -- steps whose uniques are above a bound may follow other uniques
-new_above : (bound most : ℕ) (some others : List ℕ) (steps : List KeyStep) → AreLike bound some others → AreGivenWithin bound most steps → HaveNewUniques some steps → HaveNewUniques others steps
+new_above : (bound most : ℕ) (some others : List ℕ) (steps : List KeyStep) → AreLike bound some others → AreGivenFrom (bound + 1) most steps → HaveNewUniques some steps → HaveNewUniques others steps
 new_above bound most some others [] like within new = new
 new_above bound most some others (made name call said after ∷ steps) like within new =
     let one = new_like bound most some others (unique_stored said after) like within.0 new.0 in
@@ -114,16 +105,16 @@ low_none bound (x ∷ xs) unique low high =
     let first = All-head (IsUpTo bound) x xs low in
     ((λ same. omega (arith, first, high, same)), low_none bound xs unique (All-tail (IsUpTo bound) x xs low) high)
 
-low_with : (above bound : ℕ) (uniques : List ℕ) (given : Option ℕ) → All (IsUpTo bound) uniques → IsGivenWithin above bound given → All (IsUpTo bound) (uniques_with uniques given)
-low_with above bound uniques None low within = low
-low_with above bound uniques (Some unique) low within = All-cons (IsUpTo bound) unique uniques within.1 low
+low_with : (least bound : ℕ) (uniques : List ℕ) (given : Option ℕ) → All (IsUpTo bound) uniques → IsGivenFrom least bound given → All (IsUpTo bound) (uniques_with uniques given)
+low_with least bound uniques None low within = low
+low_with least bound uniques (Some unique) low within = All-cons (IsUpTo bound) unique uniques within.1 low
 
 -- the uniques of two windows are new, if those of the second are above all of the first
-pub new_both : (above bound most : ℕ) (uniques others : List ℕ) (steps later : List KeyStep) → All (IsUpTo bound) uniques → AreGivenWithin above bound steps → AreGivenWithin bound most later
+pub new_both : (least bound most : ℕ) (uniques others : List ℕ) (steps later : List KeyStep) → All (IsUpTo bound) uniques → AreGivenFrom least bound steps → AreGivenFrom (bound + 1) most later
     → HaveNewUniques uniques steps → HaveNewUniques others later → HaveNewUniques uniques (steps ++ later)
-new_both above bound most uniques others [] later low within next new more =
+new_both least bound most uniques others [] later low within next new more =
     new_above bound most others uniques later (λ unique high none. low_none bound uniques unique low high) next more
-new_both above bound most uniques others (made name call said after ∷ steps) later low within next new more =
-    (new.0, new_both above bound most (uniques_with uniques (unique_stored said after)) others steps later (low_with above bound uniques (unique_stored said after) low within.0) within.1 next new.1 more)
-new_both above bound most uniques others (lost ∷ steps) later low within next new more =
-    new_both above bound most [] others steps later (All-nil (IsUpTo bound)) within next new more
+new_both least bound most uniques others (made name call said after ∷ steps) later low within next new more =
+    (new.0, new_both least bound most (uniques_with uniques (unique_stored said after)) others steps later (low_with least bound uniques (unique_stored said after) low within.0) within.1 next new.1 more)
+new_both least bound most uniques others (lost ∷ steps) later low within next new more =
+    new_both least bound most [] others steps later (All-nil (IsUpTo bound)) within next new more

@@ -4,7 +4,8 @@ use Rattle.std.specs.Prelude.{replicate, All, ⊤}
 use Rattle.zy_capture.specs.declared.record.Record.{Record}
 use Rattle.zy_capture.specs.declared.record.Record.TheVariants as Kinds
 use Rattle.zy_verdict.specs.Recorded.{Recorded}
-use Rattle.zy_verdict.specs.Between.{Standing, IsStanding, IsExplainedBetweenWith}
+use Rattle.zy_items.specs.Standing.{Standing, IsStanding}
+use Rattle.zy_verdict.specs.Between.{IsExplainedBetweenWith}
 
 -- ---- two windows
 
@@ -61,6 +62,11 @@ joined_all r (window ∷ windows) = joined_windows r (joined_all window.recordin
 abbrev pub last_standing : Standing → List Window → Standing
 last_standing to [] = to
 last_standing to (window ∷ windows) = last_standing window.to windows
+
+-- the recording of the last of these windows
+abbrev pub last_recording : Recorded → List Window → Recorded
+last_recording r [] = r
+last_recording r (window ∷ windows) = last_recording window.recording windows
 
 -- the number of commands of a window, and those of the windows after it
 abbrev pub all_commands : ℕ → List Window → ℕ

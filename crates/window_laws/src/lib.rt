@@ -3,4 +3,4 @@
 
 mod windows;
 
-pub use windows::{a_chain_of_windows_is_explained, windows_are_explained_as_one};
+pub use windows::{a_chain_goes_on, a_chain_of_windows_is_explained, windows_are_explained_as_one};

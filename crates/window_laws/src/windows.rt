@@ -1,12 +1,14 @@
-//! Two laws of windows: each is the contract of a function without a body.
-ghost use Rattle.std.specs.Prelude.{◌+◌, List, ℕ};
+//! Laws of windows: each is the contract of a function without a body.
+ghost use Rattle.std.specs.Prelude.{◌+◌, List, [], ◌∷◌, ◌++◌, ℕ};
 ghost use Rattle.zy_capture.specs.declared.record.Record.{Record};
 ghost use Rattle.zy_capture.specs.Capture.{IsCapture};
 ghost use Rattle.zy_verdict.specs.Recorded.{Recorded};
-ghost use Rattle.zy_verdict.specs.Between.{Standing, IsStanding, IsExplainedBetween, IsExplainedBetweenWith};
+ghost use Rattle.zy_items.specs.Standing.{Standing, IsStanding};
+ghost use Rattle.zy_verdict.specs.Between.{IsExplainedBetween, IsExplainedBetweenWith};
 ghost use Rattle.zy_verdict.specs.Explained.{IsExplained};
 ghost use Rattle.window_laws.specs.Joined.{HasConnections, joined_windows, AreOfOneServer, Window, joined_all};
-ghost use Rattle.window_laws.specs.Joined.{last_standing, all_commands, all_ended, AreExplainedFrom};
+ghost use Rattle.window_laws.specs.Joined.{last_standing, last_recording, all_commands, all_ended};
+ghost use Rattle.window_laws.specs.Joined.{AreExplainedFrom};
 
 /// If a window is explained from what its server has at first to what it has then, and the next one
 /// from that on, both are explained as one recording, in which the connections of the second are
@@ -34,4 +36,14 @@ pub fn a_chain_of_windows_is_explained()
     ensures some { (r : Recorded) (from to : Standing) (commands ended : ℕ) (windows : List Window)
         → IsStanding from → IsExplainedBetweenWith r from to commands ended → AreExplainedFrom r to windows
         → IsExplained (joined_all r windows) }
+{}
+
+/// A window more, which is explained from what the last one left, makes the chain longer. These are the
+/// clauses of `confirm_between`: it explains a window, and what it leaves is valid.
+pub fn a_chain_goes_on()
+    ensures more { (r : Recorded) (from : Standing) (windows : List Window) (next : Window)
+        → AreExplainedFrom r from windows → HasConnections (last_recording r windows)
+        → IsStanding (last_standing from windows) → AreOfOneServer (last_recording r windows) next.recording
+        → IsExplainedBetweenWith next.recording (last_standing from windows) next.to next.commands next.ended
+        → AreExplainedFrom r from (windows ++ next ∷ []) }
 {}

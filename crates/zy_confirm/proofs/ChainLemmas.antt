@@ -8,9 +8,10 @@ use Rattle.mc_allows.specs.Steps.{KeyStep, made, lost, is_same, AreAllowed, item
 use Rattle.mc_calls.specs.declared.call.Call.{Call}
 use Rattle.mc_calls.specs.declared.item.Item.{Item}
 use Rattle.zy_verdict.specs.Entries.{MadeCall, is_at_key, placed_at, AreStepsOf}
-use Rattle.zy_verdict.specs.Between.{has_loss}
+use Rattle.zy_verdict.specs.Between.{has_loss, IsGivenFrom, AreGivenFrom}
+use Rattle.zy_verdict.proofs.GivenLemmas.{wider}
 use Rattle.zy_confirm.specs.declared.store.Store.{Store}
-use Rattle.zy_confirm.specs.Store.{store_shards, held_at, is_used, KeepsBounds, IsNewlyUsed, MakesCall, LosesItem, uniques_after, AreUsed, IsGivenFrom, AreGivenFrom, KeyStands, StandsAfter, HoldsFirst}
+use Rattle.zy_confirm.specs.Store.{store_shards, held_at, is_used, KeepsBounds, IsNewlyUsed, MakesCall, LosesItem, uniques_after, AreUsed, KeyStands, StandsAfter, HoldsFirst}
 use Rattle.zy_confirm.proofs.MakeLemmas.{same_key}
 
 -- ---- steps
@@ -112,20 +113,9 @@ used_with old new key (Some unique) uniques fresh are = (fresh.1, are)
 
 -- ---- bounds
 
-given_one : (old new : Store) → KeepsBounds old new → (unique : Option ℕ) → IsGivenFrom old.least old.most unique → IsGivenFrom new.least new.most unique
-given_one old new bounds None is = tt
-given_one old new bounds (Some unique) is =
-    let same = bounds.0 in
-    let above = bounds.1 in
-    let least = is.0 in
-    let most = is.1 in
-    (omega (arith, same, least), omega (arith, above, most))
-
 -- uniques that were given within bounds are within bounds that are kept
-pub given_on : (old new : Store) → KeepsBounds old new → (steps : List KeyStep) → AreGivenFrom old.least old.most steps → AreGivenFrom new.least new.most steps
-given_on old new bounds [] are = tt
-given_on old new bounds (made name call said after ∷ steps) are = (given_one old new bounds (unique_stored said after) are.0, given_on old new bounds steps are.1)
-given_on old new bounds (lost ∷ steps) are = given_on old new bounds steps are
+given_on : (old new : Store) → KeepsBounds old new → (steps : List KeyStep) → AreGivenFrom old.least old.most steps → AreGivenFrom new.least new.most steps
+given_on old new bounds steps are = let same = bounds.0 in let above = bounds.1 in wider old.least old.most new.least new.most steps (omega (arith, same)) above are
 
 given_new : (old new : Store) (key : List ℕ) → KeepsBounds old new → (unique : Option ℕ) → IsNewlyUsed old new key unique → IsGivenFrom new.least new.most unique
 given_new old new key bounds None fresh = tt

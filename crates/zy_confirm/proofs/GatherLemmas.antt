@@ -1,18 +1,24 @@
 -- Items that go from map to map, and to a list.
-use Rattle.std.proofs.Common.{◌≡◌, ◌⊎◌, inl, inr, ⊎_elim, ℕ, ◌+◌, ◌-◌, ◌<◌, ◌≤◌, Bool, true, false, cond, if◌then◌else◌, List, [], ◌∷◌, ◌++◌, length, Option, None, Some, refl, sym, ap, ◌∙◌, arith}
+use Rattle.std.proofs.Common.{◌≡◌, ◌⊎◌, inl, inr, ⊎_elim, ℕ, ◌+◌, ◌-◌, ◌<◌, ◌≤◌, Bool, true, false, cond, if◌then◌else◌, List, [], ◌∷◌, ◌++◌, length, map, All, AllPairs, Option, None, Some, refl, sym, ap, ◌∙◌, subst, arith}
 use Rattle.std.proofs.lemmas.Bool.{cases_eq}
-use Rattle.std.specs.BTreeMap.{BTreeMap, is_at, Updates}
-use Rattle.std.specs.Map.{lookup}
+use Rattle.std.specs.BTreeMap.{BTreeMap, is_at, keys, Updates}
+use Rattle.std.specs.Map.{lookup, keys_of}
 use Rattle.std.specs.Cmp.{eq_by_cmp_equiv}
 use Rattle.std.specs.Cmp.Lexicographic.{slice_cmp, nat_list_cmp_total}
-use Rattle.std.specs.List.{slice_get}
+use Rattle.std.specs.List.{slice_get, AllByRecursion}
+use Rattle.std.specs.List.Sorted.{IsStrictlySortedBy}
 use Rattle.std.specs.Ordering.{nat_cmp}
+use Rattle.std.specs.declared.cmp.Ordering.TheVariants.{Less}
+use Rattle.std.proofs.lemmas.List.{append_assoc, append-nil, map-append}
+use Rattle.std.proofs.lemmas.List.Elements.{All-nil, All-cons}
+use Rattle.std.proofs.lemmas.List.Kept.{AllPairs-cons}
+use Rattle.zy_items.specs.Standing.{IsKeyBefore, IsItemBefore}
 use Rattle.mc_allows.specs.Steps.{is_same}
 use Rattle.mc_calls.specs.declared.item.Item.{Item}
 use Rattle.mc_calls.specs.Key.{shard_of}
-use Rattle.zy_verdict.specs.declared.standing.KeptItem.{KeptItem}
+use Rattle.zy_items.specs.declared.standing.KeptItem.{KeptItem}
 use Rattle.zy_verdict.specs.Between.{item_in}
-use Rattle.zy_confirm.specs.Gathering.{item_of, either_of, MovesOwn, GathersTo, TakesInOrder}
+use Rattle.zy_confirm.specs.Gathering.{item_of, either_of, keys_in, KeepsKeys, MovesOwn, GathersTo, TakesInOrder}
 use Rattle.zy_confirm.specs.Store.{item_on_shard}
 use Rattle.zy_confirm.proofs.MakeLemmas.{same_key}
 
@@ -87,3 +93,40 @@ module _ (items more : List KeptItem) (all left : BTreeMap (List ℕ) Item) (kep
       ∙ ap (λ i. either_of i (item_of left key)) (item_push items kept key)
       ∙ regrouped (item_in items key) (if is_same key kept.key then Some kept.item else None) (item_of left key)
       ∙ ap (either_of (item_in items key)) (kept_or_left key (is_same key kept.key) refl)
+
+-- ---- the order of the keys
+
+module _ (items more : List KeptItem) (all left : BTreeMap (List ℕ) Item) where
+  -- one key more
+  pub keys_one : (kept : KeptItem) → all.entries ≡ (kept.key, kept.item) ∷ left.entries → more ≡ items ++ kept ∷ [] → KeepsKeys items all more left
+  keys_one kept removal is =
+      ap (λ (l : List KeptItem). keys_in l ++ keys left) is
+      ∙ ap (λ (l : List (List ℕ)). l ++ keys left) (map-append (λ (one : KeptItem). one.key) items (kept ∷ []))
+      ∙ append_assoc (keys_in items) (kept.key ∷ []) (keys left)
+      ∙ ap (λ (l : List (List ℕ × Item)). keys_in items ++ keys_of l) (sym removal)
+
+nothing_left : {A : Type 0} (l : List A) → length l ≡ 0 → l ≡ []
+nothing_left [] none = refl
+nothing_left (x ∷ xs) none = absurd (omega (arith, none))
+
+-- what stands in the order of its keys, each before the next
+module _ {A : Type 0} (key : A → List ℕ) where
+  all_after : (x : A) (xs : List A) → AllByRecursion (λ (other : List ℕ). slice_cmp nat_cmp (key x) other ≡ Less) (map key xs) → All (λ (y : A). IsKeyBefore (key x) (key y)) xs
+  all_after x [] all = All-nil (λ (y : A). IsKeyBefore (key x) (key y))
+  all_after x (y ∷ xs) all = All-cons (λ (y : A). IsKeyBefore (key x) (key y)) y xs all.0 (all_after x xs all.1)
+
+  pub rising : (xs : List A) → IsStrictlySortedBy (slice_cmp nat_cmp) (map key xs) → AllPairs (λ (x y : A). IsKeyBefore (key x) (key y)) xs
+  unfolding IsStrictlySortedBy
+  rising [] sorted = λ i j d before within. absurd (omega (arith, within))
+  rising (x ∷ xs) sorted = AllPairs-cons (λ (x y : A). IsKeyBefore (key x) (key y)) x xs (all_after x xs sorted.0) (rising xs sorted.1)
+
+-- the items of a map were taken in the order of its keys
+pub rising_by : (items more : List KeptItem) (all left : BTreeMap (List ℕ) Item) → items ≡ [] → length left.entries ≡ 0 → KeepsKeys items all more left
+    → IsStrictlySortedBy (slice_cmp nat_cmp) (keys all) → AllPairs IsItemBefore more
+rising_by items more all left none few keeps sorted =
+    let same : keys_in more ≡ keys all =
+    sym (append-nil (keys_in more))
+    ∙ ap (λ (l : List (List ℕ × Item)). keys_in more ++ keys_of l) (sym (nothing_left left.entries few))
+    ∙ keeps
+    ∙ ap (λ (l : List KeptItem). keys_in l ++ keys all) none in
+    rising (λ (kept : KeptItem). kept.key) more (subst (IsStrictlySortedBy (slice_cmp nat_cmp)) (sym same) sorted)

@@ -1,12 +1,12 @@
 -- The items of all shards, gathered into one list. No public clause cites this module.
-use Rattle.std.specs.Prelude.{◌≡◌, ℕ, ◌<◌, ◌≤◌, List, length, Option, None, Some}
-use Rattle.std.specs.BTreeMap.{BTreeMap, get}
+use Rattle.std.specs.Prelude.{◌≡◌, ℕ, ◌<◌, ◌≤◌, List, ◌++◌, length, map, Option, None, Some}
+use Rattle.std.specs.BTreeMap.{BTreeMap, get, keys}
 use Rattle.std.specs.Cmp.Lexicographic.{slice_cmp}
 use Rattle.std.specs.List.{slice_get}
 use Rattle.std.specs.Ordering.{nat_cmp}
 use Rattle.mc_calls.specs.declared.item.Item.{Item}
 use Rattle.mc_calls.specs.Key.{shard_of}
-use Rattle.zy_verdict.specs.declared.standing.KeptItem.{KeptItem}
+use Rattle.zy_items.specs.declared.standing.KeptItem.{KeptItem}
 use Rattle.zy_verdict.specs.Between.{item_in}
 use Rattle.zy_confirm.specs.Store.{item_on_shard}
 
@@ -37,3 +37,11 @@ abbrev pub TakesInOrder : List KeptItem → BTreeMap (List ℕ) Item → List Ke
 TakesInOrder items all more left =
     (key : List ℕ)
     → either_of (item_in more key) (item_of left key) ≡ either_of (item_in items key) (item_of all key)
+
+-- the keys of these items
+abbrev pub keys_in : List KeptItem → List (List ℕ)
+keys_in items = map (λ (kept : KeptItem). kept.key) items
+
+-- items went from the beginning of a map to the end of a list
+abbrev pub KeepsKeys : List KeptItem → BTreeMap (List ℕ) Item → List KeptItem → BTreeMap (List ℕ) Item → Type 0
+KeepsKeys items all more left = keys_in more ++ keys left ≡ keys_in items ++ keys all

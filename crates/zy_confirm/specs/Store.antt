@@ -14,7 +14,7 @@ use Rattle.mc_calls.specs.declared.item.Item.{Item}
 use Rattle.mc_calls.specs.Key.{hash_of, shard_of}
 use Rattle.mc_parse.specs.declared.shard_call.ShardCall.{ShardCall}
 use Rattle.zy_verdict.specs.Entries.{MadeCall, is_at_key, placed_at, AreStepsOf}
-use Rattle.zy_verdict.specs.Between.{has_loss}
+use Rattle.zy_verdict.specs.Between.{has_loss, AreGivenFrom}
 use Rattle.zy_confirm.specs.declared.outcome.After.{After}
 use Rattle.zy_confirm.specs.declared.store.Store.{Store}
 use Rattle.zy_confirm.specs.Choosing.{after_by, unique_given}
@@ -151,18 +151,6 @@ uniques_after before [] = before
 uniques_after before (made name call said after ∷ steps) =
     uniques_after (uniques_with before (unique_stored said after)) steps
 uniques_after before (lost ∷ steps) = uniques_after [] steps
-
--- a unique that is given is not less than one number, and not greater than another
-abbrev pub IsGivenFrom : ℕ → ℕ → Option ℕ → Type 0
-IsGivenFrom least most None = ⊤
-IsGivenFrom least most (Some unique) = (least ≤ unique) × (unique ≤ most)
-
--- so is each unique that these steps give
-abbrev pub AreGivenFrom : ℕ → ℕ → List KeyStep → Type 0
-AreGivenFrom least most [] = ⊤
-AreGivenFrom least most (made name call said after ∷ steps) =
-    IsGivenFrom least most (unique_stored said after) × AreGivenFrom least most steps
-AreGivenFrom least most (lost ∷ steps) = AreGivenFrom least most steps
 
 -- the entries at a key that had this first, and whose items may be lost or not, are allowed steps to what the store has
 pub record KeyStands (forget : Bool) (first : Option Item) (store : Store) (key : List ℕ) (entries : List MadeCall)

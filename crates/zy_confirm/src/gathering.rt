@@ -1,9 +1,11 @@
 //! The items of a server, taken out of its shards.
 ghost use Rattle.std.specs.Prelude.{◌≡◌, ◌≤◌, ◌-◌, ℕ, List, [], length, IfOk, OnOk};
 ghost use Rattle.std.specs.BTreeMap.{btree_map_len};
+ghost use Rattle.std.specs.List.{AllPairs};
 ghost use Rattle.mc_calls.specs.Key.{shard_of};
+ghost use Rattle.zy_items.specs.Standing.{IsItemBefore};
 ghost use Rattle.zy_verdict.specs.Between.{item_in};
-ghost use Rattle.zy_confirm.specs.Gathering.{item_of, MovesOwn, GathersTo, TakesInOrder};
+ghost use Rattle.zy_confirm.specs.Gathering.{item_of, KeepsKeys, MovesOwn, GathersTo, TakesInOrder};
 ghost use Rattle.zy_confirm.specs.Store.{store_shards, held_at, item_on_shard};
 
 use crate::store::Store;
@@ -11,7 +13,7 @@ use mc_calls::{Item, shard_of};
 use std::alloc::Global;
 use std::collections::BTreeMap;
 use zy_base::{Blob, NoMemory};
-use zy_verdict::KeptItem;
+use zy_items::KeptItem;
 
 impl Store {
     /// Returns the keys that have an item, in rising order, and their items.
@@ -19,6 +21,7 @@ impl Store {
         requires some { 1 ≤ store_shards self }
         requires limit { store_shards self ≤ 256 }
         ensures items { IfOk result (λ items. (key : List ℕ) → item_in items.items key ≡ held_at self key) }
+        ensures rises { IfOk result (λ items. AllPairs IsItemBefore items.items) }
     {
         let (alloc, shards) = self.into_shards();
         let all = gathered(alloc, shards)?;
@@ -118,6 +121,7 @@ fn move_first(
 // Takes the items out of a map, in the order of their keys.
 fn in_order(alloc: Global, all: BTreeMap<Blob, Item>) -> Result<Vec<KeptItem>, NoMemory>
     ensures items { IfOk result (λ items. (key : List ℕ) → item_in items.items key ≡ item_of all key) }
+    ensures rises { IfOk result (λ items. AllPairs IsItemBefore items.items) }
 {
     let mut all = all;
     let mut items = Vec::new(alloc);
@@ -138,6 +142,7 @@ fn in_order(alloc: Global, all: BTreeMap<Blob, Item>) -> Result<Vec<KeptItem>, N
 fn take_in_order(items: &mut Vec<KeptItem>, all: &mut BTreeMap<Blob, Item>) -> Result<(), NoMemory>
     requires none { items.old.items ≡ [] }
     ensures taken { OnOk result ((key : List ℕ) → item_in items.new.items key ≡ item_of all.old key) }
+    ensures rises { OnOk result (AllPairs IsItemBefore items.new.items) }
 {
     for _ in 0..all.len() {
         take_first(items, all)?;
@@ -148,6 +153,7 @@ fn take_in_order(items: &mut Vec<KeptItem>, all: &mut BTreeMap<Blob, Item>) -> R
 // Moves the first item of a map to the end of a list.
 fn take_first(items: &mut Vec<KeptItem>, all: &mut BTreeMap<Blob, Item>) -> Result<(), NoMemory>
     ensures taken { OnOk result (TakesInOrder items.old.items all.old items.new.items all.new) }
+    ensures keys { OnOk result (KeepsKeys items.old.items all.old items.new.items all.new) }
     ensures fewer { OnOk result (btree_map_len all.new ≡ btree_map_len all.old - 1) }
 {
     let Some((key, item)) = all.pop_first() else {

@@ -10,10 +10,13 @@ use Rattle.zy_confirm.specs.declared.outcome.After.TheVariants.{Put}
 use Rattle.zy_confirm.specs.Store.{item_on_shard, held_at, AreUsed, ChangesAt, HoldsNothing, BeginsAbove}
 use Rattle.zy_confirm.proofs.MakeLemmas.{same_key}
 use Rattle.zy_confirm.proofs.StoreLemmas.{losses_same, used_same}
-use Rattle.zy_explain.specs.Beginning.{HoldsItems, Begins}
+use Rattle.zy_explain.specs.declared.rules.Rules.{Rules}
+use Rattle.zy_explain.specs.Beginning.{HoldsItems, MayBegin}
+use Rattle.zy_explain.specs.Following.{IsFirstStore}
 use Rattle.zy_explain.proofs.StateLemmas.{used_on, own_more}
-use Rattle.zy_verdict.specs.declared.standing.KeptItem.{KeptItem}
-use Rattle.zy_verdict.specs.Between.{Standing, item_in}
+use Rattle.zy_items.specs.declared.standing.KeptItem.{KeptItem}
+use Rattle.zy_items.specs.Standing.{Standing}
+use Rattle.zy_verdict.specs.Between.{item_in}
 
 module _ (shards : ℕ) (old new : Store) (kept : KeptItem) (rest : List KeptItem) (holds : HoldsItems shards rest old)
     (changes : ChangesAt old new kept.key kept.item.unique (Put kept.item.flags kept.item.value)) where
@@ -28,3 +31,11 @@ module _ (shards : ℕ) (old new : Store) (kept : KeptItem) (rest : List KeptIte
     held = λ key. held_by key (is_same key kept.key) refl;
     own = own_more old new kept.key kept.item holds.own changes;
   }
+
+-- a store with items with which the server may have begun
+pub first_with : (rules : Rules) (items : List KeptItem) (store : Store) → HoldsItems rules.shards items store → MayBegin rules items → IsFirstStore rules store
+first_with rules items store holds may = record {
+  shards = holds.count;
+  own = holds.own;
+  cold = λ cold key. holds.held key ∙ ap (λ (l : List KeptItem). item_in l key) (may cold);
+}

@@ -1,5 +1,5 @@
 -- From what a server had when a window began to what it has at its end.
-use Rattle.std.proofs.Common.{◌≡◌, ◌⊎◌, ◌↔◌, inl, inr, ⊎_elim, ℕ, zero, suc, ◌+◌, Bool, true, false, ◌||◌, List, [], ◌∷◌, drop, Contains, Option, None, Some, Result, Ok, Err, IfOk, IfSome, refl, sym, ap, ◌∙◌, subst, true≢false, arith}
+use Rattle.std.proofs.Common.{◌≡◌, ◌⊎◌, ◌↔◌, inl, inr, ⊎_elim, ℕ, zero, suc, ◌+◌, Bool, true, false, ◌||◌, List, [], ◌∷◌, drop, Contains, Option, None, Some, IfSome, refl, sym, ap, ◌∙◌, subst, true≢false, arith}
 use Rattle.std.proofs.lemmas.Map.Views.{Contains-from_any, list_any-from_Contains}
 use Rattle.std.specs.BTreeSet.{BTreeSet, contains}
 use Rattle.std.specs.Cmp.{eq_by_cmp_equiv}
@@ -16,18 +16,18 @@ use Rattle.zy_confirm.proofs.MakeLemmas.{same_key}
 use Rattle.zy_sessions.specs.declared.sessions.Sessions.{Sessions}
 use Rattle.zy_sessions.specs.Sessions.{SessionsHold}
 use Rattle.zy_sessions.proofs.OtherLemmas.{others_have_nothing}
-use Rattle.zy_verdict.specs.declared.standing.KeptItem.{KeptItem}
-use Rattle.zy_verdict.specs.declared.standing.Standing.{Standing as Kept}
-use Rattle.zy_verdict.specs.Between.{Standing, item_in, standing_of, IsExplainedBetweenWith}
+use Rattle.zy_items.specs.declared.standing.KeptItem.{KeptItem}
+use Rattle.zy_items.specs.declared.standing.Standing.{Standing as Kept}
+use Rattle.zy_items.specs.Standing.{Standing, standing_of}
+use Rattle.zy_verdict.specs.Between.{item_in, IsExplainedBetweenWith}
 use Rattle.zy_verdict.specs.Losses.{HasExptimeIn, MayLoseAt}
 use Rattle.zy_explain.specs.declared.rules.Rules.{Rules}
 use Rattle.zy_explain.specs.declared.numbers.Numbers.{Numbers}
 use Rattle.zy_explain.specs.declared.state.State.{State}
-use Rattle.zy_explain.specs.declared.window.Window.{Window}
-use Rattle.zy_explain.specs.Beginning.{HoldsItems, Begins, MayBegin}
-use Rattle.zy_explain.specs.Between.{EndsFrom}
+use Rattle.zy_explain.specs.Beginning.{HoldsItems, Begins}
+use Rattle.zy_explain.specs.Between.{StandsAt}
 use Rattle.zy_explain.specs.Ending.{EndsAs, HaveTheirSessions}
-use Rattle.zy_explain.specs.Following.{IsFirstStore, StandsSome, may_lose_by}
+use Rattle.zy_explain.specs.Following.{StandsSome, may_lose_by}
 use Rattle.zy_explain.specs.Judged.{judged_after}
 use Rattle.zy_explain.specs.Lasting.{IsUnion}
 use Rattle.zy_explain.proofs.BeginLemmas.{holds_more}
@@ -62,7 +62,8 @@ ends_there rules lasting sessions outputs old new began found n is ends =
 among : (keys : BTreeSet (List ℕ)) (key : List ℕ) → contains (slice_cmp nat_cmp) keys key ≡ true → Contains keys.keys key
 among keys key is = Contains-from_any {eq = is_same} same_key key keys.keys is
 
-is_one : (keys : BTreeSet (List ℕ)) (key : List ℕ) → Contains keys.keys key → contains (slice_cmp nat_cmp) keys key ≡ true
+-- a key of a set is in it
+pub is_one : (keys : BTreeSet (List ℕ)) (key : List ℕ) → Contains keys.keys key → contains (slice_cmp nat_cmp) keys key ≡ true
 is_one keys key at = list_any-from_Contains {eq = is_same} (eq_by_cmp_equiv nat_list_cmp_total) key keys.keys at
 
 or_true : (a b : Bool) → (a ≡ true) ⊎ (b ≡ true) → (a || b) ≡ true
@@ -83,7 +84,8 @@ module _ (one other all : BTreeSet (List ℕ)) (union : IsUnion one other all) (
 
 module _ (rules : Rules) (from : Kept) (sessions : Sessions) (outputs : List (List (List ℕ))) (began : Store) (lasting : BTreeSet (List ℕ)) (have : HaveTheirSessions sessions outputs)
     (begins : Begins rules.shards (standing_of from) began) (union : IsUnion from.lasting sessions.lasting lasting) where
-  module _ (w : Window) (ends : EndsFrom rules lasting sessions outputs began w) (count : ℕ) (records : List Record) (hold : SessionsHold sessions count records) where
+  module _ (state : State) (n : Numbers) (to : Kept) (ends : EndsAs rules lasting sessions outputs began state n) (at : StandsAt state.store lasting (standing_of to)) (count : ℕ) (records : List Record)
+      (hold : SessionsHold sessions count records) where
     may_lose : (key : List ℕ) → may_lose_by rules lasting key ≡ true → MayLoseAt (judged_after from.lasting.keys rules count records outputs) key
     may_lose key may = ⊎_elim
         (λ forget. inl forget)
@@ -93,25 +95,19 @@ module _ (rules : Rules) (from : Kept) (sessions : Sessions) (outputs : List (Li
         (of_either from.lasting sessions.lasting lasting union key is))
         (either_true rules.forget (contains (slice_cmp nat_cmp) lasting key) may)
 
-    lasts : (key : List ℕ) → (Contains w.to.lasting.keys key ↔ (Contains from.lasting.keys key ⊎ HasExptimeIn records key))
+    lasts : (key : List ℕ) → (Contains to.lasting.keys key ↔ (Contains from.lasting.keys key ⊎ HasExptimeIn records key))
     lasts key = (
-      λ at. ⊎_elim
+      λ there. ⊎_elim
           (λ earlier. inl earlier)
           (λ own. inr ((hold.lasting key).0 own))
-          (of_either from.lasting sessions.lasting lasting union key (is_one lasting key (subst (λ (l : List (List ℕ)). Contains l key) ends.stands.lasting_is at))),
+          (of_either from.lasting sessions.lasting lasting union key (is_one lasting key (subst (λ (l : List (List ℕ)). Contains l key) at.lasting_is there))),
       λ either.
-          subst (λ (l : List (List ℕ)). Contains l key) (sym ends.stands.lasting_is)
+          subst (λ (l : List (List ℕ)). Contains l key) (sym at.lasting_is)
           (among lasting key (in_either from.lasting sessions.lasting lasting union key (⊎_elim (λ earlier. inl earlier) (λ own. inr ((hold.lasting key).1 own)) either))),
     )
 
-    window : IsExplainedBetweenWith (judged_after from.lasting.keys rules count records outputs) (standing_of from) (standing_of w.to) w.numbers.commands w.numbers.ended
+    -- the order leads from what the server had at first to what it has at last
+    pub window : IsExplainedBetweenWith (judged_after from.lasting.keys rules count records outputs) (standing_of from) (standing_of to) n.commands n.ended
     window =
-        between_with rules lasting from.lasting.keys sessions outputs began ends.state ends.ends.entries ends.ends.stands w.numbers have ends.ends.numbers count records hold
-        (λ conn session none. others_have_nothing sessions count records hold conn session none) may_lose (standing_of from) (standing_of w.to) refl begins ends.stands lasts
-
-  pub between_some : (r : Result (Option Window) NoMemory) → IfOk r (λ found. IfSome found (EndsFrom rules lasting sessions outputs began))
-      → IfOk r (λ found. IfSome found (λ w. (count : ℕ) (records : List Record) → SessionsHold sessions count records
-      → IsExplainedBetweenWith (judged_after from.lasting.keys rules count records outputs) (standing_of from) (standing_of w.to) w.numbers.commands w.numbers.ended))
-  between_some (Ok None) ends = tt
-  between_some (Ok (Some w)) ends = window w ends
-  between_some (Err refused) ends = tt
+        between_with rules lasting from.lasting.keys sessions outputs began state ends.entries ends.stands n have ends.numbers count records hold
+        (λ conn session none. others_have_nothing sessions count records hold conn session none) may_lose (standing_of from) (standing_of to) refl begins at lasts

@@ -26,12 +26,14 @@ use Rattle.zy_verdict.specs.Losses.{HasExptime, MayLoseAt}
 use Rattle.zy_verdict.specs.Entries.{MadeCall, named_from, is_of_session, of_session, said_to, placed_at}
 use Rattle.zy_verdict.specs.Explained.{OutputCuts, IsTimely, MayHaveFailed, IsChain, IsExplainedBy}
 use Rattle.zy_verdict.specs.Numbers.{ended_among, total_of, number_of_commands, number_ended, IsExplainedWith}
-use Rattle.zy_verdict.specs.Between.{Standing, IsGivenWithin, AreGivenWithin, LeadsBetween, IsExplainedBetweenWith}
+use Rattle.zy_items.specs.Standing.{Standing}
+use Rattle.zy_verdict.specs.Between.{LeadsBetween, IsExplainedBetweenWith}
+use Rattle.zy_verdict.proofs.GivenLemmas.{wider}
 use Rattle.zy_verdict.proofs.ListLemmas.{contains_kept}
 use Rattle.zy_verdict.proofs.MomentLemmas.{sent_rises}
 use Rattle.zy_base.specs.declared.outside.NoMemory.{NoMemory}
 use Rattle.zy_confirm.specs.declared.store.Store.{Store}
-use Rattle.zy_confirm.specs.Store.{held_at, IsGivenFrom, AreGivenFrom, KeyStands}
+use Rattle.zy_confirm.specs.Store.{held_at, KeyStands}
 use Rattle.zy_sessions.specs.declared.line.Line.{Line}
 use Rattle.zy_sessions.specs.declared.session.Session.{Session}
 use Rattle.zy_sessions.specs.declared.sessions.Sessions.{Sessions}
@@ -238,19 +240,6 @@ module _ (sessions : Sessions) (count : ℕ) (records : List Record) (hold : Ses
       let line = there sessions.lines.items conn below in
       ap sessions_in line.1 ∙ (hold.each conn line.0 line.1).count
 
--- ---- uniques
-
-given_one : (least most above upper : ℕ) → least ≡ above + 1 → upper ≡ most → (unique : Option ℕ) → IsGivenFrom least most unique → IsGivenWithin above upper unique
-given_one least most above upper low high None is = tt
-given_one least most above upper low high (Some unique) is = let from = is.0 in let to = is.1 in (omega (arith, low, from), omega (arith, high, to))
-
--- uniques that are not less than the one after a bound are greater than it
-given_within : (least most above upper : ℕ) → least ≡ above + 1 → upper ≡ most → (steps : List KeyStep) → AreGivenFrom least most steps → AreGivenWithin above upper steps
-given_within least most above upper low high [] are = tt
-given_within least most above upper low high (made name call said after ∷ steps) are =
-    (given_one least most above upper low high (unique_stored said after) are.0, given_within least most above upper low high steps are.1)
-given_within least most above upper low high (lost ∷ steps) are = given_within least most above upper low high steps are
-
 -- ---- the whole
 
 module _ (rules : Rules) (lasting : BTreeSet (List ℕ)) (earlier : List (List ℕ)) (sessions : Sessions) (outputs : List (List (List ℕ))) (began : Store) (state : State) (entries : List MadeCall)
@@ -374,7 +363,9 @@ module _ (rules : Rules) (lasting : BTreeSet (List ℕ)) (earlier : List (List �
       losses = λ key is. may_lose key ((stood key).losses is);
       lasting_is = earlier_is;
       lasts = lasts;
-      uniques = λ key. given_within state.store.least state.store.most from.bound to.bound (stands.bounds.0 ∙ began_as.least) at.bound (steps key) (stood key).given;
+      uniques = λ key.
+          let low = stands.bounds.0 ∙ began_as.least in
+          wider state.store.least state.store.most (from.bound + 1) to.bound (steps key) (omega (arith, low)) at.bound (stood key).given;
       rises = let kept = stands.bounds.1 in let first = began_as.most in let last = at.bound in omega (arith, kept, first, last);
     }
 
@@ -395,13 +386,9 @@ pub either_true : (a b : Bool) → (a || b) ≡ true → (a ≡ true) ⊎ (b ≡
 either_true true b is = inl refl
 either_true false b is = inr is
 
--- whatever numbers there are, if any
-pub explained_some : (rules : Rules) (sessions : Sessions) (outputs : List (List (List ℕ))) (began : Store) (old new : State) → HaveTheirSessions sessions outputs → StandsSome rules sessions.lasting sessions outputs began old
-    → (r : Result (Option Numbers) NoMemory) → IfOk r (λ found. IfSome found (λ n. (from : Store) → StandsSome rules sessions.lasting sessions outputs from old → EndsAs rules sessions.lasting sessions outputs from new n))
-    → IfOk r (λ found. IfSome found (λ n. (count : ℕ) (records : List Record) → SessionsHold sessions count records → IsExplainedWith (judged rules count records outputs) n.commands n.ended))
-explained_some rules sessions outputs began old new have stands (Ok None) ends = tt
-explained_some rules sessions outputs began old new have stands (Ok (Some n)) ends = λ count records hold.
-    let end = ends began stands in
-    explained_with rules sessions.lasting [] sessions outputs began new end.entries end.stands n have end.numbers count records hold (λ conn session none. others_have_nothing sessions count records hold conn session none)
+-- an order that was followed to its end explains the recording
+pub explained_there : (rules : Rules) (sessions : Sessions) (outputs : List (List (List ℕ))) (began : Store) (state : State) (n : Numbers) → HaveTheirSessions sessions outputs → EndsAs rules sessions.lasting sessions outputs began state n
+    → (count : ℕ) (records : List Record) → SessionsHold sessions count records → IsExplainedWith (judged rules count records outputs) n.commands n.ended
+explained_there rules sessions outputs began state n have end count records hold =
+    explained_with rules sessions.lasting [] sessions outputs began state end.entries end.stands n have end.numbers count records hold (λ conn session none. others_have_nothing sessions count records hold conn session none)
     (λ key may. ⊎_elim (λ forget. inl forget) (λ lasting. inr (inl ((hold.lasting key).0 lasting))) (either_true rules.forget (contains (slice_cmp nat_cmp) sessions.lasting key) may))
-explained_some rules sessions outputs began old new have stands (Err refused) ends = tt

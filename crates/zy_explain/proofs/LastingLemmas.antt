@@ -1,11 +1,15 @@
 -- Keys that are added to a set.
-use Rattle.std.proofs.Common.{◌≡◌, ℕ, Bool, true, false, cond, ◌||◌, List, [], ◌∷◌, Result, Ok, Err, OnOk, refl, sym, ap, ◌∙◌}
+use Rattle.std.proofs.Common.{◌≡◌, ℕ, Bool, true, false, cond, ◌||◌, List, [], ◌∷◌, Result, Ok, Err, OnOk, AllPairs, refl, sym, ap, ◌∙◌, subst}
 use Rattle.std.specs.BTreeMap.{is_at}
-use Rattle.std.specs.BTreeSet.{BTreeSet, contains, Updates}
+use Rattle.std.specs.BTreeSet.{BTreeSet, contains, IsOrdered, Updates}
 use Rattle.std.specs.Cmp.{eq_by_cmp_equiv}
 use Rattle.std.specs.Cmp.Lexicographic.{slice_cmp, nat_list_cmp_total}
+use Rattle.std.specs.List.Sorted.{IsStrictlySortedBy}
 use Rattle.std.specs.Ordering.{nat_cmp}
+use Rattle.std.proofs.lemmas.List.{map-id}
 use Rattle.std.specs.Prelude.{⊤}
+use Rattle.zy_items.specs.Standing.{IsKeyBefore}
+use Rattle.zy_confirm.proofs.GatherLemmas.{rising}
 use Rattle.zy_base.specs.declared.outside.NoMemory.{NoMemory}
 use Rattle.zy_explain.specs.Lasting.{is_among, AddsAll, IsUnion}
 
@@ -31,3 +35,7 @@ both_added old mid new one other none first second key =
 pub union_by : (old mid new one other : BTreeSet (List ℕ)) → old.keys ≡ [] → AddsAll one.keys old mid → (r : Result ⊤ NoMemory) → OnOk r (AddsAll other.keys mid new) → OnOk r (IsUnion one other new)
 union_by old mid new one other none first (Ok done) second = both_added old mid new one other none first second
 union_by old mid new one other none first (Err refused) second = tt
+
+-- the keys of a set rise
+pub keys_rise : (all : BTreeSet (List ℕ)) → IsOrdered (slice_cmp nat_cmp) all → AllPairs IsKeyBefore all.keys
+keys_rise all ordered = rising (λ (key : List ℕ). key) all.keys (subst (IsStrictlySortedBy (slice_cmp nat_cmp)) (sym (map-id all.keys)) ordered)

@@ -4,18 +4,14 @@ use Rattle.std.proofs.Common.{◌≡◌, ℕ, Bool, true, List, Option, None, So
 use Rattle.zy_base.specs.declared.outside.NoMemory.{NoMemory}
 use Rattle.mc_allows.specs.declared.said.Said.{Said}
 use Rattle.mc_answers.specs.Said.{said_calls}
-use Rattle.mc_calls.specs.declared.item.Item.{Item}
 use Rattle.mc_parse.specs.declared.command.Command.{Command}
 use Rattle.mc_parse.specs.declared.command.Command.TheVariants as Commands
 use Rattle.mc_parse.specs.declared.shard_call.ShardCall.{ShardCall}
 use Rattle.mc_parse.specs.Calls.{calls_of, IsOnShard}
 use Rattle.zy_confirm.specs.declared.store.Store.{Store}
-use Rattle.zy_confirm.specs.declared.outcome.After.TheVariants.{Put}
-use Rattle.zy_confirm.specs.Store.{MakesCall, ChangesAt}
+use Rattle.zy_confirm.specs.Store.{MakesCall}
 use Rattle.zy_explain.specs.Making.{IsOnShards, MayHaveLost, CarriesOut}
-use Rattle.zy_explain.specs.Following.{HoldsItsOwn}
 use Rattle.zy_explain.proofs.ShardLemmas.{said_same, on_shards}
-use Rattle.zy_explain.proofs.StateLemmas.{own_more}
 
 module _ (shards part : ℕ) (command : Command) where
   pub said_by : (command ≡ Commands.Stats → ⊥) → (r : Result (Option ShardCall) NoMemory) → IfOk r (λ call. call ≡ slice_get (calls_of shards command) part)
@@ -32,8 +28,3 @@ pub carried_by : (may_lose : List ℕ → Bool) (old middle new : Store) (call :
 carried_by may_lose old middle new call lost (Ok None) makes = tt
 carried_by may_lose old middle new call lost (Ok (Some said)) makes = record { middle = middle; lost = lost; makes = makes }
 carried_by may_lose old middle new call lost (Err refused) makes = tt
-
-pub own_by_put : (old new : Store) (key : List ℕ) (item : Item) → HoldsItsOwn old → (r : Result Bool NoMemory)
-    → IfOk r (λ b. b ≡ true → ChangesAt old new key item.unique (Put item.flags item.value)) → IfOk r (λ b. b ≡ true → HoldsItsOwn new)
-own_by_put old new key item own (Ok b) changes = λ is. own_more old new key item own (changes is)
-own_by_put old new key item own (Err refused) changes = tt

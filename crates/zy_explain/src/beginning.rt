@@ -1,16 +1,16 @@
-//! The items with which a window begins.
+//! The items with which a server began.
 ghost use Rattle.std.specs.Prelude.{◌≡◌, ◌≤◌, true, IfOk, IfSome};
 ghost use Rattle.zy_confirm.specs.declared.outcome.After.TheVariants as Afters;
 ghost use Rattle.zy_confirm.specs.Store.{store_shards, ChangesAt, HoldsNothing};
 ghost use Rattle.zy_explain.specs.Beginning.{HoldsItems, Begins, MayBegin};
-ghost use Rattle.zy_verdict.specs.Between.{standing_of};
+ghost use Rattle.zy_items.specs.Standing.{standing_of};
 
 use crate::rules::Rules;
 use mc_calls::{Item, shard_of};
 use std::alloc::Global;
 use zy_base::NoMemory;
 use zy_confirm::Store;
-use zy_verdict::{KeptItem, Standing};
+use zy_items::{KeptItem, Standing};
 
 /// Makes a store with what a server had, if it may have begun so. The store gives only greater uniques
 /// from here on.
@@ -21,13 +21,34 @@ pub(crate) fn begin_store(
 ) -> Result<Option<Store>, NoMemory>
     requires some { 1 ≤ rules.shards }
     ensures begins { IfOk result (λ found. IfSome found (Begins rules.shards (standing_of from.now))) }
-    ensures may { IfOk result (λ found. IfSome found (λ store. MayBegin rules (standing_of from.now))) }
+    ensures may { IfOk result (λ found. IfSome found (λ store. MayBegin rules from.now.items.items)) }
 {
-    if !rules.warm && !from.items.is_empty() {
+    let Some(store) = store_with(alloc, rules, &from.items)? else {
+        return Ok(None);
+    };
+    let mut store = store;
+    if store.begin_above(from.bound) {
+        return Ok(Some(store));
+    }
+    drop(store);
+    Ok(None)
+}
+
+/// Makes a store with these items, if a server may have begun with them.
+pub(crate) fn store_with(
+    alloc: Global,
+    rules: Rules,
+    items: &[KeptItem],
+) -> Result<Option<Store>, NoMemory>
+    requires some { 1 ≤ rules.shards }
+    ensures holds { IfOk result (λ found. IfSome found (HoldsItems rules.shards items.now)) }
+    ensures may { IfOk result (λ found. IfSome found (λ store. MayBegin rules items.now)) }
+{
+    if !rules.warm && !items.is_empty() {
         return Ok(None);
     }
     let mut store = Store::new(alloc, rules.shards)?;
-    match begin_with(&mut store, rules.shards, from) {
+    match put_items(&mut store, rules.shards, items) {
         Ok(true) => Ok(Some(store)),
         Ok(false) => {
             drop(store);
@@ -38,18 +59,6 @@ pub(crate) fn begin_store(
             Err(refused)
         }
     }
-}
-
-// Puts what a server had into a store. Returns whether its uniques differ, and there are greater ones.
-fn begin_with(store: &mut Store, shards: u32, from: &Standing) -> Result<bool, NoMemory>
-    requires some { 1 ≤ shards }
-    requires empty { HoldsNothing shards store.old }
-    ensures begins { IfOk result (λ done. done ≡ true → Begins shards (standing_of from.now) store.new) }
-{
-    if !put_items(store, shards, &from.items)? {
-        return Ok(false);
-    }
-    Ok(store.begin_above(from.bound))
 }
 
 // Puts items into a store, the last one first. Returns whether their uniques differ.

@@ -1,5 +1,7 @@
 //! The keys whose items may be lost.
 ghost use Rattle.std.specs.Prelude.{◌≡◌, [], ◌∷◌, IfOk, OnOk};
+ghost use Rattle.std.specs.List.{AllPairs};
+ghost use Rattle.zy_items.specs.Standing.{IsKeyBefore};
 ghost use Rattle.zy_explain.specs.Lasting.{AddsAll, IsUnion};
 
 use std::alloc::Global;
@@ -7,21 +9,32 @@ use std::collections::BTreeSet;
 use zy_base::{Blob, NoMemory};
 
 /// Returns the keys of two sets.
-pub(crate) fn union_of(
+pub fn union_of(
     alloc: Global,
     one: &BTreeSet<Blob>,
     other: &BTreeSet<Blob>,
 ) -> Result<BTreeSet<Blob>, NoMemory>
     ensures union { IfOk result (IsUnion one.now other.now) }
+    ensures rises { IfOk result (λ all. AllPairs IsKeyBefore all.keys) }
 {
     let mut all = BTreeSet::new(alloc);
     match add_both(&mut all, one, other) {
-        Ok(()) => Ok(all),
+        Ok(()) => {
+            keys_rise(&all);
+            Ok(all)
+        }
         Err(refused) => {
             drop(all);
             Err(refused)
         }
     }
+}
+
+// The keys of a set rise, as its length says of every set.
+fn keys_rise(keys: &BTreeSet<Blob>)
+    ensures rises { AllPairs IsKeyBefore keys.now.keys }
+{
+    let _ = keys.len();
 }
 
 // Adds the keys of two sets.

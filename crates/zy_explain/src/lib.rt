@@ -6,7 +6,6 @@ mod calling;
 mod carrying;
 mod confirming;
 mod ending;
-mod first;
 mod lasting;
 mod numbers;
 mod over;
@@ -18,7 +17,7 @@ mod track;
 mod window;
 
 pub use confirming::confirm;
-pub use first::{First, Firsts};
+pub use lasting::union_of;
 pub use numbers::Numbers;
 pub use rules::Rules;
 pub use window::{Window, confirm_between};

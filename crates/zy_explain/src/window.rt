@@ -1,16 +1,16 @@
 //! Checking an order of calls against a window of a longer recording.
-ghost use Rattle.std.specs.Prelude.{◌≡◌, ◌≤◌, ℕ, List, IfOk, IfSome};
+ghost use Rattle.std.specs.Prelude.{◌≡◌, ◌≤◌, ℕ, List, All, IfOk, IfSome};
+ghost use Rattle.std.specs.List.{AllPairs};
 ghost use Rattle.zy_capture.specs.declared.record.Record.{Record};
 ghost use Rattle.zy_confirm.specs.Store.{store_shards};
-ghost use Rattle.zy_explain.specs.Between.{StandsAt, EndsFrom};
-ghost use Rattle.zy_explain.specs.Following.{IsFirstStore};
+ghost use Rattle.zy_explain.specs.Between.{HasUniqueUpTo, StandsAt};
 ghost use Rattle.zy_explain.specs.Judged.{judged_after};
+ghost use Rattle.zy_items.specs.Standing.{IsKeyBefore, IsStanding, standing_of};
 ghost use Rattle.zy_sessions.specs.Sessions.{SessionsHold};
-ghost use Rattle.zy_verdict.specs.Between.{standing_of, IsExplainedBetweenWith};
+ghost use Rattle.zy_verdict.specs.Between.{IsExplainedBetweenWith};
 
 use crate::beginning::begin_store;
-use crate::confirming::confirm_from;
-use crate::ending::have_sessions;
+use crate::confirming::{Followed, follow, may_follow};
 use crate::lasting::union_of;
 use crate::numbers::Numbers;
 use crate::rules::Rules;
@@ -19,9 +19,9 @@ use std::alloc::Global;
 use std::collections::BTreeSet;
 use zy_base::{Blob, NoMemory};
 use zy_capture::Outputs;
-use zy_confirm::Store;
+use zy_items::{KeptItem, Standing};
 use zy_sessions::Sessions;
-use zy_verdict::{Order, Standing};
+use zy_verdict::Order;
 
 /// The numbers of an explained window, and what its server has at its end.
 #[derive(Drop)]
@@ -45,8 +45,9 @@ pub fn confirm_between(
         → SessionsHold sessions.now count records
         → IsExplainedBetweenWith (judged_after from.now.lasting.keys rules count records outputs.now.sessions)
         (standing_of from.now) (standing_of w.to) w.numbers.commands w.numbers.ended)) }
+    ensures standing { IfOk result (λ found. IfSome found (λ w. IsStanding (standing_of w.to))) }
 {
-    if rules.shards == 0 || 256 < rules.shards || !have_sessions(sessions, outputs) {
+    if !may_follow(rules, sessions, outputs) {
         return Ok(None);
     }
     let Some(store) = begin_store(alloc, rules, from)? else {
@@ -59,44 +60,16 @@ pub fn confirm_between(
             return Err(refused);
         }
     };
-    follow_from(alloc, rules, lasting, store, sessions, outputs, order)
-}
-
-// Follows an order from a store on, where the items of these keys may be lost.
-fn follow_from(
-    alloc: Global,
-    rules: Rules,
-    lasting: BTreeSet<Blob>,
-    store: Store,
-    sessions: &Sessions,
-    outputs: &Outputs,
-    order: &Order,
-) -> Result<Option<Window>, NoMemory>
-    requires some { 1 ≤ rules.shards }
-    requires limit { rules.shards ≤ 256 }
-    requires first { IsFirstStore rules store }
-    ensures ends { IfOk result (λ found. IfSome found
-        (EndsFrom rules lasting sessions.now outputs.now.sessions store)) }
-{
-    let mut state = match State::new(alloc, store, sessions) {
-        Ok(state) => state,
-        Err(refused) => {
-            drop(lasting);
-            return Err(refused);
-        }
-    };
-    match confirm_from(&mut state, alloc, rules, &lasting, sessions, outputs, order) {
-        Ok(Some(numbers)) => {
+    match follow(alloc, rules, &lasting, store, sessions, outputs, order) {
+        Ok(Some(Followed { numbers, state })) => {
             let to = standing_at(state, lasting)?;
             Ok(Some(Window { numbers, to }))
         }
         Ok(None) => {
-            drop(state);
             drop(lasting);
             Ok(None)
         }
         Err(refused) => {
-            drop(state);
             drop(lasting);
             Err(refused)
         }
@@ -107,20 +80,39 @@ fn follow_from(
 fn standing_at(state: State, lasting: BTreeSet<Blob>) -> Result<Standing, NoMemory>
     requires some { 1 ≤ store_shards state.store }
     requires limit { store_shards state.store ≤ 256 }
+    requires rises { AllPairs IsKeyBefore lasting.keys }
     ensures to { IfOk result (λ to. StandsAt state.store lasting (standing_of to)) }
+    ensures standing { IfOk result (λ to. IsStanding (standing_of to)) }
 {
     let State { store, rows, .. } = state;
     drop(rows);
-    let bound = store.most();
+    let most = store.most();
     match store.into_items() {
-        Ok(items) => Ok(Standing {
-            items,
-            lasting,
-            bound,
-        }),
+        Ok(items) => {
+            let bound = bound_of(&items, most);
+            Ok(Standing {
+                items,
+                lasting,
+                bound,
+            })
+        }
         Err(refused) => {
             drop(lasting);
             Err(refused)
         }
     }
+}
+
+// Returns a number that is not less than another one, nor than the unique of any of these items.
+fn bound_of(items: &[KeptItem], most: u64) -> u64
+    ensures most { most ≤ result }
+    ensures within { All (HasUniqueUpTo result) items.now }
+{
+    let mut bound = most;
+    for kept in items {
+        if bound < kept.item.unique {
+            bound = kept.item.unique;
+        }
+    }
+    bound
 }

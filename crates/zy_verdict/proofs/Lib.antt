@@ -2,3 +2,4 @@ pub mod ListLemmas
 pub mod NameLemmas
 pub mod MomentLemmas
 pub mod CourseLemmas
+pub mod GivenLemmas

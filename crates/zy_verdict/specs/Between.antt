@@ -1,57 +1,23 @@
 -- A recording that is a window of a longer one: what its server has when the window begins, and when it ends.
-use Rattle.std.specs.Prelude.{◌≡◌, ◌⊎◌, ◌↔◌, ℕ, ◌<◌, ◌≤◌, Bool, true, false, if◌then◌else◌, List, [], ◌∷◌, All}
+use Rattle.std.specs.Prelude.{◌≡◌, ◌⊎◌, ◌↔◌, ℕ, ◌+◌, ◌≤◌, Bool, true, false, if◌then◌else◌, List, [], ◌∷◌}
 use Rattle.std.specs.Prelude.{Option, None, Some, ⊤}
-use Rattle.std.specs.List.{AllPairs, Contains}
-use Rattle.std.specs.Ordering.{nat_cmp}
-use Rattle.std.specs.Cmp.Lexicographic.{slice_cmp}
-use Rattle.std.specs.declared.cmp.Ordering.TheVariants.{Less}
+use Rattle.std.specs.List.{Contains}
 use Rattle.mc_allows.specs.Steps.{KeyStep, made, lost, is_same, item_after, unique_stored}
 use Rattle.mc_calls.specs.declared.item.Item.{Item}
-use Rattle.zy_verdict.specs.declared.standing.KeptItem.{KeptItem}
-use Rattle.zy_verdict.specs.declared.standing.Standing.{Standing as Kept}
+use Rattle.zy_items.specs.declared.standing.KeptItem.{KeptItem}
+use Rattle.zy_items.specs.Standing.{Standing}
 use Rattle.zy_verdict.specs.Recorded.{Recorded}
 use Rattle.zy_verdict.specs.Losses.{HasExptime, MayLoseAt}
 use Rattle.zy_verdict.specs.Entries.{MadeCall}
 use Rattle.zy_verdict.specs.Explained.{OutputCuts, IsExplainedBy}
 use Rattle.zy_verdict.specs.Numbers.{number_of_commands, number_ended}
 
--- ---- what a server has
-
--- what a server has at a moment at which no command is in flight
-pub record Standing : Type 0 where
-  -- the keys that have an item, in rising order, and their items
-  pub items : List KeptItem
-  -- the keys to which an exptime other than 0 was given so far, in rising order
-  pub lasting : List (List ℕ)
-  -- no unique that was given so far is greater
-  pub bound : ℕ
-
--- what a value of the program's says that a server has
-abbrev pub standing_of : Kept → Standing
-standing_of kept = record { items = kept.items.items; lasting = kept.lasting.keys; bound = kept.bound }
-
--- a server that has just begun, with no items
-abbrev pub nothing_standing : Standing
-nothing_standing = record { items = []; lasting = []; bound = 0 }
+-- ---- items
 
 -- the item of a key among these
 abbrev pub item_in : List KeptItem → List ℕ → Option Item
 item_in [] key = None
 item_in (kept ∷ items) key = if is_same key kept.key then Some kept.item else item_in items key
-
--- a key comes before another one
-abbrev pub IsKeyBefore : List ℕ → List ℕ → Type 0
-IsKeyBefore key other = slice_cmp nat_cmp key other ≡ Less
-
--- the key of an item comes before that of another one
-abbrev pub IsItemBefore : KeptItem → KeptItem → Type 0
-IsItemBefore one other = IsKeyBefore one.key other.key
-
--- the keys rise, and no item has a greater unique than the bound
-pub record IsStanding (standing : Standing) : Type 0 where
-  pub rises : AllPairs IsItemBefore standing.items
-  pub lasting : AllPairs IsKeyBefore standing.lasting
-  pub within : All (λ (kept : KeptItem). kept.item.unique ≤ standing.bound) standing.items
 
 -- ---- losses
 
@@ -63,17 +29,17 @@ has_loss (lost ∷ steps) = true
 
 -- ---- uniques
 
--- a unique that is given is greater than one number, and not greater than another
-abbrev pub IsGivenWithin : ℕ → ℕ → Option ℕ → Type 0
-IsGivenWithin above most None = ⊤
-IsGivenWithin above most (Some unique) = (above < unique) × (unique ≤ most)
+-- a unique that is given is not less than one number, and not greater than another
+abbrev pub IsGivenFrom : ℕ → ℕ → Option ℕ → Type 0
+IsGivenFrom least most None = ⊤
+IsGivenFrom least most (Some unique) = (least ≤ unique) × (unique ≤ most)
 
 -- so is each unique that these steps give
-abbrev pub AreGivenWithin : ℕ → ℕ → List KeyStep → Type 0
-AreGivenWithin above most [] = ⊤
-AreGivenWithin above most (made name call said after ∷ steps) =
-    IsGivenWithin above most (unique_stored said after) × AreGivenWithin above most steps
-AreGivenWithin above most (lost ∷ steps) = AreGivenWithin above most steps
+abbrev pub AreGivenFrom : ℕ → ℕ → List KeyStep → Type 0
+AreGivenFrom least most [] = ⊤
+AreGivenFrom least most (made name call said after ∷ steps) =
+    IsGivenFrom least most (unique_stored said after) × AreGivenFrom least most steps
+AreGivenFrom least most (lost ∷ steps) = AreGivenFrom least most steps
 
 -- ---- windows
 
@@ -89,7 +55,7 @@ pub record LeadsBetween (r : Recorded) (cuts : OutputCuts) (entries : List MadeC
   -- the keys to which an exptime other than 0 was given so far
   pub lasts : (key : List ℕ) → (Contains to.lasting key ↔ (Contains from.lasting key ⊎ HasExptime r key))
   -- each unique is given above those that were given before
-  pub uniques : (key : List ℕ) → AreGivenWithin from.bound to.bound (explained.steps key)
+  pub uniques : (key : List ℕ) → AreGivenFrom (from.bound + 1) to.bound (explained.steps key)
   pub rises : from.bound ≤ to.bound
 
 -- some entries explain the recording, from what its server has at first to what it has at last

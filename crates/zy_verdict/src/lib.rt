@@ -3,8 +3,6 @@
 
 mod laws;
 mod order;
-mod standing;
 
 pub use laws::{an_explained_recording_has_courses, before_is_kept};
 pub use order::{Choice, Order, Placement};
-pub use standing::{KeptItem, Standing};

@@ -17,11 +17,12 @@ use crate::finding::{Finding, Open, Reason};
 use crate::naming::{command_number, first_other, name_of};
 use crate::refuting::refute;
 use std::alloc::Global;
-use zy_base::{Items, NoMemory, Source};
+use zy_base::{NoMemory, Source};
 use zy_capture::Outputs;
-use zy_explain::{First, Numbers, Rules, confirm};
+use zy_explain::{Numbers, Rules, confirm};
 use zy_find::{Began, Found};
 use zy_input::{Noted, NotedRecording, Stop, read_recording};
+use zy_items::KeptItem;
 use zy_outputs::{Observing, observe};
 use zy_refute::Observed;
 use zy_sessions::Sessions;
@@ -133,9 +134,8 @@ fn confirmed(
 {
     let mut firsts = Vec::new(alloc);
     for Began { key, item } in began {
-        firsts.push(First { key, item })?;
+        firsts.push(KeptItem { key, item })?;
     }
-    let firsts = Items::from_vec(firsts);
     let numbers = confirm(alloc, rules, sessions, outputs, &firsts, order);
     drop(firsts);
     numbers

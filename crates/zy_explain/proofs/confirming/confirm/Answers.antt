@@ -1,17 +1,17 @@
 use Rattle.std.proofs.Common.{◌≡◌, true, Option, IfSome, subst, arith}
 use Rattle.zy_confirm.specs.declared.store.Store.{Store}
-use Rattle.zy_explain.specs.Following.{IsFirstStore}
-use Rattle.zy_explain.proofs.EndLemmas.{explained_some}
+use Rattle.zy_explain.specs.declared.confirming.Followed.{Followed}
+use Rattle.zy_explain.specs.Ending.{EndsAs}
+use Rattle.zy_explain.proofs.EndLemmas.{explained_there}
 use Rattle.zy_explain.proofs.confirming.confirm.Goals as goal
 
-pub returns : goal.returns
-returns c =
+pub returns-in-Some-2 : goal.returns-in-Some-2
+returns-in-Some-2 c =
     let rules = c.args.rules in
     let sessions = c.args.sessions.now in
     let outputs = c.args.outputs.now.sessions in
-    let is : c.have_sessions.result ≡ true = let f = c.if-not-have_sessions.false in grind (arith, f) in
-    let first = subst (λ (f : Option Store). IfSome f (IsFirstStore rules)) c.in-Some.is c.in_ok-store.ensures.first in
+    let is : c.may_follow.result ≡ true = let f = c.if-not-may_follow.false in grind (arith, f) in
+    let ends = subst (λ (f : Option Followed). IfSome f (λ e. EndsAs rules sessions.lasting sessions outputs c.in-Some.store e.state e.numbers)) c.in-Some-2.is c.in_ok-numbers.ensures.ends in
     record {
-      explained = explained_some rules sessions outputs c.in-Some.store c.in_ok-state.state c.confirm_from-numbers.new.state (c.have_sessions.ensures.have is)
-          (c.in_ok-state.ensures.none rules sessions.lasting outputs first) c.confirm_from-numbers.result c.confirm_from-numbers.ensures.ends;
+      explained = λ count records hold. explained_there rules sessions outputs c.in-Some.store c.in-Some-2.field-0.state c.in-Some-2.field-0.numbers (c.may_follow.ensures.have is) ends count records hold;
     }

@@ -2,7 +2,7 @@ use Rattle.std.proofs.Common.{◌≡◌}
 use Rattle.zy_confirm.specs.declared.store.Store.{Store}
 use Rattle.zy_confirm.specs.Store.{store_shards}
 use Rattle.zy_explain.specs.Following.{StandsSome}
-use Rattle.zy_explain.proofs.confirming.confirm_from.Given as goal
+use Rattle.zy_explain.proofs.confirming.follow_order.Given as goal
 
 abbrev pub invariant-loop-placement : goal.invariant-loop-placement
 invariant-loop-placement l = record {

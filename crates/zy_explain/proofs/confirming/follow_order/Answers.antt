@@ -1,6 +1,6 @@
 use Rattle.std.proofs.Common.{◌≡◌, true, arith}
 use Rattle.zy_explain.proofs.EndLemmas.{ends_by}
-use Rattle.zy_explain.proofs.confirming.confirm_from.Goals as goal
+use Rattle.zy_explain.proofs.confirming.follow_order.Goals as goal
 
 pub returns : goal.returns
 returns c =
