@@ -19,6 +19,7 @@ NO_CAPTURE = {kinds.REPLIES: "the capture comes first", kinds.JOURNAL: "a captur
               kinds.ITEMS: "a capture is read here", **TEXT}
 NO_REPLIES = {kinds.CAPTURE: "the replies file comes second", kinds.JOURNAL: "replies are read here",
               kinds.ITEMS: "replies are read here"}
+NO_ITEMS = {kind: "items are read here" for kind in (kinds.CAPTURE, kinds.REPLIES, kinds.JOURNAL)}
 
 
 class Reads(Protocol):
@@ -52,6 +53,11 @@ def read(name: str, is_wanted: Callable[[bytes], bool] = lambda head: True) -> b
     more = pieces(name)
     head = beginning(more)
     return b"".join([head, *iter(functools.partial(more, PIECE), b"")]) if is_wanted(head) else head
+
+
+def pieces_of(name: str) -> Iterator[bytes]:
+    """The bytes of an input, piece by piece."""
+    return iter(functools.partial(pieces(name), PIECE), b"")
 
 
 def beginning(more: Callable[[int], bytes], head: bytes = b"") -> bytes:
@@ -118,6 +124,13 @@ def capture_alone(name: str) -> bytes:
         after = f"a {what} begins" if what else "bytes follow the end of the capture"
         raise Fault(f"{name_of(name)}: {after} at byte {part.place}; a capture is read alone")
     return b"".join(gathered)
+
+
+def check_items(name: str) -> None:
+    """Reads an input that is one items file to its end, for its faults."""
+    for part in parts(name, NO_ITEMS):
+        if part.name != "items":
+            raise part.fault("items are read here")
 
 
 def outputs_in(name: str, hint: str = "", capture_hint: str = "", second_hint: str = "",

@@ -22,5 +22,8 @@
 | `certificate` | the capture, the journal and the replies that `linear` and `zygos check` take, with what is translated |
 | `judge` | all this, one after the other |
 | `asking` | asks the proved program `judge` before that |
-| `windows` | judges the windows of a recording, and keeps what was found |
+| `windows` | judges the windows of a recording, each by itself, and says one verdict |
+| `processes`, `keeping` | judges windows side by side; keeps what was found of them |
+| `chain` | joins windows: asks the proved program about each, from the items that the one before it left |
+| `firsts` | the items that a window shows at first; a copy of a window that asks for them at its end |
 """

@@ -6,22 +6,24 @@ and the search goes on as if there were no such program.
 """
 from __future__ import annotations
 
+import functools
+import itertools
 import os
 import re
 import subprocess
 import tempfile
-from collections.abc import Iterable
-from typing import NamedTuple
+from collections.abc import Callable, Iterable
+from typing import IO, NamedTuple
 
-from zygos_tools.files.formats import Segment, capture_head, capture_records, shown
-from zygos_tools.files.part import Part
+from zygos_tools.files.formats import ITEMS_START, Segment, capture_head, capture_records, shown
+from zygos_tools.files.part import PIECE, Part
 from zygos_tools.judging.events import Asked, No
 from zygos_tools.judging.reading import Recording
 from zygos_tools.judging.translating import Translation
 from zygos_tools.repository import TOP
 
 # the lines of the program, and the status that each has
-LINES = {0: re.compile(r"yes commands (?P<commands>\d+) ended \d+"),
+LINES = {0: re.compile(r"yes commands (?P<commands>\d+) ended (?P<ended>\d+)"),
          1: re.compile(r"no (?P<rule>early-end) record (?P<record>\d+)"
                        r"|no (?P<of_session>surplus) connection (?P<connection>\d+) session (?P<session>\d+)"
                        r"|no (?P<of_command>kind|unmet|shared) connection (?P<where>\d+) command (?P<command>\d+)"
@@ -32,11 +34,20 @@ RULES = {"kind": "what was answered is no answer to it",
          "unmet": "no command can have made in time what it was answered",
          "shared": "fewer commands can have made in time what it and others were answered than these took away"}
 
+# how many bytes its line has, at most
+MOST_LINE = 4096
+
 
 def has_marks(capture: bytes) -> bool:
     """Whether a capture has ends of answers."""
     part = Part("capture", capture)
     return any(isinstance(one, Segment) and not one.text for one in capture_records(part, *capture_head(part)))
+
+
+def has_records(capture: bytes) -> bool:
+    """Whether a capture has records."""
+    part = Part("capture", capture)
+    return next(iter(capture_records(part, *capture_head(part))), None) is not None
 
 
 class Answer(NamedTuple):
@@ -70,6 +81,10 @@ class Answer(NamedTuple):
     def commands(self) -> int:
         """How many commands an order has that was found."""
         return int(self.found["commands"])
+
+    def ended(self) -> int:
+        """How many of these have a recorded end."""
+        return int(self.found["ended"])
 
     def keys(self, recording: Recording) -> list[bytes]:
         """The key that a `no` is about, if it is about one."""
@@ -111,19 +126,42 @@ def is_there(zygos: str) -> bool:
     return ran.returncode == 0
 
 
-def ask(zygos: str, words: list[str], pieces: Iterable[bytes], seconds: float) -> Answer | None:
-    """The program's answer to a capture and a replies file, one after the other; None if there is none in time."""
+def ask(zygos: str, words: list[str], pieces: Iterable[bytes], seconds: float,
+        keep: Callable[[Iterable[bytes]], object] | None = None) -> Answer | None:
+    """The program's answer to a capture and a replies file, one after the other, and with `--from` an items file between
+    them; None if there is none in time. After a `yes` with `--to`, `keep` is given the items file that it writes."""
+    said = run(zygos, words, pieces, seconds)
+    if said is None:
+        return None
+    with said[1] as text:
+        answer = read_answer(said[0], text.readline(MOST_LINE))
+        if answer and answer.word == "yes" and keep:
+            head = text.read(len(ITEMS_START))
+            if head != ITEMS_START:
+                return None
+            keep(itertools.chain([head], iter(functools.partial(text.read, PIECE), b"")))
+        return None if text.read(1) else answer
+
+
+def run(zygos: str, words: list[str], pieces: Iterable[bytes], seconds: float) -> tuple[int, IO[bytes]] | None:
+    """The status of the program and what it writes; None if it cannot be run, or does not end in time."""
     environment = {name: value for name, value in os.environ.items() if name != "ZYGOS_ADVICE"}
     try:
         if not is_there(zygos):
             return None
+        said = tempfile.TemporaryFile()
         with tempfile.TemporaryFile() as given:
             given.writelines(pieces)
             given.seek(0)
-            ran = subprocess.run([zygos, "judge", *words], stdin=given, stdout=subprocess.PIPE, stderr=subprocess.DEVNULL,
+            ran = subprocess.run([zygos, "judge", *words], stdin=given, stdout=said, stderr=subprocess.DEVNULL,
                                  check=False, timeout=seconds, env=environment)
     except (OSError, subprocess.TimeoutExpired):
         return None
-    line = ran.stdout.decode("ascii", "replace").removesuffix("\n")
-    found = LINES[ran.returncode].fullmatch(line) if ran.returncode in LINES else None
-    return Answer(line, found) if found else None
+    said.seek(0)
+    return ran.returncode, said
+
+
+def read_answer(status: int, text: bytes) -> Answer | None:
+    """What a line of the program says, if it is one that it ends with this status."""
+    found = LINES[status].fullmatch(text.decode("ascii", "replace").removesuffix("\n")) if status in LINES else None
+    return Answer(found[0], found) if found else None

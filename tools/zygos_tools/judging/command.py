@@ -2,7 +2,7 @@
 
 usage: tools/judge [--check] [--out FILES] [--order FILE] [--over] [--shards N] [--times KIND] [--warm] [--may-forget]
                    [--keys GLOBS] [--except-keys GLOBS] [--first] [--json] [--seconds N] [--states N] [--processes N]
-                   CAPTURE REPLIES
+                   [--from ITEMS] [--to ITEMS] CAPTURE REPLIES
        tools/judge --windows FOLDER [options]
 
     tools/judge --check examples/shared.cap examples/shared.replies
@@ -28,14 +28,14 @@ CAPTURE, REPLIES  what clients sent and what the server answered, best as `tools
               a part is used to fit keys to each other)
 --states N    gives up on a key after N of its states (if left out, 200,000)
 --processes N  searches keys in N processes (if left out, as many as there are processors that are not busy)
---windows FOLDER  judges the windows of `tools/record --every`, N at a time, all but the first with --warm, and keeps
-              in FOLDER/NAME.judged what it finds, so that a later run judges only what is new
+--from ITEMS, --to ITEMS  items files: what the server had before, and where what it has at the end is written
+--windows FOLDER  judges the windows of `tools/record --every`, N at a time by themselves, and then each from the items
+              that the one before it left. It keeps in FOLDER what it finds: a later run judges only what is new
 
 The first line is `order found, by search: ..`, and a second one says what is translated; `no: ..`, with a few commands
-that no order explains; or `unknown: ..`, with the reason. Then follow how many keys have an order, and a line for each
-that has none. The status is 0 for an order, 1 for `no` and nothing else, and 7 for `unknown`. After an order, with
---check, the checker says `yes`. Other statuses: 2 a wrong option, 3 an error in a file, 4 a failed read, 5 a failed
-write, 6 too little memory. docs/JUDGE.md says what `yes` means, and what it does not.
+that no order explains; or `unknown: ..`. Then come the numbers of keys. The status is 0 for an order, 1 for `no` and
+nothing else, and 7 for `unknown`. After an order, with --check, the checker says `yes`. Other statuses: 2 a wrong
+option, 3 an error in a file, 4 a failed read, 5 a failed write, 6 too little memory. docs/JUDGE.md says more.
 
 If all keys are judged, no files are written, and ends of answers are known or --times none is given, the proved program
 `./zygos judge` is asked first, if it is there. After its `yes` nothing is searched, and the first line is `order
@@ -48,6 +48,7 @@ from __future__ import annotations
 import contextlib
 import gc
 import io
+import itertools
 import json
 import os
 import re
@@ -63,7 +64,7 @@ from typing import IO, Any
 from zygos_tools.cli import ends
 from zygos_tools.cli.screen import Screen, as_called
 from zygos_tools.files.formats import Output, shown
-from zygos_tools.files.inputs import capture_alone, outputs_in
+from zygos_tools.files.inputs import capture_alone, check_items, outputs_in, pieces_of
 from zygos_tools.files.outputs import Beside, refuse_full, told_apart
 from zygos_tools.files.part import Fault
 from zygos_tools.judging import asking, sharing, windows
@@ -78,6 +79,8 @@ from zygos_tools.judging.trusting import is_doubtful
 from zygos_tools.protocol.order_files import connections_of, digest, order_text
 from zygos_tools.repository import TOP
 
+# options that are not for what the proved program alone judges
+SEARCHING = ("--out", "--order", "--keys", "--except-keys", "--first")
 # beside the folder that the tool was called in, which may be a link to the repository's
 BESIDE = os.path.join(os.path.dirname(os.path.dirname(os.path.abspath(sys.argv[0]))), "zygos")
 ZYGOS = BESIDE if os.path.exists(BESIDE) else os.path.join(TOP, "zygos")
@@ -90,6 +93,7 @@ NOT_CLOSED = "commands name keys that are left out too, so no checker is asked"
 NOT_CERTIFIED = "not certified: --check asks the proved program, and --out FILES keeps the files for it"
 BY_PROGRAM = "order found, by the proved program, on the bytes as they were recorded"
 OF_TRANSLATED = "order found, by the proved program, on the bytes as they are translated"
+BETWEEN = "only the proved program takes items, and it "
 NO_CHECKER = "the proved program that certifies an order has no verdict"
 REFUSED = "the proved program refuses this order, so there is no verdict; please report it, with the recording"
 # how much processor time the search has
@@ -109,7 +113,7 @@ OPTIONS: dict[str, ends.Option | None] = {
            "--shards": ends.number(1, 256),
            "--times": ("ends, segments or none", lambda word: word if word in (ENDS, SEGMENTS, NONE) else None),
            "--warm": None, "--may-forget": None, "--keys": GLOBS, "--except-keys": GLOBS, "--first": None,
-           "--json": None,
+           "--json": None, "--from": ends.FILE, "--to": ends.OUTPUT,
            "--seconds": ends.number(1), "--states": ends.number(1), "--processes": ends.number(1, 64),
            "--windows": ("a folder", lambda word: word or None)}
 
@@ -145,13 +149,17 @@ class Explained(Exception):
     """The proved program knows an order."""
 
 
+class Unsearched(Exception):
+    """All was asked, and nothing is to be searched."""
+
+
 class Judging:
     """A recording that is judged by the words of the command."""
 
     def __init__(self, names: list[str], given: dict[str, Any]):
         self.names, self.given, self.screen, self.begun = names, given, Screen(), time.monotonic()
-        self.is_json = "--json" in given
-        is_silent = not {"--check", "--out", "--order", "--json"} & set(given)
+        self.is_json, self.is_between = "--json" in given, bool({"--from", "--to", "unsearched"} & set(given))
+        is_silent = not {"--check", "--out", "--order", "--json", "--from", "--to"} & set(given)
         self.at_terminal = is_silent and os.isatty(1)
         self.to_output = is_silent and not self.at_terminal
         self.is_read = False
@@ -160,8 +168,9 @@ class Judging:
         self.checked = self.recording = ""
         # what the proved program `judge` said, if it was asked and answered
         self.answer: asking.Answer | None = None
-        # the recording as it was translated for that, if it was
+        # the recording as it was translated for that, if it was, and as it was read, if nothing is searched
         self.translation: Translation | None = None
+        self.read: Recording | None = None
         self.clock = Clock(given.get("--seconds", SECONDS), self.screen.ticker(), "--seconds" in given)
 
     def say(self, line: str) -> None:
@@ -186,6 +195,7 @@ class Judging:
             self.say(OF_TRANSLATED if self.translation else BY_PROGRAM)
             self.say_translated()
             self.say(self.checked)
+            self.say_items()
         elif not self.accept():
             word = "unknown"
         if self.is_json:
@@ -215,6 +225,8 @@ class Judging:
         self.is_read = True
         may_ask = self.ask([capture, *kept])
         kept.clear()
+        if self.is_between:
+            return self.unexplained(capture, replies, may_ask)
         commands, megabytes = expected_memory(capture, replies)
         if megabytes > MUCH:
             self.screen.say(f"about {commands:,} commands, for which about {megabytes:,} MB of memory are needed")
@@ -239,6 +251,30 @@ class Judging:
             self.certificate = judge.certificate()
         return []
 
+    def unexplained(self, capture: bytes, replies: list[Output], may_ask: bool) -> list[Verdict]:
+        """What is said if the program found no order from the items that are given. It is asked about the translated
+        recording too, and nothing is searched: the search knows no items but those that answers imply."""
+        given = self.given
+
+        def ask(recording: Recording) -> None:
+            self.read = recording
+            self.ask_translated(recording)
+            raise Unsearched
+
+        try:
+            judge = Judge(capture, replies, given.get("--shards", 16), given.get("--times"), "--warm" in given,
+                          "--may-forget" in given, clock=self.clock, asks=ask)
+            if judge.faults and not self.is_told("no"):
+                return judge.faults
+        except Unsearched:
+            pass
+        if "--from" in given:
+            self.is_read = False
+            check_items(given["--from"])
+            self.is_read = True
+        said = f"says: {self.answer.line}" if self.answer else "gives no answer" if may_ask else "is not asked"
+        return [] if self.is_told("no") else [Unknown(BETWEEN + said)]
+
     # ---- the proved program
 
     def may_ask(self) -> bool:
@@ -250,9 +286,10 @@ class Judging:
         """Asks the proved program about the bytes of a capture and a replies file, if it may say something of them.
         Gives whether it says something, which is no order."""
         has_marks = self.may_ask() and asking.has_marks(recorded[0])
-        if not self.may_ask() or self.given.get("--times") != NONE and not has_marks:
+        is_empty = self.is_between and not asking.has_records(recorded[0])
+        if not self.may_ask() or self.given.get("--times") != NONE and not has_marks and not is_empty:
             return False
-        return self.ask_of(recorded, has_marks) is not None
+        return self.ask_of(lambda items: itertools.chain(recorded[:1], items, recorded[1:]), has_marks) is not None
 
     def ask_translated(self, recording: Recording) -> None:
         """Asks about what the recording is translated to, if that is another one, and if there is no verdict yet."""
@@ -262,16 +299,15 @@ class Judging:
         translation = Translation(recording, "--may-forget" in self.given)
         if not (translation.frames or translation.counts) or not translation.is_whole():
             return
-        self.ask_of(translation.pieces(), bool(recording.marks), translation)
+        self.ask_of(translation.pieces, bool(recording.marks), translation)
 
-    def ask_of(self, pieces: Iterable[bytes], has_marks: bool,
+    def ask_of(self, pieces: Callable[[Iterable[bytes]], Iterable[bytes]], has_marks: bool,
                translation: Translation | None = None) -> asking.Answer | None:
-        """Asks about these bytes, and keeps a verdict, which is raised if it is an order. Gives the program's answer."""
-        words = [word for word in ("--warm", "--may-forget") if word in self.given]
+        """Asks about these bytes, which have an items file in their midst, and keeps a verdict, which is raised if it is an
+        order. Gives the program's answer."""
         self.screen.show("asking the proved program")
-        answer = asking.ask(ZYGOS, [*words, "--shards", str(self.given.get("--shards", 16))], pieces,
-                            self.given.get("--seconds", SECONDS))
-        if answer is None or answer.word == "yes" and not answer.commands():
+        answer = self.answered(pieces)
+        if answer is None or answer.word == "yes" and not answer.commands() and not self.is_between:
             return None
         # it takes marks into account, so that only its `yes` holds also without them
         if answer.word == "yes" or self.given.get("--times") != NONE or not has_marks:
@@ -281,6 +317,21 @@ class Judging:
             if answer.word == "yes":
                 raise Explained
         return answer
+
+    def answered(self, pieces: Callable[[Iterable[bytes]], Iterable[bytes]]) -> asking.Answer | None:
+        """The program's answer to these bytes. After a `yes` the items that are left are in their file."""
+        given = self.given
+        words = [word for word in ("--warm", "--may-forget", "--from", "--to") if word in given]
+        words += ["--shards", str(given.get("--shards", 16))]
+        seconds = given.get("--seconds", SECONDS)
+        text = pieces(pieces_of(given["--from"]) if "--from" in given else ())
+        if "--to" not in given:
+            return asking.ask(ZYGOS, words, text, seconds)
+        with Beside(given["--to"], "--over" in given) as left:
+            answer = asking.ask(ZYGOS, words, text, seconds, left.write)
+            if answer is None or answer.word != "yes":
+                left.take_back()
+            return answer
 
     def doubt(self, recording: Recording) -> None:
         """Passes over a `no` of the program, if a right server may have given these answers."""
@@ -294,7 +345,7 @@ class Judging:
     def refuted(self) -> No:
         """The `no` of the proved program, for which the search has no commands."""
         assert self.answer
-        return self.answer.fault(self.judge.recording if self.judge else None)
+        return self.answer.fault(self.judge.recording if self.judge else self.read)
 
     def headed(self, fault: Verdict) -> list[str]:
         """What is said of the first fault: if the proved program was asked, whether a `no` is proved."""
@@ -308,6 +359,13 @@ class Judging:
         """Says what the proved program was given in place of what was recorded."""
         if self.translation:
             self.say(f"translated: {counts_in(self.translation.counts)}")
+
+    def say_items(self) -> None:
+        """Says between which items the order leads."""
+        some = [f"{word} {self.given[option]}" for option, word in (("--from", "from the items of"),
+                                                                    ("--to", "to the items of")) if option in self.given]
+        if some:
+            self.say(" ".join(some))
 
     # ---- what is found
 
@@ -426,9 +484,10 @@ class Judging:
         if self.answer and self.is_told("yes"):
             # it prints no others
             counts.update(commands=self.answer.commands(), calls=None, keys=None, ordered=None)
+            counts.update({"ended": self.answer.ended()} if self.is_between else {})
         line = {"verdict": word, "proved": is_proved, **counts,
                 "translated": {name: count for name, count in sorted(found.items()) if count},
-                "checked": self.checked or None,
+                "checked": self.checked or None, **({"answered": self.answer is not None} if self.is_between else {}),
                 "faults": [{"verdict": fault.word, "keys": [shown(key) for key in fault.keys], "why": fault.why,
                             "connections": fault.connections, "record": fault.record}
                            for fault in faults[:MOST_FAULTS]],
@@ -436,10 +495,12 @@ class Judging:
         print(json.dumps(line))
 
     def make_sure(self) -> None:
-        """Sees that the files can be written."""
-        written = [self.given[option] for option in ("--out", "--order") if option in self.given]
+        """Sees that the items can be read, and that the files can be written."""
+        if "--from" in self.given:
+            os.close(os.open(self.given["--from"], os.O_RDONLY))
+        written = [self.given[option] for option in ("--out", "--order", "--to") if option in self.given]
         self.is_read = True
-        told_apart(written, self.names)
+        told_apart(written, [*self.names, *([self.given["--from"]] if "--from" in self.given else ())])
         for name in () if "--over" in self.given else written:
             refuse_full(name)
         self.is_read = False
@@ -483,12 +544,24 @@ def judge_windows(given: dict[str, Any], names: list[str]) -> int:
     return windows.Judging(given, line_of, ZYGOS).run()
 
 
+def refuse_between(given: dict[str, Any]) -> None:
+    """Refuses words that do not fit items that are known."""
+    if "--warm" in given:
+        ends.stop("--warm says that there were any items, and --from and --to are for those that are known", 2)
+    other = next((option for option in SEARCHING if option in given), None)
+    other = other or ("--times segments" if given.get("--times") == SEGMENTS else None)
+    if other:
+        ends.stop(f"only the proved program takes items, and nothing is searched: --from and --to take no {other}", 2)
+
+
 def main(words: list[str]) -> None:
     """Judges a recording, or its windows."""
     ends.tell_failures_apart()
     given, names = ends.options(words, OPTIONS)
     if "--windows" in given:
         ends.end(judge_windows(given, names))
+    if {"--from", "--to"} & set(given):
+        refuse_between(given)
     if len(names) != 2 or names.count("-") > 1:
         ends.stop("judge takes [options] CAPTURE REPLIES; --help has the options", 2)
     gc.disable()  # what is read stays to the end

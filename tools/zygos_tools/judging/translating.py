@@ -13,7 +13,7 @@ from __future__ import annotations
 
 from array import array
 from collections import Counter
-from collections.abc import Iterator
+from collections.abc import Iterable, Iterator
 
 from zygos_tools.files.formats import END, capture_start, output_start, replies_start
 from zygos_tools.judging.events import ADD, CAS, REPLACE, SET
@@ -127,8 +127,8 @@ class Translation:
         ends = (table.answer_at[one] + table.answer_size[one] for one in asked if table.state[one] & ANSWERED)
         return b"" if session in self.recording.surplus else text[max(ends, default=0) :]
 
-    def pieces(self) -> Iterator[bytes]:
-        """The capture and the replies file."""
+    def pieces(self, between: Iterable[bytes] = ()) -> Iterator[bytes]:
+        """The capture and the replies file, and what comes between them."""
         recording, table = self.recording, self.table
         yield capture_start(recording.count, recording.version)
         for place, text in rewritten(recording, self.frames, self.answers):
@@ -136,6 +136,7 @@ class Translation:
                 self.places.append(place)
             yield text
         yield END
+        yield from between
         version = 2 if any(recording.sessions.values()) else recording.version
         yield replies_start(version)
         for session, asked in sessions_of(recording):

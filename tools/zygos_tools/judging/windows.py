@@ -1,34 +1,37 @@
-"""Judges the windows of a recording, several at a time, each in a process of its own, and says one verdict.
+"""Judges the windows of a recording, and says one verdict: first several at a time, each by itself, and then each from the
+items that the one before it left (see `chain`).
 
 What is found of a window is kept in a file beside the windows, with the sums of the window's files and of what judges,
-so that a later run judges only what is new. A process has no more in memory than its window.
+so that a later run judges only what is new.
 """
 from __future__ import annotations
 
-import fcntl
-import hashlib
 import json
 import os
 import re
-import selectors
-import signal
 import time
 from collections import Counter
-from collections.abc import Callable, Iterable, Iterator
-from typing import IO, Any, NamedTuple, Optional
+from typing import Any, Optional
 
 from zygos_tools.cli import ends
 from zygos_tools.cli.screen import Screen
 from zygos_tools.judging import asking, sharing
+from zygos_tools.judging.chain import Break, Chain
 from zygos_tools.judging.events import counted
 from zygos_tools.judging.judge import NOTHING
+from zygos_tools.judging.keeping import Found, Kept, Window, sum_of_judge
+from zygos_tools.judging.processes import JudgeOne, Processes
+from zygos_tools.judging.times import SEGMENTS
 from zygos_tools.recording.windows import DIGITS, window_name
-from zygos_tools.repository import TOP, matching
 
 CAPTURE, REPLIES, KEPT = ".cap", ".replies", ".judged"
 WINDOW = re.compile(rf"(?P<stem>.+)\.(?P<number>[0-9]{{{DIGITS},}})"
                     rf"(?P<ending>{re.escape(CAPTURE)}|{re.escape(REPLIES)})")
 APART = "the windows were judged one by one: nothing says whether each began with the items that the one before it left"
+# why they are not joined
+CHOSEN = "the proved program, which joins windows, judges all keys"
+ASSUMED = "the proved program, which joins windows, takes no --times segments"
+LACKING = "the proved program, which joins windows, cannot be run"
 BUSY = "another tools/judge judges these windows"
 ENDED = "the process that judged it has ended"
 FOUND = "order found"
@@ -36,26 +39,9 @@ FOUND = "order found"
 NO_KEY = "no key "
 STATUS = {FOUND: 0, "no": 1, "unknown": 7}
 # options that are for one recording
-ALONE = ("--out", "--order", "--over")
+ALONE = ("--out", "--order", "--over", "--from", "--to")
 # how many windows without an order are named
 MOST_FAULTS = 100
-PIECE = 1 << 20
-
-# judges a recording by the words of the command, and gives the line of --json
-JudgeOne = Callable[[list[str], dict[str, Any]], str]
-Found = dict[str, Any]
-
-
-class Window(NamedTuple):
-    """A window: its number and its files."""
-
-    number: int
-    capture: str
-    replies: str
-
-    def is_there(self) -> bool:
-        """Whether it is whole: the capture comes last."""
-        return os.path.isfile(self.capture) and os.path.isfile(self.replies)
 
 
 def windows_in(folder: str) -> tuple[str, list[Window]]:
@@ -72,173 +58,6 @@ def windows_in(folder: str) -> tuple[str, list[Window]]:
     name = os.path.join(folder, stems[0])
     return name, [Window(number, window_name(name + CAPTURE, number), window_name(name + REPLIES, number))
                   for number in range(min(numbers), max(numbers) + 1)]
-
-
-# ---- sums
-
-
-def sum_of(paths: Iterable[str]) -> str:
-    """The sum of the bytes of files, one after the other."""
-    found = hashlib.sha256()
-    for path in paths:
-        with open(path, "rb") as file:
-            while piece := file.read(PIECE):
-                found.update(piece)
-    return found.hexdigest()
-
-
-def sum_of_judge(zygos: str) -> str:
-    """The sum of what judges: the proved program and these tools."""
-    top = os.path.dirname(os.path.realpath(zygos))
-    programs = [os.path.join(top, path) for path in ("crates/judge/out/judge", "bin/judge")]
-    tools = [os.path.join(TOP, "tools", path) for path in matching("zygos_tools/**/*.py", os.path.join(TOP, "tools"))]
-    return sum_of([zygos, *(path for path in programs if os.path.isfile(path)), *tools])
-
-
-def state_of(path: str) -> list[int]:
-    """What changes if a file is written: its size, its time and its inode."""
-    found = os.stat(path)
-    return [found.st_size, found.st_mtime_ns, found.st_ino]
-
-
-# ---- what was found before
-
-
-class Kept:
-    """What was found of windows, in a file that only one tool has at a time."""
-
-    def __init__(self, name: str, judge: str, words: dict[str, Any]):
-        self.judge, self.words = judge, {word: words[word] for word in sorted(words)}
-        self.file = open(name, "a+", encoding="utf-8")
-        # the last line about each window that was judged so, and the sums of files by their names and states
-        self.lines: dict[int, Found] = {}
-        self.sums: dict[tuple[str, tuple[int, ...]], str] = {}
-
-    def lock(self) -> bool:
-        """Takes the file, and reads it. Gives whether no other tool has it."""
-        try:
-            fcntl.flock(self.file, fcntl.LOCK_EX | fcntl.LOCK_NB)
-        except BlockingIOError:
-            return False
-        self.file.seek(0)
-        text = self.file.read()
-        for line in text.split("\n"):
-            self.take(line)
-        if text and not text.endswith("\n"):
-            self.file.write("\n")
-        return True
-
-    def take(self, text: str) -> None:
-        """Takes a line, unless it was cut short or is of another tool."""
-        try:
-            line = json.loads(text)
-            for name, state, found in line["files"]:
-                self.sums[name, tuple(state)] = found
-            if line["judge"] == self.judge and line["words"] == self.words:
-                self.lines[line["window"]] = line
-        except (ValueError, TypeError, KeyError):
-            return
-
-    def files_of(self, window: Window) -> list[list[Any]]:
-        """Of each file of a window its name, its state and its sum. A file that did not change is not read again."""
-        found = []
-        for path in (window.capture, window.replies):
-            name, state = os.path.basename(path), state_of(path)
-            known = self.sums.get((name, tuple(state)))
-            found.append([name, state, known or sum_of([path])])
-        return found
-
-    def known(self, window: Window, words: dict[str, Any]) -> Optional[Found]:
-        """What was found of a window with these words, if its files have the same sums."""
-        line = self.lines.get(window.number)
-        if line is None or line["own"] != sorted(words):
-            return None
-        sums = [found[2] for found in self.files_of(window)]
-        return line["found"] if sums == [found[2] for found in line["files"]] else None
-
-    def keep(self, window: Window, words: dict[str, Any], found: Found, files: list[list[Any]]) -> None:
-        """Keeps what was found of a window with these files."""
-        line = {"window": window.number, "files": files, "judge": self.judge, "words": self.words, "own": sorted(words),
-                "found": found}
-        self.file.write(json.dumps(line) + "\n")
-        self.file.flush()
-
-
-# ---- processes
-
-
-class Processes:
-    """Windows that are judged side by side, each in a process of its own."""
-
-    def __init__(self, most: int, judge_one: JudgeOne):
-        self.most, self.judge_one = most, judge_one
-        self.children: dict[int, tuple[Window, IO[bytes], list[bytes]]] = {}
-        self.selector = selectors.DefaultSelector()
-
-    def found(self, windows: Iterable[tuple[Window, dict[str, Any]]]) -> Iterator[tuple[Window, Optional[Found]]]:
-        """Judges these windows, each with its words. Gives what is found of each, as it comes; None if its process
-        ended."""
-        try:
-            for window, words in windows:
-                while len(self.children) >= self.most:
-                    yield from self.ended()
-                self.begin(window, words)
-            while self.children:
-                yield from self.ended()
-        finally:
-            for child, (_, pipe, _) in self.children.items():
-                os.killpg(child, signal.SIGKILL)
-                pipe.close()
-                os.waitpid(child, 0)
-
-    def begin(self, window: Window, words: dict[str, Any]) -> None:
-        """Begins a process for a window."""
-        read, write = os.pipe()
-        child = ends.fork()
-        if child:
-            os.close(write)
-            set_group(child)
-            pipe = open(read, "rb", buffering=0)
-            self.children[child] = window, pipe, []
-            self.selector.register(pipe, selectors.EVENT_READ, child)
-            return
-        try:
-            os.close(read)
-            set_group(0)
-            with open(write, "wb") as file:
-                file.write(self.judged(window, words).encode())
-            os._exit(0)
-        finally:
-            os._exit(1)
-
-    def judged(self, window: Window, words: dict[str, Any]) -> str:
-        """The line of --json about a window."""
-        try:
-            return self.judge_one([window.capture, window.replies], words)
-        except Exception as error:
-            return json.dumps({"verdict": "fault", "fault": ends.unforeseen(error)})
-
-    def ended(self) -> Iterator[tuple[Window, Optional[Found]]]:
-        """Waits for what processes say. Gives the windows of those that have ended, with what they found."""
-        for key, _ in self.selector.select():
-            window, pipe, pieces = self.children[key.data]
-            piece = pipe.read(PIECE)
-            if piece:
-                pieces.append(piece)
-                continue
-            self.selector.unregister(pipe)
-            pipe.close()
-            del self.children[key.data]
-            os.waitpid(key.data, 0)
-            yield window, json.loads(b"".join(pieces)) if pieces else None
-
-
-def set_group(child: int) -> None:
-    """Gives a process a group of its own, so that it ends with all that it started."""
-    try:
-        os.setpgid(child, child)
-    except OSError:
-        pass  # it has ended, or has done so itself
 
 
 # ---- the verdict
@@ -274,7 +93,10 @@ class Judging:
         self.name, self.windows = windows_in(given["--windows"])
         self.found: dict[int, Found] = {}
         self.missing: list[int] = []
-        self.new = 0
+        self.new: set[int] = set()
+        # what joins them, or why nothing does
+        self.chain: Optional[Chain] = None
+        self.apart = ""
 
     def say(self, line: str) -> None:
         """Prints a line."""
@@ -289,40 +111,89 @@ class Judging:
 
     def run(self) -> int:
         """Judges the windows, prints what is to be said, and gives the status."""
-        asking.is_there(self.zygos)  # it is made once, not by each process
+        self.apart = self.why_apart(asking.is_there(self.zygos))  # it is made once, not by each process
         words = {name: value for name, value in self.given.items()
                  if name not in ("--windows", "--processes", "--json", "--warm")}
-        kept = Kept(self.name + KEPT, sum_of_judge(self.zygos), words)
+        kept = Kept(self.name + KEPT, sum_of_judge(self.zygos), words, "--warm" in self.given)
         with kept.file:
             if not kept.lock():
                 self.finish("unknown", [f"unknown: {BUSY}"], [])
                 return STATUS["unknown"]
-            self.search(kept)
+            most = self.given.get("--processes") or sharing.free_processors(sharing.LEAST_CALLS)
+            if not self.apart:
+                self.chain = Chain(self.name, self.given, self.windows, kept, self.judge_one, self.screen,
+                                   most)
+            self.judge(kept, most)
         return self.conclude()
 
-    def search(self, kept: Kept) -> None:
-        """Judges each complete window without a kept result."""
-        first = self.windows[0].number if "--warm" in self.given else 1
-        there = {window.number: window for window in self.windows if window.is_there()}
+    def why_apart(self, is_there: bool) -> str:
+        """Why the windows are not joined; nothing if they are."""
+        if {"--keys", "--except-keys"} & set(self.given):
+            return CHOSEN
+        return ASSUMED if self.given.get("--times") == SEGMENTS else "" if is_there else LACKING
+
+    def judge(self, kept: Kept, most: int) -> None:
+        """Judges the windows by themselves, and joins them. An order is searched only for those that are not joined: before
+        that the proved program is asked about each, unless there is only one process."""
+        chain = self.chain
+        if chain:
+            chain.resume()
+            self.take_joined(chain)
+            refuted = self.ask(kept, most) if most > 1 else set()
+            chain.run(refuted | {number for number, found in self.found.items() if found["verdict"] == "no"})
+            self.new.update(chain.files)
+            self.take_joined(chain)
+        self.search(kept, most)
+        first = min([self.windows[0].number, *(chain.links if chain else ())]) if "--warm" in self.given else 1
+        there = {window.number for window in self.windows if window.is_there()} | (chain.links.keys() if chain else set())
         self.missing = [number for number in range(first, self.windows[-1].number + 1) if number not in there]
+
+    def take_joined(self, chain: Chain) -> None:
+        """Takes the windows of which the chain has an order."""
+        for number, link in chain.links.items():
+            self.found[number] = {**brief({"verdict": FOUND, "proved": True, **link.found}),
+                                  "empty": not link.found["commands"]}
+
+    def left(self, kept: Kept) -> list[tuple[Window, dict[str, Any]]]:
+        """The complete windows without a kept result, with the words for each."""
         left = []
-        for window in there.values():
+        for window in self.windows:
+            if window.number in self.found or not window.is_there():
+                continue
             words = self.words_for(window)
             known = kept.known(window, words)
             if known is None:
                 left.append((window, words))
             else:
                 self.found[window.number] = known
-        most = self.given.get("--processes") or sharing.free_processors(sharing.LEAST_CALLS)
+        return left
+
+    def ask(self, kept: Kept, most: int) -> set[int]:
+        """Asks the proved program about each window by itself, so many at a time. Keeps the orders that it finds, and gives
+        the windows that it refutes."""
+        left, refuted = self.left(kept), set()
+        files = {window.number: kept.files_of(window) for window, _ in left}
+        asked = Processes(most, self.judge_one).found((window, {**words, "unsearched": True}) for window, words in left)
+        for done, (window, found) in enumerate(asked, 1):
+            if found and found["verdict"] == "no":
+                refuted.add(window.number)
+            elif found and found["verdict"] == FOUND:
+                self.take(kept, window, found, files[window.number])
+            self.screen.show(f"{done:,} of {counted(len(left), 'window')} asked about")
+        return refuted
+
+    def search(self, kept: Kept, most: int) -> None:
+        """Judges each complete window without a result by itself, so many at a time."""
+        left = self.left(kept)
         files = {window.number: kept.files_of(window) for window, _ in left}
         self.screen.show(f"{counted(len(left), 'window')} to judge")
-        for window, found in Processes(most, self.judge_one).found(left):
+        for done, (window, found) in enumerate(Processes(most, self.judge_one).found(left), 1):
             self.take(kept, window, found, files[window.number])
-            self.screen.show(f"{self.new:,} of {counted(len(left), 'window')} judged")
+            self.screen.show(f"{done:,} of {counted(len(left), 'window')} judged")
 
     def take(self, kept: Kept, window: Window, found: Optional[Found], files: list[list[Any]]) -> None:
         """Takes what was found of a window, and keeps a verdict."""
-        self.new += 1
+        self.new.add(window.number)
         self.found[window.number] = brief(found) if found else {**brief({"verdict": "unknown"}), "why": ENDED}
         if found and found["verdict"] != "fault":
             kept.keep(window, self.words_for(window), self.found[window.number], files)
@@ -332,10 +203,34 @@ class Judging:
     def conclude(self) -> int:
         """Says the verdict, and gives the status."""
         faults = sorted((number, found) for number, found in self.found.items() if found["verdict"] != FOUND)
-        words = {found["verdict"] for _, found in faults}
+        breaks = self.breaks()
+        words = {found["verdict"] for _, found in faults} | {"no" if one.is_no else "unknown" for one in breaks.values()}
         word = "no" if "no" in words else "unknown" if words or self.missing else FOUND
-        self.finish(word, [*(self.told(faults) if word != FOUND else [self.agreed()]), APART], faults)
+        lines = self.told(faults, breaks) if word != FOUND else [self.joined() if self.chain else self.agreed()]
+        self.finish(word, [*lines, *self.told_joined(word)], faults)
         return STATUS[word]
+
+    def breaks(self) -> dict[int, Break]:
+        """The windows that are not joined, although they have an order by themselves: to the one before, or to any."""
+        if not self.chain:
+            return {}
+        alone = {number: Break(f"it has an order, by search, and nothing is joined to it: {why}", [])
+                 for number, why in self.chain.alone.items() if self.found[number]["verdict"] == FOUND}
+        return {**self.chain.breaks(), **alone}
+
+    def told_joined(self, word: str) -> list[str]:
+        """What is said of the items between windows."""
+        if not self.chain:
+            return [f"{APART} ({self.apart})"]
+        counts = self.chain.translated()
+        some = ", ".join(f"{name} {count:,}" for name, count in sorted(counts.items()) if count)
+        lines = [f"translated: {some}"] * bool(some)
+        parts = self.chain.parts()
+        if word == FOUND:
+            first = "the first one with any" if self.chain.links[parts[0][0]].is_warm else "the first one with none"
+            return [f"each window begins with the items that the one before it left, {first}", *lines]
+        several = [f"{first} to {last}" for first, last in parts if last > first]
+        return [f"joined are windows {', '.join(several)}" if several else "no windows are joined", *lines]
 
     def counts(self) -> dict[str, int]:
         """How many windows there are, and how many have an order, have none or are unknown."""
@@ -353,6 +248,11 @@ class Judging:
             return any(found["verdict"] == "no" and found["proved"] for found in self.found.values())
         return word == FOUND and all(found["proved"] or found["empty"] for found in self.found.values())
 
+    def joined(self) -> str:
+        """What is said if all windows are joined."""
+        windows, commands = counted(len(self.found), "window"), counted(self.commands(), "command")
+        return f"{FOUND}, by the proved program, in {windows} as one recording: {commands}"
+
     def agreed(self) -> str:
         """What is said if each window has an order."""
         proved = sum(found["proved"] for found in self.found.values())
@@ -362,9 +262,11 @@ class Judging:
         windows, commands = counted(len(self.found), "window"), counted(self.commands(), "command")
         return f"{FOUND} in each of {windows}{''.join(some)}: {commands}"
 
-    def told(self, faults: list[tuple[int, Found]]) -> list[str]:
-        """What is said of windows without an order, of those where that is not known, and of those that are missing."""
+    def told(self, faults: list[tuple[int, Found]], breaks: dict[int, Break]) -> list[str]:
+        """What is said of windows without an order, of those where that is not known, of those that are not joined, and of
+        those that are missing."""
         heads = [f"{headed(found)}: window {number}: {found['why']}" for number, found in faults]
+        heads += [f"{'no' if one.is_no else 'unknown'}: window {number}: {one.why}" for number, one in breaks.items()]
         heads += [f"unknown: {missed(first, last)}" for first, last in ranges_of(self.missing)]
         heads.sort(key=lambda head: head.startswith("unknown"))
         more = [f"  and {len(heads) - MOST_FAULTS:,} more"] * (len(heads) > MOST_FAULTS)
@@ -381,8 +283,12 @@ class Judging:
             translated: Counter[str] = Counter()
             for found in self.found.values():
                 translated.update(found["translated"])
-            print(json.dumps({"verdict": word, "proved": self.is_proved(word), "chained": False, **self.counts(),
-                              "missing": self.missing, "new": self.new, "commands": self.commands(),
+            print(json.dumps({"verdict": word, "proved": self.is_proved(word),
+                              "chained": word == FOUND and self.chain is not None, **self.counts(),
+                              "parts": self.chain.parts() if self.chain else [],
+                              "breaks": [{"window": number, "verdict": "no" if one.is_no else "unknown", "keys": one.keys,
+                                          "why": one.why} for number, one in sorted(self.breaks().items())],
+                              "missing": self.missing, "new": len(self.new), "commands": self.commands(),
                               "translated": dict(translated), "said": lines[0],
                               "faults": [{"window": number, **found} for number, found in faults[:MOST_FAULTS]],
                               "seconds": round(time.monotonic() - self.begun, 1)}))
