@@ -122,7 +122,8 @@ def sources(top, name):
 
 
 # laws whose lemmas the proofs of another program cite
-CITED = {"recordings_have_no_fault", "there_is_one_recording_fault"}
+CITED = {"a_good_items_file_says_what_a_server_can_have", "recordings_have_no_fault", "there_is_one_recording_fault",
+         "there_is_one_window_fault", "windows_have_no_fault"}
 
 
 def vain_laws(top):
