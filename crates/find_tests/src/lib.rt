@@ -5,3 +5,5 @@
 mod orders;
 #[cfg(test)]
 mod recording;
+#[cfg(test)]
+mod windows;

@@ -6,7 +6,7 @@ use std::collections::BTreeSet;
 use zy_base::{Blob, NoMemory};
 use zy_find::{Found, Rules, find};
 use zy_refute::Observed;
-use zy_verdict::Placement;
+use zy_verdict::{Order, Placement};
 
 /// What a call does, and what its answer shows.
 #[derive(Clone, Copy)]
@@ -129,14 +129,32 @@ pub(crate) fn found_in(
     warm: bool,
     recorded: &[Recorded],
 ) -> Result<Option<Vec<u32>>, NoMemory> {
+    let rules = Rules {
+        warm,
+        forget: false,
+        begun: None,
+    };
+    let Some(order) = found_by(alloc, rules, recorded)? else {
+        return Ok(None);
+    };
+    let mut conns = Vec::new(alloc);
+    for placement in order.items() {
+        conns.push(conn_of(placement))?;
+    }
+    drop(order);
+    Ok(Some(conns))
+}
+
+/// Returns the order that is found; none if none is.
+pub(crate) fn found_by(
+    alloc: Global,
+    rules: Rules<'_>,
+    recorded: &[Recorded],
+) -> Result<Option<Order>, NoMemory> {
     let mut calls = Vec::new(alloc);
     for one in recorded {
         calls.push(observed(alloc, *one)?)?;
     }
-    let rules = Rules {
-        warm,
-        forget: false,
-    };
     let lasting = BTreeSet::new(alloc);
     let found = find(alloc, rules, &lasting, &calls, 64);
     drop(lasting);
@@ -148,12 +166,7 @@ pub(crate) fn found_in(
         }
         Found::Ordered { order, began } => {
             drop(began);
-            let mut conns = Vec::new(alloc);
-            for placement in order.items() {
-                conns.push(conn_of(placement))?;
-            }
-            drop(order);
-            Ok(Some(conns))
+            Ok(Some(order))
         }
     }
 }

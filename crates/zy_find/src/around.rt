@@ -21,7 +21,6 @@ const LAST_LEVEL: u32 = 10;
 pub(crate) struct Open<'a> {
     pub(crate) failure: Failure,
     pub(crate) list: &'a KeyList,
-    pub(crate) warm: bool,
     pub(crate) forget: bool,
     pub(crate) ranks: &'a [u32],
 }
@@ -155,8 +154,9 @@ impl Around {
     // Returns what the key has before these calls.
     fn begun(self, alloc: Global, given: Given<'_>, open: Open<'_>) -> Result<Begun, NoMemory> {
         let made = open.list.made.as_slice();
+        let key = given.get(open.failure.call).and_then(|one| one.call.key());
         let mut begun = Begun {
-            held: Held::at_first(open.warm),
+            held: given.rules.firsts().at(key)?,
             maker: NONE,
         };
         let from = self.last_set(given, made);

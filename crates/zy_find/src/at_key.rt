@@ -3,7 +3,7 @@
 use std::alloc::Global;
 use zy_base::NoMemory;
 use zy_refute::Observed;
-use zy_search::{Decided, FirstItem, Held, first_item, held_after};
+use zy_search::{Decided, FirstItem, Firsts, Held, first_item, held_after};
 use zy_sources::{Keys, NONE, expected, found_another, mixed, unique_hash};
 
 // How many uniques are noted that an item does not have.
@@ -35,12 +35,12 @@ pub(crate) struct AtKey {
 /// Returns all keys, before any call. May answer `NoMemory`.
 pub(crate) fn keys_at_first(
     alloc: Global,
-    warm: bool,
+    firsts: Firsts<'_>,
     observed: &[Observed],
     known: &Keys,
 ) -> Result<Vec<AtKey>, NoMemory> {
     let mut keys = Vec::new(alloc);
-    match add_keys(alloc, warm, observed, known, &mut keys) {
+    match add_keys(alloc, firsts, observed, known, &mut keys) {
         Ok(()) => Ok(keys),
         Err(refused) => {
             drop(keys);
@@ -51,31 +51,32 @@ pub(crate) fn keys_at_first(
 
 fn add_keys(
     alloc: Global,
-    warm: bool,
+    firsts: Firsts<'_>,
     observed: &[Observed],
     known: &Keys,
     keys: &mut Vec<AtKey>,
 ) -> Result<(), NoMemory> {
     for number in 0..known.first.len() {
         let call = known.first[number];
-        let shard = match observed.get(call as usize) {
-            Some(one) => one.shard,
-            None => NONE,
+        let (shard, key) = match observed.get(call as usize) {
+            Some(one) => (one.shard, one.call.key()),
+            None => (NONE, None),
         };
         let forget = match known.forget.get(number) {
             Some(forget) => *forget,
             None => false,
         };
-        keys.push(at_first(alloc, warm, call, shard, forget))?;
+        let held = firsts.at(key)?;
+        keys.push(at_first(alloc, held, call, shard, forget))?;
     }
     Ok(())
 }
 
 // Returns a key before any call.
-fn at_first(alloc: Global, warm: bool, call: u32, shard: u32, forget: bool) -> AtKey {
+fn at_first(alloc: Global, held: Held, call: u32, shard: u32, forget: bool) -> AtKey {
     AtKey {
         call,
-        held: Held::at_first(warm),
+        held,
         maker: NONE,
         others: Vec::new(alloc),
         head: NONE,

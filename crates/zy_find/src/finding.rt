@@ -2,13 +2,14 @@
 
 use crate::at_key::AtKey;
 use crate::learned::Learned;
-use crate::order::{Began, Found, Rules};
+use crate::order::{Found, Rules};
 use crate::pass::{Given, Pass};
 use crate::settling::{Settled, settle};
 use mc_calls::Item;
 use std::alloc::Global;
 use std::collections::BTreeSet;
 use zy_base::{Blob, NoMemory};
+use zy_items::KeptItem;
 use zy_refute::Observed;
 use zy_search::FirstItem;
 use zy_sources::{Links, links_of};
@@ -39,13 +40,14 @@ enum Passed {
 /// taken at a key for each of its calls. May answer `NoMemory`.
 pub fn find(
     alloc: Global,
-    rules: Rules,
+    rules: Rules<'_>,
     lasting: &BTreeSet<Blob>,
     observed: &[Observed],
     most: usize,
 ) -> Result<Found, NoMemory> {
-    let links = links_of(alloc, rules.warm, rules.forget, lasting, observed)?;
-    let found = find_with(alloc, rules.warm, observed, &links, most);
+    let warm = rules.may_have_items();
+    let links = links_of(alloc, warm, rules.forget, lasting, observed)?;
+    let found = find_with(alloc, rules, observed, &links, most);
     drop(links);
     found
 }
@@ -53,13 +55,13 @@ pub fn find(
 // Looks for an order with what is known of the calls.
 fn find_with(
     alloc: Global,
-    warm: bool,
+    rules: Rules<'_>,
     observed: &[Observed],
     links: &Links,
     most: usize,
 ) -> Result<Found, NoMemory> {
     let mut learned = Learned::new(alloc, observed.len())?;
-    let found = find_learning(alloc, warm, observed, links, &mut learned, most);
+    let found = find_learning(alloc, rules, observed, links, &mut learned, most);
     drop(learned);
     found
 }
@@ -67,7 +69,7 @@ fn find_with(
 // Makes all calls until no call fails or nothing new is learned.
 fn find_learning(
     alloc: Global,
-    warm: bool,
+    rules: Rules<'_>,
     observed: &[Observed],
     links: &Links,
     learned: &mut Learned,
@@ -80,8 +82,9 @@ fn find_learning(
             observed,
             links,
             learned,
+            rules,
         };
-        let settled = match pass_once(alloc, warm, given, steps, left)? {
+        let settled = match pass_once(alloc, given, steps, left)? {
             Passed::Found(found) => return Ok(found),
             Passed::Settled(settled) => settled,
         };
@@ -102,12 +105,11 @@ fn find_learning(
 // Makes all calls once. If some failed, the calls around them are settled.
 fn pass_once(
     alloc: Global,
-    warm: bool,
     given: Given<'_>,
     steps: usize,
     left: usize,
 ) -> Result<Passed, NoMemory> {
-    let mut pass = Pass::new(alloc, warm, given)?;
+    let mut pass = Pass::new(alloc, given)?;
     match pass.run(given) {
         Ok(()) if pass.failures.is_empty() => Ok(Passed::Found(pass.into_found(given)?)),
         Ok(()) => {
@@ -127,7 +129,11 @@ impl Pass {
     fn into_found(self, given: Given<'_>) -> Result<Found, NoMemory> {
         let mut pass = self;
         let mut began = Vec::new(pass.alloc);
-        match pass.begin_into(given, &mut began) {
+        let begun = match given.rules.begun {
+            Some(begun) => pass.number_all(given, begun.bound),
+            None => pass.begin_into(given, &mut began),
+        };
+        match begun {
             Ok(()) => {
                 let none = Vec::new(pass.alloc);
                 let order = std::mem::replace(&mut pass.order, none);
@@ -146,7 +152,7 @@ impl Pass {
     }
 
     // Takes the items that the store begins with; those whose uniques no answer showed have others.
-    fn begin_into(&mut self, given: Given<'_>, began: &mut Vec<Began>) -> Result<(), NoMemory> {
+    fn begin_into(&mut self, given: Given<'_>, began: &mut Vec<KeptItem>) -> Result<(), NoMemory> {
         let mut unique = self.unique;
         for own in &mut self.keys {
             unique = unique.saturating_add(1);
@@ -161,7 +167,7 @@ impl Pass {
 impl AtKey {
     // Takes the item that was there at first, if there was one; it has this unique if no answer showed its
     // own.
-    fn take_began(&mut self, given: Given<'_>, last: u64) -> Result<Option<Began>, NoMemory> {
+    fn take_began(&mut self, given: Given<'_>, last: u64) -> Result<Option<KeptItem>, NoMemory> {
         let key = match given.get(self.call) {
             Some(one) => match one.call.key() {
                 Some(key) => key.copy()?,
@@ -176,7 +182,7 @@ impl AtKey {
                     unique: self.unique.unwrap_or(last),
                     value,
                 };
-                Ok(Some(Began { key, item }))
+                Ok(Some(KeptItem { key, item }))
             }
             None => {
                 drop(key);

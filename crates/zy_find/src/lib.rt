@@ -10,6 +10,7 @@ mod helping;
 mod key_lists;
 mod learned;
 mod making;
+mod numbering;
 mod order;
 mod pass;
 mod passing;
@@ -17,4 +18,4 @@ mod settling;
 mod waiting;
 
 pub use finding::find;
-pub use order::{Began, Found, Rules};
+pub use order::{Found, Rules};

@@ -2,6 +2,7 @@
 
 use crate::at_key::{AtKey, keys_at_first};
 use crate::learned::Learned;
+use crate::order::Rules;
 use std::alloc::Global;
 use zy_base::NoMemory;
 use zy_refute::Observed;
@@ -14,6 +15,7 @@ pub(crate) struct Given<'a> {
     pub(crate) observed: &'a [Observed],
     pub(crate) links: &'a Links,
     pub(crate) learned: &'a Learned,
+    pub(crate) rules: Rules<'a>,
 }
 
 /// A call whose answer was impossible, and how many calls were made before it.
@@ -53,8 +55,6 @@ const WAITS: Standing = Standing {
 #[derive(Drop)]
 pub(crate) struct Pass {
     pub(crate) alloc: Global,
-    /// Items may be there at first.
-    pub(crate) warm: bool,
     pub(crate) keys: Vec<AtKey>,
     pub(crate) calls: Vec<Standing>,
     /// The calls that are made, and these by their offsets.
@@ -75,7 +75,7 @@ pub(crate) struct Pass {
 }
 
 // Uniques that no answer showed are counted from here, far above those of a server.
-const FIRST_UNIQUE: u64 = 1 << 63;
+pub(crate) const FIRST_UNIQUE: u64 = 1 << 63;
 
 impl<'a> Given<'a> {
     // Returns the calls, with what is known of them.
@@ -109,10 +109,15 @@ impl<'a> Given<'a> {
 
 impl Pass {
     // Begins before any call.
-    pub(crate) fn new(alloc: Global, warm: bool, given: Given<'_>) -> Result<Pass, NoMemory> {
-        let keys = keys_at_first(alloc, warm, given.observed, &given.links.keys)?;
+    pub(crate) fn new(alloc: Global, given: Given<'_>) -> Result<Pass, NoMemory> {
+        let keys = keys_at_first(
+            alloc,
+            given.rules.firsts(),
+            given.observed,
+            &given.links.keys,
+        )?;
         match Table::new(alloc) {
-            Ok(shown) => Pass::with_calls(alloc, warm, given, keys, shown),
+            Ok(shown) => Pass::with_calls(alloc, given, keys, shown),
             Err(refused) => {
                 drop(keys);
                 Err(refused)
@@ -123,7 +128,6 @@ impl Pass {
     // Begins with all calls, which wait.
     fn with_calls(
         alloc: Global,
-        warm: bool,
         given: Given<'_>,
         keys: Vec<AtKey>,
         shown: Table,
@@ -132,7 +136,6 @@ impl Pass {
             Ok(calls) => {
                 let mut pass = Pass {
                     alloc,
-                    warm,
                     keys,
                     calls,
                     order: Vec::new(alloc),

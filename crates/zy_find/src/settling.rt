@@ -189,7 +189,6 @@ fn open_at<'a>(
         (Some(list), Some(own)) => Some(Open {
             failure,
             list,
-            warm: pass.warm,
             forget: own.forget,
             ranks,
         }),

@@ -1,6 +1,6 @@
 //! What a key has.
 
-use mc_calls::Call;
+use mc_calls::{Call, Item};
 use std::alloc::Global;
 use zy_base::{Blob, NoMemory};
 
@@ -45,11 +45,6 @@ pub enum Sight<'a> {
 }
 
 impl Held {
-    /// Returns what a key has before any call.
-    pub fn at_first(warm: bool) -> Held {
-        if warm { Held::Any } else { Held::Nothing }
-    }
-
     /// Lends it.
     pub fn sight(&self) -> Sight<'_> {
         match self {
@@ -110,6 +105,20 @@ pub(crate) fn stored(flags: u32, value: Blob, origin: usize) -> Held {
         doubt: None,
         open: None,
     })
+}
+
+// Makes a first item that is known.
+pub(crate) fn first_known(item: &Item) -> Result<Held, NoMemory> {
+    let value = item.value.copy()?;
+    Ok(Held::Item(Known {
+        flags: item.flags,
+        digits: value.bytes().len(),
+        value,
+        unique: Some(item.unique),
+        origin: AT_FIRST,
+        doubt: None,
+        open: None,
+    }))
 }
 
 // Makes the item that a call brings, stored at this offset.

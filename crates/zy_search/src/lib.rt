@@ -3,6 +3,7 @@
 #![tactic(auto)]
 
 mod after;
+mod begun;
 mod counting;
 mod decided;
 mod deciding;
@@ -16,6 +17,7 @@ mod storing;
 mod words;
 
 pub use after::held_after;
+pub use begun::Firsts;
 pub use decided::{Change, Decided, First, Unique};
 pub use deciding::{decide, decide_after};
 pub use first::{FirstItem, first_item};

@@ -2,11 +2,15 @@
 use Rattle.std.proofs.Common.{◌≡◌, inl, inr, ℕ, ◌<◌, Bool, true, false, List, length, refl, sym, ◌∙◌, ap, true≢false, arith}
 use Rattle.std.proofs.lemmas.List.Elements.{All-contains}
 use Rattle.std.specs.Prelude.{Option, None, Some, Result, Ok, Err, IfOk, IfSome}
+use Rattle.std.specs.BTreeSet.{BTreeSet, contains}
+use Rattle.std.specs.Cmp.Lexicographic.{slice_cmp}
 use Rattle.std.specs.List.{slice_get}
+use Rattle.std.specs.Ordering.{nat_cmp}
 use Rattle.mc_allows.specs.declared.call_name.CallName.{CallName}
 use Rattle.zy_capture.specs.declared.record.Record.{Record}
 use Rattle.zy_explain.specs.declared.rules.Rules.{Rules}
-use Rattle.zy_explain.specs.Judged.{judged}
+use Rattle.zy_explain.specs.Judged.{judged_after}
+use Rattle.zy_explain.proofs.BetweenLemmas.{is_one}
 use Rattle.zy_base.specs.declared.outside.NoMemory.{NoMemory}
 use Rattle.zy_observed.specs.declared.refuting.Refuted.{Refuted}
 use Rattle.zy_observed.specs.Shown.{IsShown, named_of}
@@ -37,23 +41,26 @@ noted_commands sessions count r conn session s hold is =
 
 -- ---- losses
 
--- where not every item may be lost, the item of a key may be lost only if some command gives the key an exptime
-pub lasting_lost : (rules : Rules) (count : ℕ) (records : List Record) (outputs : List (List (List ℕ))) (key : List ℕ) → rules.forget ≡ false → MayLoseAt (judged rules count records outputs) key → HasExptimeIn records key
-lasting_lost rules count records outputs key kept (inl forget) = let both : true ≡ false = sym forget ∙ kept in absurd (true≢false both)
-lasting_lost rules count records outputs key kept (inr (inl given)) = given
-lasting_lost rules count records outputs key kept (inr (inr none)) = let below : none.0 < 0 = none.1 in absurd (omega (arith, below))
+-- if not every item may be lost and its key had no exptime before, the item of a key may be lost only if some command gives
+-- the key an exptime
+pub lasting_lost : (lasting : BTreeSet (List ℕ)) (rules : Rules) (count : ℕ) (records : List Record) (outputs : List (List (List ℕ))) (key : List ℕ) → rules.forget ≡ false
+    → contains (slice_cmp nat_cmp) lasting key ≡ false → MayLoseAt (judged_after lasting.keys rules count records outputs) key → HasExptimeIn records key
+lasting_lost lasting rules count records outputs key kept before (inl forget) = let both : true ≡ false = sym forget ∙ kept in absurd (true≢false both)
+lasting_lost lasting rules count records outputs key kept before (inr (inl given)) = given
+lasting_lost lasting rules count records outputs key kept before (inr (inr at)) = let both : true ≡ false = sym (is_one lasting key at) ∙ before in absurd (true≢false both)
 
-pub store_so : (rules : Rules) (sessions : Sessions) (key : List ℕ) (forget : Bool) → ((count : ℕ) (records : List Record) (outputs : List (List (List ℕ))) → SessionsHold sessions count records → MayLoseAt (judged rules count records outputs) key → forget ≡ true)
-    → (count : ℕ) (records : List Record) (outputs : List (List (List ℕ))) → SessionsHold sessions count records → IsStoreAt (judged rules count records outputs) key (record { warm = rules.warm; forget = forget })
-store_so rules sessions key forget lost count records outputs hold = record { warm = λ is. is; forget = lost count records outputs hold }
+pub store_so : (lasting : List (List ℕ)) (rules : Rules) (sessions : Sessions) (key : List ℕ) (forget : Bool)
+    → ((count : ℕ) (records : List Record) (outputs : List (List (List ℕ))) → SessionsHold sessions count records → MayLoseAt (judged_after lasting rules count records outputs) key → forget ≡ true)
+    → (count : ℕ) (records : List Record) (outputs : List (List (List ℕ))) → SessionsHold sessions count records → IsStoreAt (judged_after lasting rules count records outputs) key (record { warm = rules.warm; forget = forget })
+store_so lasting rules sessions key forget lost count records outputs hold = record { warm = λ is. is; forget = lost count records outputs hold }
 
 -- ---- refuted calls
 
 -- a call at a key without a course is a culprit
-pub culprit_at : (rules : Rules) (sessions : Sessions) (calls : List Observed) (store : Store) (key : List ℕ) (name : CallName) → HasNoCourse rules.shards store calls key → IsNamedAt rules.shards key calls name
-    → ((count : ℕ) (records : List Record) (outputs : List (List (List ℕ))) → SessionsHold sessions count records → IsStoreAt (judged rules count records outputs) key store) → IsCulprit rules sessions calls name
-culprit_at rules sessions calls store key name none at so = λ count records outputs hold shown.
-    let r : Recorded = judged rules count records outputs in
+pub culprit_at : (lasting : List (List ℕ)) (rules : Rules) (sessions : Sessions) (calls : List Observed) (store : Store) (key : List ℕ) (name : CallName) → HasNoCourse rules.shards store calls key → IsNamedAt rules.shards key calls name
+    → ((count : ℕ) (records : List Record) (outputs : List (List (List ℕ))) → SessionsHold sessions count records → IsStoreAt (judged_after lasting rules count records outputs) key store) → IsCulprit lasting rules sessions calls name
+culprit_at lasting rules sessions calls store key name none at so = λ count records outputs hold shown.
+    let r : Recorded = judged_after lasting rules count records outputs in
     let own = (All-contains (IsShown r) calls at.x shown.each at.is.there).belongs in
     record {
       named = named_of at.x;
@@ -65,13 +72,13 @@ culprit_at rules sessions calls store key name none at so = λ count records out
       none = λ has. none r refl shown (so count records outputs hold) has;
     }
 
-pub culprit_found : (rules : Rules) (sessions : Sessions) (calls : List Observed) (store : Store) (key : List ℕ) (found : Result (Option Refuted) NoMemory) → IfOk found (λ o. IfSome o (λ refuted. HasNoCourse rules.shards store calls key))
+pub culprit_found : (lasting : List (List ℕ)) (rules : Rules) (sessions : Sessions) (calls : List Observed) (store : Store) (key : List ℕ) (found : Result (Option Refuted) NoMemory) → IfOk found (λ o. IfSome o (λ refuted. HasNoCourse rules.shards store calls key))
     → IfOk found (λ o. IfSome o (λ refuted. IsNamedAt rules.shards key calls refuted.name))
-    → ((count : ℕ) (records : List Record) (outputs : List (List (List ℕ))) → SessionsHold sessions count records → IsStoreAt (judged rules count records outputs) key store)
-    → IfOk found (λ o. IfSome o (λ refuted. IsCulprit rules sessions calls refuted.name))
-culprit_found rules sessions calls store key (Ok (Some refuted)) none at so = culprit_at rules sessions calls store key refuted.name none at so
-culprit_found rules sessions calls store key (Ok None) none at so = tt
-culprit_found rules sessions calls store key (Err refused) none at so = tt
+    → ((count : ℕ) (records : List Record) (outputs : List (List (List ℕ))) → SessionsHold sessions count records → IsStoreAt (judged_after lasting rules count records outputs) key store)
+    → IfOk found (λ o. IfSome o (λ refuted. IsCulprit lasting rules sessions calls refuted.name))
+culprit_found lasting rules sessions calls store key (Ok (Some refuted)) none at so = culprit_at lasting rules sessions calls store key refuted.name none at so
+culprit_found lasting rules sessions calls store key (Ok None) none at so = tt
+culprit_found lasting rules sessions calls store key (Err refused) none at so = tt
 
 -- a recording with a culprit is not explained
 pub culprit_refutes : (r : Recorded) (name : CallName) → ((q : Recorded) → IsExplained q → (key : List ℕ) → HasCourse q key) → IsRefutedCall r name → IsExplained r → ⊥
@@ -83,6 +90,6 @@ culprit_named r name command is call = record { name = name; conn_is = refl; com
 -- ---- answers
 
 -- what follows from what holds of an answer holds of it
-pub found_so : {A E : Type 0} (found : Result A E) (P Q : A → Type 0) → ((answer : A) → P answer → Q answer) → IfOk found P → IfOk found Q
-found_so (Ok answer) P Q implies has = implies answer has
-found_so (Err failure) P Q implies has = tt
+pub answer_so : {A E : Type 0} (found : Result A E) (P Q : A → Type 0) → ((answer : A) → P answer → Q answer) → IfOk found P → IfOk found Q
+answer_so (Ok answer) P Q implies has = implies answer has
+answer_so (Err failure) P Q implies has = tt

@@ -3,7 +3,7 @@ use Rattle.std.specs.Prelude.{ℕ, List}
 use Rattle.mc_allows.specs.declared.call_name.CallName.{CallName}
 use Rattle.zy_capture.specs.declared.record.Record.{Record}
 use Rattle.zy_explain.specs.declared.rules.Rules.{Rules}
-use Rattle.zy_explain.specs.Judged.{judged}
+use Rattle.zy_explain.specs.Judged.{judged_after}
 use Rattle.zy_observed.specs.Shown.{AreShown}
 use Rattle.zy_refute.specs.declared.observed.Observed.{Observed}
 use Rattle.zy_sessions.specs.declared.sessions.Sessions.{Sessions}
@@ -12,16 +12,18 @@ use Rattle.zy_verdict.specs.Recorded.{Recorded}
 use Rattle.zygos_judge.specs.declared.finding.Finding.{Finding}
 use Rattle.zygos_judge.specs.Finding.{HasFinding, IsRefutedCall}
 
--- this holds of each recording of these notes that shows these calls
-abbrev pub OfShown : Rules → Sessions → List Observed → (Recorded → Type 0) → Type 0
-OfShown rules sessions calls Holds = (count : ℕ) (records : List Record) (outputs : List (List (List ℕ)))
-    → SessionsHold sessions count records → AreShown (judged rules count records outputs) calls
-    → Holds (judged rules count records outputs)
+-- this holds of each recording of these notes that shows these calls, if an exptime other than 0 was given to these keys
+-- before
+abbrev pub OfShown : List (List ℕ) → Rules → Sessions → List Observed → (Recorded → Type 0) → Type 0
+OfShown lasting rules sessions calls Holds = (count : ℕ) (records : List Record) (outputs : List (List (List ℕ)))
+    → SessionsHold sessions count records → AreShown (judged_after lasting rules count records outputs) calls
+    → Holds (judged_after lasting rules count records outputs)
 
 -- a call with this name is refuted
-abbrev pub IsCulprit : Rules → Sessions → List Observed → CallName → Type 0
-IsCulprit rules sessions calls name = OfShown rules sessions calls (λ r. IsRefutedCall r name)
+abbrev pub IsCulprit : List (List ℕ) → Rules → Sessions → List Observed → CallName → Type 0
+IsCulprit lasting rules sessions calls name =
+    OfShown lasting rules sessions calls (λ r. IsRefutedCall r name)
 
 -- this is found of the recording
-abbrev pub IsFoundOf : Rules → Sessions → List Observed → Finding → Type 0
-IsFoundOf rules sessions calls finding = OfShown rules sessions calls (λ r. HasFinding r finding)
+abbrev pub IsFoundOf : List (List ℕ) → Rules → Sessions → List Observed → Finding → Type 0
+IsFoundOf lasting rules sessions calls finding = OfShown lasting rules sessions calls (λ r. HasFinding r finding)

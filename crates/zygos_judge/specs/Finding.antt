@@ -1,14 +1,18 @@
 -- What is found of a recording: that some order explains it, that none does, or neither.
-use Rattle.std.specs.Prelude.{◌≡◌, ℕ, ◌+◌, true, List, length, ⊤}
+use Rattle.std.specs.Prelude.{◌≡◌, ℕ, ◌+◌, Bool, true, false, List, ◌++◌, length, ⊤}
 use Rattle.mc_allows.specs.declared.call_name.CallName.{CallName}
 use Rattle.mc_parse.specs.declared.command.Command.{Command}
 use Rattle.zy_capture.specs.Outputs.{AllOutputs, AreOutputs}
 use Rattle.zy_explain.specs.declared.rules.Rules.{Rules}
-use Rattle.zy_explain.specs.Judged.{judged}
+use Rattle.zy_explain.specs.Judged.{judged, judged_after}
 use Rattle.zy_input.specs.Recording.{IsMadeOfRecording}
+use Rattle.zy_input.specs.Window.{IsMadeOfWindow}
+use Rattle.zy_items.specs.Items.{items_bytes}
+use Rattle.zy_items.specs.Standing.{Standing, IsStanding, nothing_standing}
 use Rattle.zy_outputs.specs.Observing.{IsRefutedByOutput, IsSurplus, IsEarlyEnd}
 use Rattle.zy_times.specs.InTime.{total_below}
 use Rattle.zy_verdict.specs.Recorded.{Recorded, session_commands}
+use Rattle.zy_verdict.specs.Between.{IsExplainedBetweenWith}
 use Rattle.zy_verdict.specs.Entries.{NamedCall, is_at_key}
 use Rattle.zy_verdict.specs.Explained.{IsExplained}
 use Rattle.zy_verdict.specs.Course.{IsCallOf, HasCourse}
@@ -28,6 +32,24 @@ pub record OfRecording (rules : Rules) (bytes : List ℕ) (Holds : Recorded → 
   pub made : IsMadeOfRecording bytes streams outputs
   pub lawful : AreOutputs outputs
   pub holds : Holds (judged rules made.of_capture.count made.of_capture.records outputs.sessions)
+
+-- the bytes are a capture, an items file and a replies file, one after the other, and `Holds` holds of their recording,
+-- by a server that may have been so, and of what the server had at first
+pub record OfWindow (rules : Rules) (bytes : List ℕ) (Holds : Recorded → Standing → Type 0) : Type 0 where
+  pub streams : List (List (List ℕ))
+  pub outputs : AllOutputs
+  pub from : Standing
+  pub made : IsMadeOfWindow bytes streams from outputs
+  pub lawful : AreOutputs outputs
+  pub valid : IsStanding from
+  pub holds : Holds
+      (judged_after from.lasting rules made.of_capture.count made.of_capture.records outputs.sessions) from
+
+-- `Holds` holds of the recording in the bytes and of what its server had at first: what an items file says if there is
+-- one, and otherwise nothing
+abbrev pub OfRequested : Bool → Rules → List ℕ → (Recorded → Standing → Type 0) → Type 0
+OfRequested true rules bytes Holds = OfWindow rules bytes Holds
+OfRequested false rules bytes Holds = OfRecording rules bytes (λ r. Holds r nothing_standing)
 
 -- ---- calls
 
@@ -82,3 +104,19 @@ abbrev pub HasFinding : Recorded → Finding → Type 0
 HasFinding r (Explained commands ended) = IsExplainedWith r commands ended
 HasFinding r (Refuted reason) = (IsExplained r → ⊥) × HasReason r reason
 HasFinding r (Unknown why) = ⊤
+
+-- ---- windows
+
+-- a line, and what the server has at last after it, if that is asked for
+abbrev pub text_with : Bool → List ℕ → Standing → List ℕ
+text_with true line to = line ++ items_bytes to
+text_with false line to = line
+
+-- the recording is explained from what its server had at first to what it has at last; `Writes` holds of the line, and of
+-- that if it is asked for
+pub record IsLed (asked : Bool) (Writes : List ℕ → Type 0) (line : List ℕ) (r : Recorded) (from : Standing)
+    (commands ended : ℕ) : Type 0 where
+  pub to : Standing
+  pub valid : IsStanding to
+  pub explained : IsExplainedBetweenWith r from to commands ended
+  pub written : Writes (text_with asked line to)

@@ -43,4 +43,4 @@ finding_line (Unknown why) = open_line why
 
 -- the line of an answer, if it is a failure
 abbrev pub line_for : Result Finding Failure → List ℕ
-line_for answer = said_line (codes "judge") (codes "[--warm] [--may-forget] [--shards N]") answer
+line_for answer = said_line (codes "judge") (codes "[--warm] [--may-forget] [--from] [--to] [--shards N]") answer

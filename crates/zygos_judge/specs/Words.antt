@@ -1,9 +1,10 @@
--- What the arguments request: the number of shards of the server that was recorded, and what that may have been.
-use Rattle.std.specs.Prelude.{ℕ, ◌≤◌, ◌&&◌, nat_le, true, false, List, [], ◌∷◌, length, codes}
+-- What the arguments request: the number of shards of the server that was recorded, what that may have been, and what is
+-- told of its items.
+use Rattle.std.specs.Prelude.{ℕ, ◌≤◌, ◌&&◌, ◌||◌, nat_le, Bool, true, false, List, [], ◌∷◌, length, codes}
 use Rattle.std.specs.Prelude.{Option, None, Some, is_some, if◌then◌else◌, option_and_then, option_map}
 use Rattle.std.specs.Str.{bytes_eq}
 use Rattle.zy_base.specs.Number.{number_of}
-use Rattle.zy_explain.specs.declared.rules.Rules.{Rules}
+use Rattle.zygos_judge.specs.declared.words.Task.{Task}
 use Rattle.zygos_judge.specs.declared.words.Told.{Told}
 
 -- ---- one word
@@ -21,12 +22,18 @@ abbrev pub with_shards : Told → List ℕ → Option Told
 with_shards told word = if is_some told.shards then None
     else option_map (λ number. record told { shards = Some number; waits = false }) (shards_in word)
 
--- the word is an option: `--warm`, `--may-forget` or `--shards`, whose number is the next word
+-- the word is an option of a window: `--from` or `--to`
+abbrev pub with_window : Told → List ℕ → Option Told
+with_window told word =
+    if bytes_eq word (codes "--from") then (if told.from then None else Some (record told { from = true }))
+    else (if bytes_eq word (codes "--to") then (if told.to then None else Some (record told { to = true })) else None)
+
+-- the word is an option: `--warm`, `--may-forget`, `--from`, `--to` or `--shards`, whose number is the next word
 abbrev pub with_option : Told → List ℕ → Option Told
 with_option told word =
     if bytes_eq word (codes "--warm") then (if told.warm then None else Some (record told { warm = true }))
     else (if bytes_eq word (codes "--may-forget") then (if told.forget then None else Some (record told { forget = true }))
-    else (if bytes_eq word (codes "--shards") then Some (record told { waits = true }) else None))
+    else (if bytes_eq word (codes "--shards") then Some (record told { waits = true }) else with_window told word))
 
 -- one more word is read
 abbrev pub with_word : Told → List ℕ → Option Told
@@ -36,7 +43,7 @@ with_word told word = if told.waits then with_shards told word else with_option 
 
 -- nothing was read
 abbrev pub nothing_told : Told
-nothing_told = record { shards = None; warm = false; forget = false; waits = false }
+nothing_told = record { shards = None; warm = false; forget = false; from = false; to = false; waits = false }
 
 -- what these words add to what was read
 abbrev pub told_after : Told → List (List ℕ) → Option Told
@@ -48,15 +55,23 @@ abbrev pub shards_or : Option ℕ → ℕ
 shards_or None = 16
 shards_or (Some number) = number
 
--- what was requested, unless a number is still awaited
-abbrev pub rules_told : Told → Option Rules
-rules_told told = if told.waits then None
-    else Some (record { shards = shards_or told.shards; warm = told.warm; forget = told.forget })
+-- what was requested, unless a number is still awaited; a server whose items are told did not begin with unknown ones
+abbrev pub task_told : Told → Option Task
+task_told told = if told.waits || (told.warm && (told.from || told.to)) then None
+    else Some (record {
+      rules = record { shards = shards_or told.shards; warm = told.warm || told.from; forget = told.forget };
+      from = told.from;
+      to = told.to;
+    })
 
--- what the words request: `--warm`, `--may-forget` and `--shards N`, in any order, each at most once; `None` if they are
--- not valid
-abbrev pub rules_asked : List (List ℕ) → Option Rules
-rules_asked words = option_and_then rules_told (told_after nothing_told words)
+-- what the words request: `--warm`, `--may-forget`, `--from`, `--to` and `--shards N`, in any order, each at most once,
+-- and `--warm` with none of the other two; `None` if they are not valid
+abbrev pub task_asked : List (List ℕ) → Option Task
+task_asked words = option_and_then task_told (told_after nothing_told words)
+
+-- a window of a longer recording: what the server had at first is told, or what it has at last is asked for
+abbrev pub is_window : Task → Bool
+is_window task = task.from || task.to
 
 -- ---- ranges
 

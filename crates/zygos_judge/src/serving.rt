@@ -12,8 +12,9 @@ ghost use Rattle.zy_verdict.specs.Explained.{IsExplained};
 ghost use Rattle.zy_verdict.specs.Numbers.{IsExplainedWith};
 ghost use Rattle.zygos_judge.specs.declared.finding.Finding.TheVariants.{Explained, Refuted, Unknown};
 ghost use Rattle.zygos_judge.specs.declared.finding.Reason.TheVariants.{Kind, Surplus, EarlyEnd, Unmet, Shared};
-ghost use Rattle.zygos_judge.specs.Words.{rules_asked};
-ghost use Rattle.zygos_judge.specs.Ends.{recording_with, Finds, JudgesAs, JudgesPart, IsJudgedOr};
+ghost use Rattle.zygos_judge.specs.Words.{task_asked};
+ghost use Rattle.zygos_judge.specs.Ends.{recording_with, Finds, LeadsOn, JudgesAs, JudgesPart, IsJudgedOr};
+ghost use Rattle.zygos_judge.specs.Ends.{WritesFirst};
 ghost use Rattle.zygos_judge.specs.Finding.{IsRefutedCommand, IsWithoutCourse};
 ghost use Rattle.zygos_judge.specs.Lines.{finding_line, line_for};
 
@@ -28,6 +29,11 @@ use zy_shell::{Failure, say};
 /// `words` are the arguments: `--warm`, `--may-forget` and `--shards N`. A capture and a replies file
 /// are read from `source` to its end, and one line is written to `sink`, which is finished once.
 ///
+/// With `--from` or `--to` the recording is a window of a longer one. With `--from` an items file
+/// stands between the two files: what the server had at first. Otherwise it had nothing then. With
+/// `--to` an items file follows a line that says yes: what the server has at last. With `--from` a no is
+/// said only if no order explains the recording whatever items the server had at first.
+///
 /// The line of a failure goes to `says`; a failure there changes nothing. The
 /// answer may always be `Err(OutOfMemory)`, but only before the first byte is written. Nothing is
 /// promised of when the answer is `Unknown`.
@@ -40,64 +46,68 @@ pub fn serve_judge<S: Source, K: Sink, E: Sink>(
 ) -> Result<Finding, Failure>
     // What is found, for the bytes that the source gave: `r` is the recording in them.
     ensures yes { (commands ended : ℕ) → result ≡ Ok (Explained commands ended)
-        → Finds (rules_asked words.now) (OfGiven (side S.rest S.faults source.old source.new))
+        → Finds (task_asked words.now) (OfGiven (side S.rest S.faults source.old source.new))
         (λ r. IsExplainedWith r commands ended)
-        (WasWritten (side K.holds K.faults sink.old sink.new) (finding_line (Explained commands ended))) }
+        (WritesFirst (task_asked words.now) (side K.holds K.faults sink.old sink.new)
+        (finding_line (Explained commands ended))) }
+    ensures between { (commands ended : ℕ) → result ≡ Ok (Explained commands ended)
+        → LeadsOn (task_asked words.now) (OfGiven (side S.rest S.faults source.old source.new))
+        (WasWritten (side K.holds K.faults sink.old sink.new)) commands ended }
     ensures no { (reason : _) → result ≡ Ok (Refuted reason)
-        → Finds (rules_asked words.now) (OfGiven (side S.rest S.faults source.old source.new))
+        → Finds (task_asked words.now) (OfGiven (side S.rest S.faults source.old source.new))
         (λ r. IsExplained r → ⊥)
         (WasWritten (side K.holds K.faults sink.old sink.new) (finding_line (Refuted reason))) }
     ensures kind { (conn command : ℕ) → result ≡ Ok (Refuted (Kind conn command))
-        → Finds (rules_asked words.now) (OfGiven (side S.rest S.faults source.old source.new))
+        → Finds (task_asked words.now) (OfGiven (side S.rest S.faults source.old source.new))
         (λ r. IsRefutedCommand r conn command)
         (WasWritten (side K.holds K.faults sink.old sink.new) (finding_line (Refuted (Kind conn command)))) }
     ensures surplus { (conn session : ℕ) → result ≡ Ok (Refuted (Surplus conn session))
-        → Finds (rules_asked words.now) (OfGiven (side S.rest S.faults source.old source.new))
+        → Finds (task_asked words.now) (OfGiven (side S.rest S.faults source.old source.new))
         (λ r. IsSurplus r conn session)
         (WasWritten (side K.holds K.faults sink.old sink.new) (finding_line (Refuted (Surplus conn session)))) }
     ensures early_end { (mark : ℕ) → result ≡ Ok (Refuted (EarlyEnd mark))
-        → Finds (rules_asked words.now) (OfGiven (side S.rest S.faults source.old source.new))
+        → Finds (task_asked words.now) (OfGiven (side S.rest S.faults source.old source.new))
         (λ r. IsEarlyEnd r mark)
         (WasWritten (side K.holds K.faults sink.old sink.new) (finding_line (Refuted (EarlyEnd mark)))) }
     ensures unmet { (conn command part : ℕ) → result ≡ Ok (Refuted (Unmet conn command part))
-        → Finds (rules_asked words.now) (OfGiven (side S.rest S.faults source.old source.new))
+        → Finds (task_asked words.now) (OfGiven (side S.rest S.faults source.old source.new))
         (λ r. IsWithoutCourse r conn command part)
         (WasWritten (side K.holds K.faults sink.old sink.new) (finding_line (Refuted (Unmet conn command part)))) }
     ensures shared { (conn command part : ℕ) → result ≡ Ok (Refuted (Shared conn command part))
-        → Finds (rules_asked words.now) (OfGiven (side S.rest S.faults source.old source.new))
+        → Finds (task_asked words.now) (OfGiven (side S.rest S.faults source.old source.new))
         (λ r. IsWithoutCourse r conn command part)
         (WasWritten (side K.holds K.faults sink.old sink.new) (finding_line (Refuted (Shared conn command part)))) }
     ensures unknown { (why : _) → result ≡ Ok (Unknown why)
-        → Finds (rules_asked words.now) (OfGiven (side S.rest S.faults source.old source.new)) (λ r. ⊤)
+        → Finds (task_asked words.now) (OfGiven (side S.rest S.faults source.old source.new)) (λ r. ⊤)
         (WasWritten (side K.holds K.faults sink.old sink.new) (finding_line (Unknown why))) }
 
     // The headline: the same for the bytes that the source reported.
     ensures headline { (finding : _) → result ≡ Ok finding
-        → JudgesAs (rules_asked words.now) (OfTold (side S.rest S.faults source.old source.new))
+        → JudgesAs (task_asked words.now) (OfTold (side S.rest S.faults source.old source.new))
         (WasWritten (side K.holds K.faults sink.old sink.new)) finding }
 
     // The other answers, each with its cause.
-    ensures usage { result ≡ Err Usage → rules_asked words.now ≡ None }
-    ensures unlawful { rules_asked words.now ≡ None → IsThisOr Usage result }
+    ensures usage { result ≡ Err Usage → task_asked words.now ≡ None }
+    ensures unlawful { task_asked words.now ≡ None → IsThisOr Usage result }
     ensures refused { (r : _) → result ≡ Err (Rejected r)
-        → IsFaultOf (recording_with (rules_asked words.now)) (S.rest source.old) r }
+        → IsFaultOf (recording_with (task_asked words.now)) (S.rest source.old) r }
     ensures read_fault { result ≡ Err ReadFault
-        → ReadsInput (recording_with (rules_asked words.now)) × Rose (S.faults source.old) (S.faults source.new) }
+        → ReadsInput (recording_with (task_asked words.now)) × Rose (S.faults source.old) (S.faults source.new) }
     ensures write_fault { result ≡ Err WriteFault → Rose (K.faults sink.old) (K.faults sink.new) }
-    ensures write_part { result ≡ Err WriteFault → JudgesPart (rules_asked words.now)
+    ensures write_part { result ≡ Err WriteFault → JudgesPart (task_asked words.now)
         (both_sides (side S.rest S.faults source.old source.new) (side K.holds K.faults sink.old sink.new)) }
 
     // When the answer must come, unless memory runs out.
-    ensures complete { IsToldGood (recording_with (rules_asked words.now)) (S.rest source.old)
+    ensures complete { IsToldGood (recording_with (task_asked words.now)) (S.rest source.old)
         → NoneRose (both_sides (side S.rest S.faults source.old source.new) (side K.holds K.faults sink.old sink.new))
         → IsJudgedOr result }
-    ensures refuses { (r : _) → IsToldBad (recording_with (rules_asked words.now)) (S.rest source.old) r
+    ensures refuses { (r : _) → IsToldBad (recording_with (task_asked words.now)) (S.rest source.old) r
         → NoneRose (both_sides (side S.rest S.faults source.old source.new) (side K.holds K.faults sink.old sink.new))
         → IsThisOr (Rejected r) result }
 
     // What stays.
     ensures sink_kept { LeavesSink result → sink.new ≡ sink.old }
-    ensures source_kept { rules_asked words.now ≡ None → source.new ≡ source.old }
+    ensures source_kept { task_asked words.now ≡ None → source.new ≡ source.old }
     ensures reads { S.faults source.old ≤ S.faults source.new }
     ensures writes { K.faults sink.old ≤ K.faults sink.new }
 
@@ -112,7 +122,7 @@ pub fn serve_judge<S: Source, K: Sink, E: Sink>(
     say(
         says,
         b"judge",
-        b"[--warm] [--may-forget] [--shards N]",
+        b"[--warm] [--may-forget] [--from] [--to] [--shards N]",
         &answer,
     );
     answer

@@ -1,6 +1,7 @@
 //! What the arguments request.
 ghost use Rattle.std.specs.Prelude.{◌≡◌, IfSome};
-ghost use Rattle.zygos_judge.specs.Words.{IsShardCount, IsToldWithin, rules_asked, rules_told, shards_in, with_option, with_shards, with_word};
+ghost use Rattle.zygos_judge.specs.Words.{IsShardCount, IsToldWithin, task_asked, task_told, shards_in};
+ghost use Rattle.zygos_judge.specs.Words.{with_option, with_shards, with_window, with_word};
 
 use zy_base::{Blob, SHARD_LIMIT, read_number};
 use zy_explain::Rules;
@@ -14,19 +15,36 @@ pub(crate) struct Told {
     pub(crate) warm: bool,
     /// `--may-forget` was given.
     pub(crate) forget: bool,
+    /// `--from` was given.
+    pub(crate) from: bool,
+    /// `--to` was given.
+    pub(crate) to: bool,
     /// The next word is the number of shards.
     pub(crate) waits: bool,
 }
 
+/// What the words request.
+#[derive(Clone, Copy)]
+pub(crate) struct Task {
+    /// What the server may have been.
+    pub(crate) rules: Rules,
+    /// What it had at first is a part of the input.
+    pub(crate) from: bool,
+    /// What it has at last is written after a yes.
+    pub(crate) to: bool,
+}
+
 /// Returns what the words request; `None` if they are not valid.
-pub(crate) fn rules_asked(words: &[Blob]) -> Option<Rules>
-    ensures value { result ≡ rules_asked words.now }
-    ensures shards { IfSome result (λ rules. IsShardCount rules.shards) }
+pub(crate) fn task_asked(words: &[Blob]) -> Option<Task>
+    ensures value { result ≡ task_asked words.now }
+    ensures shards { IfSome result (λ task. IsShardCount task.rules.shards) }
 {
     let mut told = Told {
         shards: None,
         warm: false,
         forget: false,
+        from: false,
+        to: false,
         waits: false,
     };
     for word in words {
@@ -35,22 +53,27 @@ pub(crate) fn rules_asked(words: &[Blob]) -> Option<Rules>
             None => return None,
         }
     }
-    rules_told(told)
+    task_told(told)
 }
 
-// Returns what was requested, unless a number is still awaited.
-fn rules_told(told: Told) -> Option<Rules>
+// Returns what was requested, unless a number is still awaited. A server whose items are told, at first
+// or at last, did not begin with unknown ones.
+fn task_told(told: Told) -> Option<Task>
     requires shards { IsToldWithin told }
-    ensures value { result ≡ rules_told told }
-    ensures shards { IfSome result (λ rules. IsShardCount rules.shards) }
+    ensures value { result ≡ task_told told }
+    ensures shards { IfSome result (λ task. IsShardCount task.rules.shards) }
 {
-    if told.waits {
+    if told.waits || (told.warm && (told.from || told.to)) {
         return None;
     }
-    Some(Rules {
-        shards: told.shards.unwrap_or(16),
-        warm: told.warm,
-        forget: told.forget,
+    Some(Task {
+        rules: Rules {
+            shards: told.shards.unwrap_or(16),
+            warm: told.warm || told.from,
+            forget: told.forget,
+        },
+        from: told.from,
+        to: told.to,
     })
 }
 
@@ -79,9 +102,8 @@ fn with_shards(told: Told, word: &[u8]) -> Option<Told>
     match shards_in(word) {
         Some(number) => Some(Told {
             shards: Some(number),
-            warm: told.warm,
-            forget: told.forget,
             waits: false,
+            ..told
         }),
         None => None,
     }
@@ -110,6 +132,30 @@ fn with_option(told: Told, word: &[u8]) -> Option<Told>
     }
     if word == b"--shards".as_slice() {
         next.waits = true;
+        return Some(next);
+    }
+    with_window(told, word)
+}
+
+// Reads an option of a window.
+fn with_window(told: Told, word: &[u8]) -> Option<Told>
+    requires shards { IsToldWithin told }
+    ensures value { result ≡ with_window told word.now }
+    ensures shards { IfSome result (λ next. IsToldWithin next) }
+{
+    let mut next = told;
+    if word == b"--from".as_slice() {
+        if told.from {
+            return None;
+        }
+        next.from = true;
+        return Some(next);
+    }
+    if word == b"--to".as_slice() {
+        if told.to {
+            return None;
+        }
+        next.to = true;
         return Some(next);
     }
     None

@@ -1,18 +1,32 @@
-//! Writing the line of a finding.
+//! Writing what was judged.
 ghost use Rattle.zy_base.specs.Outside.{Writes, WritesLast};
+ghost use Rattle.zygos_judge.specs.Input.{judged_text};
 ghost use Rattle.zygos_judge.specs.Lines.{call_line, command_line, finding_line, open_line, reason_line};
 
 use crate::finding::{Finding, Open, Reason};
+use crate::judged::Judged;
 use zy_base::{Failed, Sink};
+use zy_items::write_items;
 use zy_shell::{Piece, finish_written, write_line, write_number, write_two};
 
-/// Writes the line of a finding, and finishes.
-pub(crate) fn write_finding<K: Sink>(sink: &mut K, finding: Finding) -> Result<(), Failed>
+/// Writes what was judged, with what the server has at last if that is asked for, and finishes.
+pub(crate) fn write_judged<K: Sink>(sink: &mut K, to: bool, judged: &Judged) -> Result<(), Failed>
     ensures writes { WritesLast K.holds K.faults K.finishes K.is_finished sink.old sink.new result
-        (finding_line finding) }
+        (judged_text to judged.now) }
 {
-    let written = write_found(sink, finding);
+    let written = write_text(sink, to, judged);
     finish_written(sink, written)
+}
+
+// Writes what was judged.
+fn write_text<K: Sink>(sink: &mut K, to: bool, judged: &Judged) -> Result<(), Failed>
+    ensures writes { Writes K.holds K.faults K.finishes sink.old sink.new result (judged_text to judged.now) }
+{
+    write_found(sink, judged.finding())?;
+    match judged {
+        Judged::Window(led) if to => write_items(sink, &led.to),
+        _ => Ok(()),
+    }
 }
 
 // Writes the line of a finding.

@@ -5,5 +5,5 @@ use Rattle.zygos_judge.proofs.refuting.refute.Given as goal
 -- what was refuted so far is a culprit
 abbrev pub invariant-loop-at : goal.invariant-loop-at
 invariant-loop-at l = record {
-  culprit : IfSome l.first (λ refuted. IsCulprit l.rules l.sessions l.calls refuted.name);
+  culprit : IfSome l.first (λ refuted. IsCulprit l.lasting.keys l.rules l.sessions l.calls refuted.name);
 }
