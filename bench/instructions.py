@@ -40,15 +40,15 @@ ALONE = ["run", "--cores", "1", "--threads", "1"]
 BOTH = [*ALONE, "--out", "both"]
 # For --check, the number of commands and the bounds on the instructions of one: 3 % more than it takes.
 FEW = 20_000
-MOST = {common.GENERATED: {"run": 5_440, "both": 7_310, "check": 10_310},
-        common.CACHE: {"run": 2_620, "both": 3_150, "check": 6_240},
-        "recorded": {"linear": 7_020, "judge": 10_770}}
+MOST = {common.GENERATED: {"run": 5_440, "both": 7_310, "check": 8_700},
+        common.CACHE: {"run": 2_390, "both": 2_920, "check": 4_400},
+        "recorded": {"linear": 5_350, "judge": 10_770}}
 # The same for resident bytes: 10 % more than it takes. Of few commands they would be those of this script.
 MANY = 100_000
 MOST_BYTES = {common.GENERATED: {"run": 804, "check": 1_370}, common.CACHE: {"run": 603, "check": 900}}
 # The caches that cachegrind simulates: the first with 32 KiB, the second with 1 MiB. The same bound for misses of the second.
 CACHES = ["--cache-sim=yes", "--I1=32768,8,64", "--D1=32768,8,64", "--LL=1048576,16,64"]
-MOST_MISSES = {common.GENERATED: 30.6, common.CACHE: 19.0}
+MOST_MISSES = {common.GENERATED: 27.4, common.CACHE: 16.4}
 # The groups of bench/figures.json.
 GROUPS = {common.GENERATED: "instructions", common.CACHE: "instructions, cache"}
 # The functions by which a segment is fed.

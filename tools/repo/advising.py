@@ -17,6 +17,8 @@ from zygos_tools.cli import advice
 from zygos_tools.files import kinds
 
 JOURNAL = re.compile(r"\w+: journal: (form|truncated) ")
+ITEMS = re.compile(r"\w+: items: (form|truncated) ")
+OF_WINDOW = "give a capture, an items file and a replies file, in this order; judge --to writes the items file"
 OF_JOURNAL = {"report": "give only a journal, which tools/part journal cuts out of what zygos run --out both writes"}
 IN_ORDER = "give a capture, a journal and a replies file, in this order; zygos run --out both writes the last two"
 # a capture of no connection, as pcap writes it if no packet goes to the port
@@ -34,6 +36,8 @@ def advice_on(command, line):
     """The advice on a line of the program, or None."""
     if JOURNAL.match(line):
         return OF_JOURNAL.get(command, IN_ORDER)
+    if ITEMS.match(line):
+        return OF_WINDOW
     return advice.advice_on(re.sub(r"^\w+: ", "", line))
 
 
