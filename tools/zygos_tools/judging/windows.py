@@ -169,7 +169,7 @@ class Judging:
         return left
 
     def ask(self, kept: Kept, most: int) -> set[int]:
-        """Asks the proved program about each window by itself, so many at a time. Keeps the orders that it finds, and gives
+        """Asks the proved program about each window by itself, several at a time. Keeps the orders that it finds, and gives
         the windows that it refutes."""
         left, refuted = self.left(kept), set()
         files = {window.number: kept.files_of(window) for window, _ in left}
@@ -183,7 +183,7 @@ class Judging:
         return refuted
 
     def search(self, kept: Kept, most: int) -> None:
-        """Judges each complete window without a result by itself, so many at a time."""
+        """Judges each complete window without a result by itself, several at a time."""
         left = self.left(kept)
         files = {window.number: kept.files_of(window) for window, _ in left}
         self.screen.show(f"{counted(len(left), 'window')} to judge")
