@@ -121,3 +121,47 @@ fn a_first_item_is_what_remains_of_a_joined_value(rt: HostRuntime) {
     assert!(rt; is_found_from(rt.alloc(), true, &calls, &[0, 1, 3, 2]));
     assert!(rt; matches!(found_in(rt.alloc(), false, &calls), Ok(None)));
 }
+
+// Checks whether the call of connection 0 comes first, if the key may have an item at first.
+fn begins(alloc: Global, did: Did, then: Did) -> bool {
+    let calls = [recorded(0, did, 1, 3), recorded(1, then, 4, 6)];
+    is_found_from(alloc, true, &calls, &[0, 1])
+}
+
+#[test]
+fn a_count_without_an_answer_changed_the_item_that_is_shown(rt: HostRuntime) {
+    assert!(rt; begins(rt.alloc(), Did::SilentlyCounted(2), Did::Got(b'5')));
+}
+
+#[test]
+fn a_count_without_an_answer_found_no_number_in_the_item_that_is_shown(rt: HostRuntime) {
+    assert!(rt; begins(rt.alloc(), Did::SilentlyCounted(2), Did::Got(b'a')));
+}
+
+#[test]
+fn a_replace_without_an_answer_found_no_item_if_none_is_there_then(rt: HostRuntime) {
+    assert!(rt; begins(rt.alloc(), Did::SilentlyReplaced(b'a'), Did::Missed));
+    assert!(rt; begins(rt.alloc(), Did::SilentlyReplaced(b'a'), Did::Got(b'a')));
+}
+
+#[test]
+fn an_add_without_an_answer_found_the_item_that_is_shown(rt: HostRuntime) {
+    assert!(rt; begins(rt.alloc(), Did::SilentlyAdded(b'a'), Did::Got(b'b')));
+    assert!(rt; begins(rt.alloc(), Did::SilentlyAdded(b'a'), Did::Got(b'a')));
+}
+
+#[test]
+fn an_append_without_an_answer_was_made_to_what_remains(rt: HostRuntime) {
+    assert!(rt; begins(rt.alloc(), Did::SilentlyAppended(b'a'), Did::Got(b'a')));
+}
+
+#[test]
+fn an_item_that_is_only_named_was_there_before_calls_without_an_answer(rt: HostRuntime) {
+    let calls = [
+        recorded(0, Did::SilentlyCounted(2), 1, 3),
+        recorded(1, Did::NotAdded(b'a'), 4, 6),
+        recorded(2, Did::Set(b'c'), 7, 9),
+        recorded(3, Did::Got(b'c'), 10, 12),
+    ];
+    assert!(rt; is_found_from(rt.alloc(), true, &calls, &[0, 1, 2, 3]));
+}

@@ -25,6 +25,14 @@ pub(crate) enum Did {
     Appended(u8),
     /// An append of this value that failed.
     Failed(u8),
+    /// An add of this value without an answer.
+    SilentlyAdded(u8),
+    /// A replace by this value without an answer.
+    SilentlyReplaced(u8),
+    /// An append of this value without an answer.
+    SilentlyAppended(u8),
+    /// An addition of this number without an answer.
+    SilentlyCounted(u64),
 }
 
 /// A call of a connection: what it does, and the moments of its sending and its end.
@@ -56,7 +64,7 @@ fn call_of(alloc: Global, did: Did) -> Result<Call, NoMemory> {
                 Err(refused)
             }
         },
-        Did::NotAdded(value) => match byte(alloc, value) {
+        Did::NotAdded(value) | Did::SilentlyAdded(value) => match byte(alloc, value) {
             Ok(value) => Ok(Call::Add {
                 key,
                 flags: 0,
@@ -67,7 +75,21 @@ fn call_of(alloc: Global, did: Did) -> Result<Call, NoMemory> {
                 Err(refused)
             }
         },
-        Did::Appended(value) | Did::Failed(value) => match byte(alloc, value) {
+        Did::SilentlyCounted(amount) => Ok(Call::Incr { key, amount }),
+        Did::SilentlyReplaced(value) => match byte(alloc, value) {
+            Ok(value) => Ok(Call::Replace {
+                key,
+                flags: 0,
+                value,
+            }),
+            Err(refused) => {
+                drop(key);
+                Err(refused)
+            }
+        },
+        Did::Appended(value) | Did::Failed(value) | Did::SilentlyAppended(value) => match byte(
+            alloc, value,
+        ) {
             Ok(value) => Ok(Call::Append { key, value }),
             Err(refused) => {
                 drop(key);
@@ -87,6 +109,10 @@ fn shown_of(alloc: Global, did: Did) -> Result<Shown, NoMemory> {
         Did::Missed => CallReply::Miss,
         Did::Set(_) | Did::Appended(_) => CallReply::Stored,
         Did::Failed(_) => return Ok(Shown::Failure),
+        Did::SilentlyAdded(_)
+        | Did::SilentlyReplaced(_)
+        | Did::SilentlyAppended(_)
+        | Did::SilentlyCounted(_) => return Ok(Shown::NoFailure),
         Did::NotAdded(_) => CallReply::NotStored,
         Did::Deleted => CallReply::Deleted,
     };

@@ -2,6 +2,7 @@
 
 use crate::key_lists::KeyList;
 use crate::pass::{Failure, Given};
+use crate::settling::Piece;
 use mc_calls::Call;
 use std::alloc::Global;
 use zy_base::NoMemory;
@@ -76,16 +77,46 @@ impl Around {
         self.from == 0 && self.until == u64::MAX
     }
 
-    // Finds an order of these calls, and lowers `left` by the number of calls that it looked at.
-    pub(crate) fn order(
+    // Finds an order of these calls, and lowers `left` by the number of calls that it looked at. If these
+    // begin at first, the key may have had something else than was guessed.
+    pub(crate) fn piece(
         self,
         alloc: Global,
         given: Given<'_>,
         open: Open<'_>,
         most: usize,
         left: &mut usize,
+    ) -> Result<Option<Piece>, NoMemory> {
+        let key = open.failure.key;
+        let is_guessed = given.learned.guesses.is_guessed(key);
+        let mut unguessed = false;
+        let mut found = self.order(alloc, given, open, true, most, left)?;
+        if found.is_none() && is_guessed && self.from == 0 {
+            unguessed = true;
+            found = self.order(alloc, given, open, false, most, left)?;
+        }
+        match found {
+            Some(calls) => Ok(Some(Piece {
+                key,
+                last: self.last,
+                calls,
+                unguessed,
+            })),
+            None => Ok(None),
+        }
+    }
+
+    // Finds an order of these calls; if not `guessed`, the key may have had anything at first.
+    fn order(
+        self,
+        alloc: Global,
+        given: Given<'_>,
+        open: Open<'_>,
+        guessed: bool,
+        most: usize,
+        left: &mut usize,
     ) -> Result<Option<Vec<u32>>, NoMemory> {
-        let begun = self.begun(alloc, given, open)?;
+        let begun = self.begun(alloc, given, open, guessed)?;
         let mut list = Vec::new(alloc);
         let found = match self.add_calls(given, open, &mut list) {
             Ok(()) => self.look(alloc, given, open, &begun, &list, most, left),
@@ -152,13 +183,22 @@ impl Around {
     }
 
     // Returns what the key has before these calls.
-    fn begun(self, alloc: Global, given: Given<'_>, open: Open<'_>) -> Result<Begun, NoMemory> {
+    fn begun(
+        self,
+        alloc: Global,
+        given: Given<'_>,
+        open: Open<'_>,
+        guessed: bool,
+    ) -> Result<Begun, NoMemory> {
         let made = open.list.made.as_slice();
         let key = given.get(open.failure.call).and_then(|one| one.call.key());
-        let mut begun = Begun {
-            held: given.rules.firsts().at(key)?,
-            maker: NONE,
+        let firsts = given.rules.firsts();
+        let held = if guessed {
+            given.learned.guesses.held(firsts, open.failure.key, key)?
+        } else {
+            firsts.at(key)?
         };
+        let mut begun = Begun { held, maker: NONE };
         let from = self.last_set(given, made);
         let taken = begun.add_all(alloc, given, open.forget, made, from, self.from);
         match taken {

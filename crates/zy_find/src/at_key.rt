@@ -1,10 +1,11 @@
 //! A key while calls are made.
 
+use crate::pass::Given;
 use std::alloc::Global;
 use zy_base::NoMemory;
 use zy_refute::Observed;
-use zy_search::{Decided, FirstItem, Firsts, Held, first_item, held_after};
-use zy_sources::{Keys, NONE, expected, found_another, mixed, unique_hash};
+use zy_search::{Decided, FirstItem, Held, first_item, held_after};
+use zy_sources::{NONE, expected, found_another, mixed, small, unique_hash};
 
 // How many uniques are noted that an item does not have.
 const MOST_OTHERS: usize = 64;
@@ -33,14 +34,9 @@ pub(crate) struct AtKey {
 }
 
 /// Returns all keys, before any call. May answer `NoMemory`.
-pub(crate) fn keys_at_first(
-    alloc: Global,
-    firsts: Firsts<'_>,
-    observed: &[Observed],
-    known: &Keys,
-) -> Result<Vec<AtKey>, NoMemory> {
+pub(crate) fn keys_at_first(alloc: Global, given: Given<'_>) -> Result<Vec<AtKey>, NoMemory> {
     let mut keys = Vec::new(alloc);
-    match add_keys(alloc, firsts, observed, known, &mut keys) {
+    match add_keys(alloc, given, &mut keys) {
         Ok(()) => Ok(keys),
         Err(refused) => {
             drop(keys);
@@ -49,16 +45,11 @@ pub(crate) fn keys_at_first(
     }
 }
 
-fn add_keys(
-    alloc: Global,
-    firsts: Firsts<'_>,
-    observed: &[Observed],
-    known: &Keys,
-    keys: &mut Vec<AtKey>,
-) -> Result<(), NoMemory> {
+fn add_keys(alloc: Global, given: Given<'_>, keys: &mut Vec<AtKey>) -> Result<(), NoMemory> {
+    let known = &given.links.keys;
     for number in 0..known.first.len() {
         let call = known.first[number];
-        let (shard, key) = match observed.get(call as usize) {
+        let (shard, key) = match given.get(call) {
             Some(one) => (one.shard, one.call.key()),
             None => (NONE, None),
         };
@@ -66,14 +57,28 @@ fn add_keys(
             Some(forget) => *forget,
             None => false,
         };
-        let held = firsts.at(key)?;
-        keys.push(at_first(alloc, held, call, shard, forget))?;
+        let guesses = &given.learned.guesses;
+        let first = guesses.item(small(number))?;
+        match guesses.held(given.rules.firsts(), small(number), key) {
+            Ok(held) => keys.push(at_first(alloc, held, first, call, shard, forget))?,
+            Err(refused) => {
+                drop(first);
+                return Err(refused);
+            }
+        }
     }
     Ok(())
 }
 
 // Returns a key before any call.
-fn at_first(alloc: Global, held: Held, call: u32, shard: u32, forget: bool) -> AtKey {
+fn at_first(
+    alloc: Global,
+    held: Held,
+    first: Option<FirstItem>,
+    call: u32,
+    shard: u32,
+    forget: bool,
+) -> AtKey {
     AtKey {
         call,
         held,
@@ -84,7 +89,7 @@ fn at_first(alloc: Global, held: Held, call: u32, shard: u32, forget: bool) -> A
         shard,
         forget,
         losses: 0,
-        first: None,
+        first,
         unique: None,
     }
 }

@@ -1,6 +1,7 @@
 //! Looking for an order of all calls.
 
 use crate::at_key::AtKey;
+use crate::guesses::Guesses;
 use crate::learned::Learned;
 use crate::order::{Found, Rules};
 use crate::pass::{Given, Pass};
@@ -60,7 +61,8 @@ fn find_with(
     links: &Links,
     most: usize,
 ) -> Result<Found, NoMemory> {
-    let mut learned = Learned::new(alloc, observed.len())?;
+    let guesses = Guesses::new(alloc, rules, observed, links)?;
+    let mut learned = Learned::new(alloc, observed.len(), guesses)?;
     let found = find_learning(alloc, rules, observed, links, &mut learned, most);
     drop(learned);
     found

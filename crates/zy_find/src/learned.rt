@@ -1,5 +1,6 @@
 //! What was learned from passes that failed.
 
+use crate::guesses::Guesses;
 use crate::settling::{Piece, Settled};
 use std::alloc::Global;
 use zy_base::NoMemory;
@@ -23,18 +24,24 @@ const NO_LESSON: Lesson = Lesson {
     failed: 0,
 };
 
-/// What was learned from passes that failed: which calls come before which, and how often a call failed.
+/// What was learned from passes that failed: which calls come before which, how often a call failed, and of
+/// which keys the guess is left of what they had at first.
 #[derive(Drop)]
 pub(crate) struct Learned {
     lessons: Vec<Lesson>,
+    pub(crate) guesses: Guesses,
 }
 
 impl Learned {
-    // Begins with nothing.
-    pub(crate) fn new(alloc: Global, count: usize) -> Result<Learned, NoMemory> {
-        Ok(Learned {
-            lessons: Vec::from_elem(alloc, NO_LESSON, count)?,
-        })
+    // Begins with guesses.
+    pub(crate) fn new(alloc: Global, count: usize, guesses: Guesses) -> Result<Learned, NoMemory> {
+        match Vec::from_elem(alloc, NO_LESSON, count) {
+            Ok(lessons) => Ok(Learned { lessons, guesses }),
+            Err(_) => {
+                drop(guesses);
+                Err(NoMemory)
+            }
+        }
     }
 
     fn of(&self, call: u32) -> Lesson {
@@ -66,6 +73,9 @@ impl Learned {
         }
         for piece in &settled.pieces {
             self.learn(observed, piece);
+            if piece.unguessed {
+                self.guesses.forget(piece.key);
+            }
         }
     }
 

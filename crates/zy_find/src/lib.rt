@@ -6,6 +6,7 @@ mod around;
 mod at_key;
 mod before;
 mod finding;
+mod guesses;
 mod helping;
 mod key_lists;
 mod learned;

@@ -110,12 +110,7 @@ impl<'a> Given<'a> {
 impl Pass {
     // Begins before any call.
     pub(crate) fn new(alloc: Global, given: Given<'_>) -> Result<Pass, NoMemory> {
-        let keys = keys_at_first(
-            alloc,
-            given.rules.firsts(),
-            given.observed,
-            &given.links.keys,
-        )?;
+        let keys = keys_at_first(alloc, given)?;
         match Table::new(alloc) {
             Ok(shown) => Pass::with_calls(alloc, given, keys, shown),
             Err(refused) => {

@@ -16,8 +16,11 @@ const LEVELS: u32 = 10;
 /// A piece of the order of the calls at a key, and the change before it.
 #[derive(Drop)]
 pub(crate) struct Piece {
+    pub(crate) key: u32,
     pub(crate) last: u32,
     pub(crate) calls: Vec<u32>,
+    /// It begins with anything at the key, whatever was guessed.
+    pub(crate) unguessed: bool,
 }
 
 /// Pieces of orders, and a call at each of the keys without an order.
@@ -158,11 +161,8 @@ impl Settled {
             }
             let around = Around::of(given, open, level);
             self.left = self.left.saturating_sub(open.list.sent.len());
-            if let Some(calls) = around.order(alloc, given, open, most, &mut self.left)? {
-                self.pieces.push(Piece {
-                    last: around.last,
-                    calls,
-                })?;
+            if let Some(piece) = around.piece(alloc, given, open, most, &mut self.left)? {
+                self.pieces.push(piece)?;
                 return Ok(around.until);
             }
             if around.is_all() {

@@ -14,6 +14,16 @@ pub struct FirstItem {
     pub value: Blob,
 }
 
+impl FirstItem {
+    /// Copies it. May answer `NoMemory`.
+    pub fn copy(&self) -> Result<FirstItem, NoMemory> {
+        Ok(FirstItem {
+            flags: self.flags,
+            value: self.value.copy()?,
+        })
+    }
+}
+
 // The value of a first item that no answer shows: it is no number.
 const UNSEEN: [u8; 1] = *b"x";
 

@@ -121,6 +121,12 @@ pub(crate) fn first_known(item: &Item) -> Result<Held, NoMemory> {
     }))
 }
 
+/// Makes a first item whose unique is not known. May answer `NoMemory`.
+pub fn held_at_first(flags: u32, value: &Blob) -> Result<Held, NoMemory> {
+    let value = value.copy()?;
+    Ok(stored(flags, value, AT_FIRST))
+}
+
 // Makes the item that a call brings, stored at this offset.
 pub(crate) fn brought(call: &Call, origin: usize) -> Result<Held, NoMemory> {
     match (call.flags(), call.value()) {
