@@ -38,49 +38,16 @@ import time
 
 import chart
 import common
-from zygos_tools.files.formats import Hold, capture, journal_records, read_capture, segment
+import kinds
+from zygos_tools.files.formats import Hold, journal_records
 from zygos_tools.files.part import Part
 
-MOST, NUMBERS = 4, 4096
+MOST = 4
 THREADS = (1, 2, 3, 4)
-SEGMENT = 1400
 SIZES = ("1", "2-3", "4-7", "8-15", "16-31", "32-63", "64")
 RESTS, RESTING, PIECES, PAUSE = (0, 100), (2, 4), 20, 0.1
 TOLD = {"even": "even", "skewed": "skewed: all at home at core 0", "large": "segments of 1,400 bytes"}
 COLOURS = {"even": chart.BLUE, "skewed": chart.ORANGE, "large": chart.GREEN}
-
-
-# ---- the kinds of capture
-
-
-def at_core_0(conn):
-    """A number for each connection whose home is core 0 of 1, 2, 3 and 4 cores: the home of connection c of n cores is
-    c modulo 128 modulo n."""
-    return conn // 11 * 128 + conn % 11 * 12
-
-
-def in_turn(records):
-    """The streams of these segments, in segments of 1,400 bytes which come in turn."""
-    streams = {}
-    for conn, text in records:
-        streams.setdefault(conn, bytearray()).extend(text)
-    for at in range(0, max(map(len, streams.values())), SEGMENT):
-        for conn, text in sorted(streams.items()):
-            if at < len(text):
-                yield conn, bytes(text[at : at + SEGMENT])
-
-
-KINDS = {
-    "even": lambda records: records,
-    "skewed": lambda records: ((at_core_0(conn), text) for conn, text in records),
-    "large": in_turn,
-}
-
-
-def written(path, kind, records):
-    """Writes the capture of a kind."""
-    with open(path, "wb") as file:
-        file.write(capture(NUMBERS, [segment(conn, text) for conn, text in KINDS[kind](records)]))
 
 
 # ---- runs
@@ -172,7 +139,7 @@ def curve(costs, kind, commands):
 
 def picture(costs, commands, runs):
     """A chart of commands a second by threads, for all kinds; the dashed lines are multiples of one thread."""
-    curves = [curve(costs, kind, commands) for kind in KINDS]
+    curves = [curve(costs, kind, commands) for kind in kinds.KINDS]
     top = max(max(of.points[0][1] * MOST, *(point[3] for point in of.points)) for of in curves)
     drawn = chart.Chart(f"Serving {commands:,} commands of {common.CONNECTIONS} connections on 1 to {MOST} threads",
                         [common.machine_name(),
@@ -218,23 +185,22 @@ def main():
     words.of_traffic()
     words.add_argument("--commands", type=common.count, default=1_000_000)
     words.add_argument("--runs", type=common.count, default=5)
-    words.add_argument("--only", choices=[*KINDS, "rest"])
+    words.add_argument("--only", choices=[*kinds.KINDS, "rest"])
     words.add_argument("--picture")
     words.noting()
     given = words.given()
     program = common.built("zygos", given.program)
-    kinds = [given.only] if given.only and not given.picture else [*KINDS, "rest"]
+    asked = [given.only] if given.only and not given.picture else [*kinds.KINDS, "rest"]
     commands = max(1, given.commands // common.CONNECTIONS) * common.CONNECTIONS
     print(f"{commands} commands of {given.traffic} traffic, median of {given.runs} runs, {common.machine()}",
           flush=True)
     costs, plain = {}, {}
     with tempfile.TemporaryDirectory() as room:
         server = [common.plain(room), "--journal", "--threads"]
-        with open(common.made(given, program, os.path.join(room, "capture"), commands), "rb") as file:
-            records = read_capture(Part("capture", file.read())).records
-        for kind in kinds:
+        records = kinds.segments(common.made(given, program, os.path.join(room, "capture"), commands))
+        for kind in asked:
             path = os.path.join(room, kind)
-            written(path, "even" if kind == "rest" else kind, records)
+            kinds.write(path, "even" if kind == "rest" else kind, records)
             if kind == "rest":
                 with_rests(program, path, given.runs)
             else:
