@@ -290,6 +290,34 @@ def counters_from_before():
             same(f"after tools/warm, for {name}", "order found", verdict(warmed, outputs_of(other))[0])
 
 
+class Padding(Memcached):
+    """A server that makes a number anew now and then, without spaces, as memcached does if another client reads the old one."""
+
+    def __init__(self, seed):
+        super().__init__()
+        self.draw = random.Random(seed)
+
+    def answer(self, call):
+        reply = super().answer(call)
+        if reply.name == "number" and self.draw.random() < 0.3:
+            item = self.items[call.key]
+            self.items[call.key] = item._replace(value=item.value.rstrip(b" "))
+        return reply
+
+
+def pads_from_before():
+    """A number from before a recording may have spaces after it, which only a later answer shows."""
+    sent = capture(1, pieces(0, b"incr n 1\r\nincr n 1 noreply\r\nget n\r\ndecr n 7\r\n"))
+    told = replies([b"7\r\nVALUE n 0 2\r\n8 \r\nEND\r\n1\r\n"])
+    certified("which are cut off", files_of((sent, told), is_warm=True))
+    kinds = "get gets setq cas incr decr incrq number delete"
+    for seed in range(60):
+        server = Padding(seed)
+        Draw(seed, 4, 20, 2, 2, kinds, server=server).run()
+        drawn = Draw(seed + 100, 4, 8, 2, 2, kinds, server=server).run()
+        certified(f"items at first {seed}", files_of((drawn.capture(), drawn.replies()), is_warm=True))
+
+
 def a_nul_is_warned_of():
     """Lines with a NUL are counted by the recorder, and values with one are not."""
     pace = Pace()
@@ -323,5 +351,5 @@ def keys_in_processes():
 
 Tests = cases(recordings_keep_their_times, added_connections_keep_times, lies_about_time_are_refused,
               five_faults_are_all_named, swapped_values_are_told, losses_by_exptime_are_counted, a_loss_that_another_key_shows,
-              what_memcached_reads_otherwise_is_no_fault, no_row_of_memcached_is_refused, counters_from_before,
+              what_memcached_reads_otherwise_is_no_fault, no_row_of_memcached_is_refused, counters_from_before, pads_from_before,
               a_nul_is_warned_of, flushes_are_kept_once, keys_in_processes)

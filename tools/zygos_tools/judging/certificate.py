@@ -22,7 +22,7 @@ from collections.abc import Iterable, Iterator
 
 from zygos_tools.files.formats import (END, JOURNAL_START, MOST_CONNECTIONS, MOST_HOLD, capture_start, hold,
                                        output_start, pieces, replies_start, segment)
-from zygos_tools.judging.events import ADD, CAS, DELETE, REPLACE, SET, Unknown
+from zygos_tools.judging.events import ADD, CAS, DECR, DELETE, INCR, REPLACE, SET, Unknown
 from zygos_tools.judging.keys import Keys
 from zygos_tools.judging.orders import CHANGED, WAS_LOST, Order
 from zygos_tools.judging.reading import Recording, sessions_of
@@ -31,6 +31,7 @@ from zygos_tools.judging.rewriting import READ_AS, rewritten
 from zygos_tools.judging.table import (ANSWERED, DROPPED, LOST, QUIET, REPLACED, VERB_OF, VERBS, WANT_BITS,
                                        WANT_OF)
 from zygos_tools.protocol.meaning import Command, line_of, words_of
+from zygos_tools.protocol.rules import PADDED
 from zygos_tools.protocol.table import is_touching
 from zygos_tools.protocol.uniques import cut_line, with_unique
 
@@ -38,6 +39,13 @@ from zygos_tools.protocol.uniques import cut_line, with_unique
 STORING = (b"set", b"add", b"replace", b"append", b"prepend", b"cas", b"incr", b"decr", b"ms")
 # the calls that give an item another exptime; a value that is joined to it keeps the old one
 GIVING = (SET, ADD, REPLACE, CAS)
+
+
+def unpadded(item: tuple[int, bytes]) -> tuple[int, bytes]:
+    """An item that was there at first, without the spaces with which memcached pads a number, since zygos counts none with
+    spaces."""
+    match = PADDED.fullmatch(item[1])
+    return (item[0], match[1]) if match else item
 
 
 class Added:
@@ -68,7 +76,8 @@ class Certificate:
     def __init__(self, recording: Recording, order: array[int], base: int, lost: list[bytes],
                  keys: Keys, begins: array[int]):
         self.recording, self.table, self.begins = recording, recording.table, begins
-        there = [(key, item) for key, item in sorted(keys.first.items()) if item]
+        there = [(key, unpadded(item) if self.counts_first(keys.found[key]) else item)
+                 for key, item in sorted(keys.first.items()) if item]
         self.added = Added(recording.count, there, len(lost))
         self.leave_out(order, base)
         self.leave_out_failed(keys)
@@ -113,6 +122,11 @@ class Certificate:
             table.kind[call], table.want[call] = DELETE, WANT_OF["deleted"]
             table.verb[command] = VERB_OF["delete"]
             self.recording.notes["items that a failed command removed"] += 1
+
+    def counts_first(self, order: Order) -> bool:
+        """Whether the first call that changes a key counts."""
+        first = next((call for call, mark in zip(order.calls, order.marks) if mark & CHANGED), None)
+        return first is not None and self.table.kind[first] in (INCR, DECR)
 
     def losses_by_time(self, order: Order) -> int:
         """How many of the losses of a key came after a command that gave the item an exptime."""

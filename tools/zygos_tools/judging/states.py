@@ -11,6 +11,7 @@ stays 0.
 """
 from __future__ import annotations
 
+import re
 from collections.abc import Callable, Iterable, Mapping, Sequence
 from typing import Union
 
@@ -25,6 +26,8 @@ AnyState = Union[State, Group]
 
 ABSENT, ANYTHING, SOMETHING, WORD, LARGE = 0, -1, -2, -3, -4
 NO_ITEM, NOTHING_KNOWN = (ABSENT, 0, 0), (ANYTHING, 0, 0)
+# a number with spaces after it, and how many lengths of such numbers are looked at
+PAD, MOST_SIZES = re.compile(rb"([0-9]{1,20}) +"), 24
 # how many bytes a key and memcached's header have at most, which count in the length of a value there
 MOST_HEAD = 512
 
@@ -61,6 +64,8 @@ class States:
     def __init__(self, loses: bool = False, is_wide: bool = False, rises: bool = True):
         self.values, self.loses, self.rises, self.flags = Values(is_wide), loses, rises, [0]
         self.is_wide, self.is_large = is_wide, False
+        # how long the numbers are that were seen with spaces after them
+        self.sizes: list[int] = []
         self.of_number: dict[int | None, list[int]] = {}
 
     def learn(self, events: Iterable[Event]) -> None:
@@ -73,7 +78,7 @@ class States:
             if kind <= CAS and kind not in (APPEND, PREPEND):
                 event.item = number(event.flags, event.value)
                 flags.add(event.flags)
-        self.flags = sorted(flags)
+        self.flags, self.sizes = sorted(flags), sizes_of(value for _, value in self.values.pairs)
         for item in range(1, len(self.values.pairs)):
             self.of_number.setdefault(self.values.numeric(item), []).append(item)
 
@@ -218,14 +223,21 @@ class States:
         """A call that counts an item that is not known."""
         if event.want == "not found":
             return ()
+        if event.want is None and state[1] and state[0] == SOMETHING:
+            return state, (SOMETHING, 0, self.top(state))
         if event.want != "number":
             is_new = event.want == "no number" and state[0] == SOMETHING
             return ((WORD, *state[1:]),) if is_new else (state,)
         if state[0] != SOMETHING:
             return ()
-        items = [self.values.number(flags, b"%d" % (event.number or 0)) for flags in self.flags]
+        items = [self.values.number(flags, text) for text in self.padded(event.number or 0) for flags in self.flags]
         top = self.top(state)
         return tuple([(item, 0, top) for item in dict.fromkeys(items + self.of_number.get(event.number, []))])
+
+    def padded(self, number: int) -> list[bytes]:
+        """A number as an item that is not known may have it: with as many spaces as numbers have that were seen."""
+        digits = b"%d" % number
+        return [digits, *(digits.ljust(size) for size in self.sizes if size > len(digits))]
 
     def join_something(self, state: State, event: Event) -> tuple[State, ...]:
         """A call that joins its piece to an item that is not known: a state of its own, as the call changed the key."""
@@ -241,6 +253,15 @@ class States:
 STEPS = {GET: States.get, SET: States.set, ADD: States.add, REPLACE: States.add, APPEND: States.join,
          PREPEND: States.join, CAS: States.exchange, INCR: States.count, DECR: States.count, DELETE: States.delete,
          FLUSH: States.flush}
+
+
+def sizes_of(values: Iterable[bytes]) -> list[int]:
+    """How long numbers in these values may be with the spaces after them: what was joined to one may begin with some."""
+    found: set[int] = set()
+    for value in values:
+        for pad in PAD.finditer(value):
+            found.update(range(pad.end(1) - pad.start() + 1, pad.end() - pad.start() + 1))
+    return sorted(found)[:MOST_SIZES]
 
 
 def stored(event: Event) -> int:
