@@ -118,15 +118,16 @@ def no_is_explained():
 
 
 def unknown_is_searched():
-    """After its `unknown` the search goes on as without it, and its `no` says that it is not proved."""
+    """After its `unknown` the search goes on as without it, and its `no`, which is not proved, is unknown."""
     for line in (SEARCHED, OTHER_LINE):
         status, lines, words, _ = asked(line, 7, "--check")
         same(line, (0, [FOUND, "nothing is translated", f"{YES} by linear"],
                     ["judge --shards 16", "linear --shards 16"]), (status, lines, words))
         status, lines, _, _ = asked(line, 7, "--check", answers=(STORED, OTHER))
-        same(f"{line}, refused", (1, "no, not proved: key a"), (status, lines[0][:21]))
+        same(f"{line}, refused", (7, "unknown: not proved: key a: no"), (status, lines[0][:30]))
         told = json.loads(asked(line, 7, "--json", answers=(STORED, OTHER))[1][0])
-        same("as JSON", ("no", False, None), (told["verdict"], told["proved"], told["checked"]))
+        same("as JSON", ("unknown", False, None, 0, 1, ["a"]),
+             (*(told[name] for name in ("verdict", "proved", "checked", "without", "unknown")), told["faults"][0]["keys"]))
     told = json.loads(asked(SEARCHED, 7, "--json", "--check")[1][0])
     same("checked by linear", ("order found", False, f"{YES} by linear"),
          (told["verdict"], told["proved"], told["checked"]))
@@ -161,7 +162,7 @@ def others_are_translated():
     status, lines, _, _ = asked(OTHER_LINE, 7, "--check", then=("no kind connection 1 command 0", 1), **more)
     same("so have its commands", (1, f"{no}kind, connection 1, command 1"), (status, lines[0][: len(no) + 29]))
     status, lines, words, _ = asked(OTHER_LINE, 7, "--check", then=(SEARCHED, 7), **lie)
-    same("unknown again", (1, "no, not proved: key a", 2), (status, lines[0][:21], len(words)))
+    same("unknown again", (7, "unknown: not proved: key a", 2), (status, lines[0][:26], len(words)))
     same("nothing to translate", ["judge --shards 16", "linear --shards 16"], asked(OTHER_LINE, 7, "--check")[2])
     same("with --may-forget, no exptime", capture(2, [RIGHT[0], *INSIDE[1:]]) + replies((STORED + b"HD\r\n", HIT)),
          asked(OTHER_LINE, 7, "--check", "--may-forget", then=(yes, 0), **more)[3])
@@ -190,7 +191,7 @@ def no_of_a_right_server():
         same(name, (True, False), (status in (0, 7), "proved" in lines[0]))
     lie = [*RIGHT, segment(2, GET), segment(2, MARK)]
     status, lines, _, _ = asked(NO, 1, "--check", records=lie, answers=(STORED, OTHER, NEVER))
-    same("a lie beside one", (1, "no, not proved: key a"), (status, lines[0][:21]))
+    same("a lie beside one", (7, "unknown: not proved: key a"), (status, lines[0][:26]))
     other = [*RIGHT, segment(0, b"set b 0 0 3\r\nx y\r\n"), segment(0, MARK)]
     status, lines, _, _ = asked(NO, 1, "--check", records=other, answers=(STORED * 2, OTHER))
     same("another key's two words", (1, "proved no: key a"), (status, lines[0][:16]))

@@ -188,7 +188,7 @@ def five_faults_are_all_named():
                   paths["answered"])
         same("the other keys have an order", (0, "order found"), (ran.returncode, ran.stdout.decode()[:11]))
         first = run("judge", "--first", "--check", paths["sent"], paths["answered"]).stdout.decode()
-        same("the first alone", 1, sum(line.startswith(("no: ", "proved no: ", "no, not proved: ")) for line in first.split("\n")))
+        same("the first alone", 1, sum(line.startswith(("no: ", "proved no: ")) for line in first.split("\n")))
 
 
 def swapped_values_are_told():

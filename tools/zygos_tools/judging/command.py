@@ -39,9 +39,9 @@ option, 3 an error in a file, 4 a failed read, 5 a failed write, 6 too little me
 
 If all keys are judged, no files are written, and ends of answers are known or --times none is given, the proved program
 `./zygos judge` is asked first, if it is there. After its `yes` nothing is searched, and the first line is `order
-found, by the proved program, ..`. A `no` that it proves begins with `proved no: ..`, another one after it with `no, not
-proved: ..`. If it does not know a command, it is asked again about what the recording is translated to, and the first
-line of a verdict says so.
+found, by the proved program, ..`. A `no` that it proves begins with `proved no: ..`. If only the search finds that there
+is no order, the first line is `unknown: not proved: ..`. If the program does not know a command, it is asked again about
+what the recording is translated to, and the first line of a verdict says so.
 """
 from __future__ import annotations
 
@@ -145,6 +145,12 @@ def counts_in(found: Counter[str]) -> str:
     return ", ".join(f"{name} {count}" for name, count in sorted(found.items()) if count)
 
 
+def unproved(fault: No) -> Unknown:
+    """What is said of a `no` of the search that the proved program was asked about, and did not prove: it accuses nobody."""
+    return Unknown(f"not proved: {fault.why}", lines=fault.lines, connections=fault.connections, record=fault.record,
+                   keys=fault.keys)
+
+
 class Explained(Exception):
     """The proved program knows an order."""
 
@@ -187,6 +193,8 @@ class Judging:
         self.screen.clear()
         if self.is_told("no") and not any(isinstance(fault, No) for fault in faults):
             faults.append(self.refuted())
+        if self.answer and not self.is_told("no"):
+            faults = [unproved(fault) if isinstance(fault, No) else fault for fault in faults]
         faults.sort(key=lambda fault: (fault.word != "no", fault.record is None, fault.record or 0))
         word = faults[0].word if faults else "order found"
         if faults:
@@ -348,11 +356,10 @@ class Judging:
         return self.answer.fault(self.judge.recording if self.judge else self.read)
 
     def headed(self, fault: Verdict) -> list[str]:
-        """What is said of the first fault: if the proved program was asked, whether a `no` is proved."""
+        """What is said of the first fault: whether a `no` is proved."""
         line, *more = fault.told()
         if fault.word == "no" and self.answer:
-            proved = "proved no of the recording as it is translated" if self.translation else "proved no"
-            line = f"{proved if self.is_told('no') else 'no, not proved'}: {fault.why}"
+            line = f"proved no{' of the recording as it is translated' if self.translation else ''}: {fault.why}"
         return [line, *more]
 
     def say_translated(self) -> None:

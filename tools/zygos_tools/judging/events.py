@@ -58,7 +58,7 @@ class Verdict(Exception):
         some = ", ".join(map(str, self.connections[:MOST_NAMED])) + ", .." * (len(self.connections) > MOST_NAMED)
         who = f"; connection{many} {some}" if self.connections and self.keys else ""
         when = f", by record {self.record}" if self.record is not None and self.keys else ""
-        why = self.why.removeprefix(f"{self.subject()}: ")
+        why = self.why.replace(f"{self.subject()}: ", "", 1)
         return f"  {self.word}: {self.subject()}{f': {why}' if self.word == 'unknown' and self.keys else ''}{who}{when}"
 
     def __reduce__(self) -> tuple[object, ...]:
