@@ -424,7 +424,7 @@ def one_window_with_items():
     command_line = "  connection 0, command 0, sent 0, answered 1: get a -> VALUE a 0 1"
     same("no", (1, [f"proved no: {why}", command_line], ["judge --from --shards 16"]), judged_by(program, "--from", "one", *files[1]))
     window(2, (b"md a\r\n", b"HD\r\n"))
-    said = "unknown: only the proved program takes items, and it says: unknown other connection 0 command 0"
+    said = "unknown: only the proved program takes items, and it says: unknown other connection 0 command 0, key a"
     same("unknown", (7, [said], ["judge --from --to --shards 16"]), judged_by(program, "--from", "one", "--to", "three", *files[1]))
     same("nothing is written", False, os.path.exists("three"))
     with open("bad", "wb") as file:

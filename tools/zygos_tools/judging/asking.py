@@ -28,7 +28,7 @@ LINES = {0: re.compile(r"yes commands (?P<commands>\d+) ended (?P<ended>\d+)"),
                        r"|no (?P<of_session>surplus) connection (?P<connection>\d+) session (?P<session>\d+)"
                        r"|no (?P<of_command>kind|unmet|shared) connection (?P<where>\d+) command (?P<command>\d+)"
                        r"(?: part (?P<part>\d+))?"),
-         7: re.compile(r"unknown (?:other|search) connection \d+ command \d+")}
+         7: re.compile(r"unknown (?P<what>other|search) connection (?P<where>\d+) command (?P<command>\d+)")}
 # what each rule says of a command
 RULES = {"kind": "what was answered is no answer to it",
          "unmet": "no command can have made in time what it was answered",
@@ -87,14 +87,24 @@ class Answer(NamedTuple):
         return int(self.found["ended"])
 
     def keys(self, recording: Recording) -> list[bytes]:
-        """The key that a `no` is about, if it is about one."""
-        if not self.found["of_command"] or self.found["of_command"] == "kind":
+        """The key that a `no` is about, if it is about one, or the keys of the command that an `unknown` names."""
+        found = self.found.groupdict()
+        if "what" in found:
+            return self.keys_of_unknown(recording)
+        if not found.get("of_command") or found["of_command"] == "kind":
             return []
         table, asked = recording.table, recording.of_connection[int(self.found["where"])]
         command = int(self.found["command"])
         calls = table.calls_of(asked[command]) if command < len(asked) else []
         keys = [table.key[call] for call in calls][int(self.found["part"] or 0) :]
         return [table.keys[key] for key in keys[:1] if key >= 0]
+
+    def keys_of_unknown(self, recording: Recording) -> list[bytes]:
+        """The keys of the command that an `unknown` names."""
+        table, asked = recording.table, recording.of_connection[int(self.found["where"])]
+        command = int(self.found["command"])
+        calls = table.calls_of(asked[command]) if command < len(asked) else []
+        return list(dict.fromkeys(table.keys[table.key[call]] for call in calls if table.key[call] >= 0))
 
     def fault(self, recording: Recording | None) -> No:
         """A `no` of the program in words, with the command if it is found in what was read."""

@@ -18,7 +18,7 @@ from typing import Any, NamedTuple, Optional
 from zygos_tools.cli.screen import Screen
 from zygos_tools.judging import firsts
 from zygos_tools.judging.events import counted
-from zygos_tools.judging.firsts import Item, Shown, named
+from zygos_tools.judging.firsts import NOTHING_SHOWN, Item, Shown, named
 from zygos_tools.judging.keeping import Found, Kept, Link, Window
 from zygos_tools.judging.processes import JudgeOne, Processes
 from zygos_tools.recording.windows import window_name
@@ -32,8 +32,12 @@ FOUND = "order found"
 OWN = ("--may-forget", "--shards", "--times", "--seconds")
 # what is counted of the retrievals that are added
 ADDED = "retrievals added at the end of a window"
-# how many keys are named of a window that is not joined
-MOST_KEYS = 4
+# what it says if it does not know an order
+SEARCHED = "unknown search"
+# the command that it names if it found one, and its proved check refused that
+REFUSED = "unknown search connection 0 command 0"
+# how many keys are named of a window that is not joined, and how often retrievals are dropped
+MOST_KEYS, MOST_TRIES = 4, 12
 
 
 class Break(NamedTuple):
@@ -66,6 +70,8 @@ class Chain:
         self.added: dict[int, Items] = defaultdict(dict)
         self.tried: set[tuple[int, bytes, Optional[Item]]] = set()
         self.shown: dict[int, Shown] = {}
+        # by window, the items that later ones show of the keys that it was the last to change, once they are known
+        self.wanted: Optional[dict[int, Items]] = None
         # what the program said of windows of which it finds no order at all, and the files of windows when it was asked
         self.alone: dict[int, str] = {}
         self.files: dict[int, list[list[Any]]] = {}
@@ -139,13 +145,15 @@ class Chain:
         self.files[number] = self.kept.files_of(self.windows[number])
         before = self.links.get(number - 1)
         words = {"--from": self.path(number - 1)} if before else self.words_for_part(number)
-        found = self.asked(number, words, self.added[number])
+        if self.wanted is None and number < self.last:
+            self.look_ahead(number)
+        found = self.asked_often(number, words)
         if self.is_joined(number, found, before):
             return number + 1
-        if self.added[number]:
+        again = self.mend(number, found) if before else 0
+        if not again and self.added[number]:
             self.added[number].clear()
-            return number
-        again = self.mend(number) if before else 0
+            again = number
         if again:
             return again
         if before and found.get("answered"):
@@ -158,6 +166,32 @@ class Chain:
             self.kept.keep_failure(self.windows[number], before.items if before else None, self.alone[number],
                                    self.files[number])
         return number + 1
+
+    def asked_often(self, number: int, words: dict[str, Any]) -> Found:
+        """What the program finds of a window, without the retrievals that stand in the way. If it knows no order, one is
+        searched, in which all keys have at last what later windows show."""
+        found = self.asked(number, {**words, "unsearched": True}, self.added[number])
+        if SEARCHED in reason(found):
+            self.add_wanted(number, is_all=True)
+            self.screen.show(f"window {number} of {self.last}: an order is searched")
+            found = self.asked(number, words, self.added[number])
+        for _ in range(MOST_TRIES):
+            if found.get("verdict") == FOUND or found.get("needed") or not self.drop(number, found):
+                break
+            found = self.asked(number, words, self.added[number])
+        return found
+
+    def drop(self, number: int, found: Found) -> bool:
+        """Drops retrievals that were added to a window: those of the keys of which there is no order, or half of all if the
+        program found an order and its check refused it. Gives whether there are such ones."""
+        added = self.added[number]
+        keys = {key for fault in found.get("faults", ()) for key in fault["keys"]}
+        some = [key for key in added if named([key]) in keys]
+        if not some and (not keys or REFUSED in reason(found)):
+            some = list(added)[len(added) // 2 :]
+        for key in some:
+            del added[key]
+        return bool(some)
 
     def words_for_part(self, number: int) -> dict[str, Any]:
         """The words for a window that begins a part: from items that it may have begun with, of those that were left last
@@ -175,7 +209,7 @@ class Chain:
 
     def asked(self, number: int, words: dict[str, Any], added: Items) -> Found:
         """What the program finds of a window that begins so, with these items shown at its end."""
-        return self.asked_by(number, {**words, "--to": self.path(number), "--over": True}, added)
+        return self.asked_by(number, {**words, "--to": self.path(number), "--over": True, "helpers": self.most}, added)
 
     def asked_by(self, number: int, words: dict[str, Any], added: Items) -> Found:
         """The same by these words."""
@@ -247,14 +281,15 @@ class Chain:
         left = firsts.items_in(self.path(number - 1), shown)
         return {key: item for key, item in shown.items() if not firsts.is_same(item, left.get(key))}
 
-    def mend(self, number: int) -> int:
-        """Has earlier windows asked for the items that this one shows at first. Gives the first of them, which is
-        judged again; 0 if there is none."""
-        wanted = {key: item for key, item in self.differing(number).items() if firsts.can_ask(key)}
+    def mend(self, number: int, found: Found) -> int:
+        """Has earlier windows asked for the items that this one shows at first, or has in an order that was searched. Gives
+        the first of them, which is judged again; 0 if there is none."""
+        items = {**firsts.items_of(found.get("needed", ())), **self.differing(number)}
+        wanted = {key: item for key, item in items.items() if firsts.can_ask(key)}
         added = [one for one, keys in self.sources(number - 1, wanted).items() for key in keys
                  if self.is_added(one, key, wanted[key])]
         if added:
-            self.look_ahead(number)
+            self.look_ahead(min(added))
             self.forget(min(added))
         return min(added, default=0)
 
@@ -268,15 +303,33 @@ class Chain:
         return True
 
     def look_ahead(self, number: int) -> None:
-        """Adds the retrievals that later windows will ask for: of CAS values which only they show."""
-        for later in (one for one in self.windows if one > number):
-            for key, item in self.see(later).firsts.items():
-                one = later - 1
-                while one >= number and one in self.windows and not self.see(one).has_changed(key):
-                    one -= 1
-                if (item and item.unique is not None and one >= number and one in self.windows and firsts.can_ask(key)
-                        and self.see(one).uniques.get(key) != item.unique):
-                    self.is_added(one, key, item)
+        """Adds the retrievals that later windows will ask for, from a window on: of CAS values which only they show."""
+        for one in self.wanted_items():
+            if one >= number:
+                self.add_wanted(one)
+
+    def add_wanted(self, number: int, is_all: bool = False) -> None:
+        """Adds the retrievals to a window that later ones will ask for: of all items that they show at first, or only of
+        those with a CAS value that the window does not show."""
+        for key, item in self.wanted_items().get(number, {}).items():
+            is_new = item and item.unique is not None and self.see(number).uniques.get(key) != item.unique
+            if (is_all or is_new) and key not in self.added[number] and firsts.can_ask(key):
+                self.is_added(number, key, item)
+
+    def wanted_items(self) -> dict[int, Items]:
+        """By window, the items that later ones show at first, of the keys that it was the last to change."""
+        if self.wanted is None:
+            self.wanted, last, flushed = defaultdict(dict), dict[bytes, int](), 0
+            for number in range(self.first, self.last + 1):
+                shown = self.see(number) if number in self.windows else NOTHING_SHOWN
+                for key, item in shown.firsts.items():
+                    one = max(last.get(key, 0), flushed)
+                    old = self.wanted[one].get(key)
+                    if one in self.windows and not (old and item and old.unique is not None):
+                        self.wanted[one][key] = item
+                last.update(dict.fromkeys(shown.changed, number))
+                flushed = number if shown.changes_all else flushed
+        return self.wanted
 
     def sources(self, number: int, keys: Iterable[bytes]) -> dict[int, set[bytes]]:
         """By window, which of these keys it was the last that may have changed, up to a window."""

@@ -67,10 +67,11 @@ from zygos_tools.files.formats import Output, shown
 from zygos_tools.files.inputs import capture_alone, check_items, outputs_in, pieces_of
 from zygos_tools.files.outputs import Beside, refuse_full, told_apart
 from zygos_tools.files.part import Fault
-from zygos_tools.judging import asking, sharing, windows
+from zygos_tools.judging import asking, narrowing, sharing, windows
 from zygos_tools.judging.certificate import Certificate
 from zygos_tools.judging.clock import Clock
 from zygos_tools.judging.events import No, Unknown, Verdict, counted
+from zygos_tools.judging.firsts import Item, items_in, needed, texts_of
 from zygos_tools.judging.judge import Judge
 from zygos_tools.judging.reading import Recording
 from zygos_tools.judging.times import ENDS, NONE, SEGMENTS
@@ -94,6 +95,8 @@ NOT_CERTIFIED = "not certified: --check asks the proved program, and --out FILES
 BY_PROGRAM = "order found, by the proved program, on the bytes as they were recorded"
 OF_TRANSLATED = "order found, by the proved program, on the bytes as they are translated"
 BETWEEN = "only the proved program takes items, and it "
+# the beginning of its line if it found no order
+SEARCHED = "unknown search"
 NO_CHECKER = "the proved program that certifies an order has no verdict"
 REFUSED = "the proved program refuses this order, so there is no verdict; please report it, with the recording"
 # how much processor time the search has
@@ -174,8 +177,10 @@ class Judging:
         self.checked = self.recording = ""
         # what the proved program `judge` said, if it was asked and answered
         self.answer: asking.Answer | None = None
+        # the items at first of an order that was searched, if other CAS values were given of them
+        self.needed: dict[bytes, Item] = {}
         # the recording as it was translated for that, if it was, and as it was read, if nothing is searched
-        self.translation: Translation | None = None
+        self.translation: Translation | narrowing.Narrowed | None = None
         self.read: Recording | None = None
         self.clock = Clock(given.get("--seconds", SECONDS), self.screen.ticker(), "--seconds" in given)
 
@@ -280,8 +285,38 @@ class Judging:
             self.is_read = False
             check_items(given["--from"])
             self.is_read = True
+        if self.is_told("no"):
+            return []
         said = f"says: {self.answer.line}" if self.answer else "gives no answer" if may_ask else "is not asked"
-        return [] if self.is_told("no") else [Unknown(BETWEEN + said)]
+        keys = self.answer.keys(self.read) if self.answer and self.read else []
+        said += f", key {', '.join(map(shown, keys))}" if keys else ""
+        others = self.unnarrowed(capture, replies) if said.startswith(f"says: {SEARCHED}") else []
+        return [Unknown(BETWEEN + said, keys=keys), *others]
+
+    def unnarrowed(self, capture: bytes, replies: list[Output]) -> list[Verdict]:
+        """Searches an order from the items that are given, and asks the program about the recording at the times of this
+        order. Gives what is said of the keys without one."""
+        given = self.given
+        if "unsearched" in given:
+            return []
+        try:
+            judge = self.judge = Judge(capture, replies, given.get("--shards", 16), given.get("--times"),
+                                       loses="--may-forget" in given, clock=self.clock, has_reasons=False, is_first=False)
+            known = items_in(given["--from"], judge.table.key_of) if "--from" in given else {}
+            judge.keys.first.update({key: known[key][:2] if key in known else None for key in judge.keys.names})
+            judge.search(given.get("helpers", given.get("--processes", 1)))
+            if judge.faults:
+                return judge.faults
+            self.needed = needed(judge.table, judge.keys.found, known)
+            judge.merge()
+            narrowed = narrowing.narrowed(judge)
+        except Verdict as verdict:
+            return [verdict]
+        answer = narrowed and self.answered(narrowed.pieces)
+        if answer and answer.word == "yes":
+            self.answer, self.translation, self.checked = answer, narrowed, answer.line
+            raise Explained
+        return []
 
     # ---- the proved program
 
@@ -494,7 +529,7 @@ class Judging:
             counts.update({"ended": self.answer.ended()} if self.is_between else {})
         line = {"verdict": word, "proved": is_proved, **counts,
                 "translated": {name: count for name, count in sorted(found.items()) if count},
-                "checked": self.checked or None, **({"answered": self.answer is not None} if self.is_between else {}),
+                "checked": self.checked or None, **({"answered": self.answer is not None, "needed": texts_of(self.needed)} if self.is_between else {}),
                 "faults": [{"verdict": fault.word, "keys": [shown(key) for key in fault.keys], "why": fault.why,
                             "connections": fault.connections, "record": fault.record}
                            for fault in faults[:MOST_FAULTS]],

@@ -11,7 +11,7 @@ from __future__ import annotations
 import json
 import os
 import re
-from collections.abc import Container, Iterable
+from collections.abc import Container, Iterable, Mapping
 from typing import Any, NamedTuple, Optional
 
 from zygos_tools.files.formats import Item as Kept
@@ -22,13 +22,18 @@ from zygos_tools.files.inputs import capture_alone, outputs_in, parts
 from zygos_tools.files.outputs import Beside
 from zygos_tools.judging import pairing, times
 from zygos_tools.judging.doubts import leave_out_entering
-from zygos_tools.judging.events import ADD, APPEND, CAS, FOREVER, GET, INCR, PREPEND, REPLACE, SET, brief
+from zygos_tools.judging.events import (ADD, APPEND, CAS, DECR, DELETE, FOREVER, GET, INCR, PREPEND, REPLACE, SET,
+                                         brief)
+from zygos_tools.judging.orders import Order
 from zygos_tools.judging.reading import Recording
 from zygos_tools.judging.seeing import Seeing
 from zygos_tools.judging.table import (DROPPED, HAS_FLAGS, HAS_UNIQUE, HAS_VALUE, NO_KEY, REPLACED, W_HIT, W_MISS,
                                        WANT_BITS, WANT_OF, WANTS, Table)
 from zygos_tools.protocol import meaning
+from zygos_tools.protocol.rules import PADDED
 
+# how many changes of a key are looked at
+MOST_CHANGES = 200
 # the calls that store a whole value, and the replies of those that change nothing
 STORING = (SET, ADD, REPLACE, CAS)
 UNCHANGED = tuple(WANT_OF[name] for name in ("not stored", "exists", "not found", "no number"))
@@ -117,11 +122,10 @@ class Firsts:
         self.table = recording.table
         self.found: dict[bytes, Optional[Item]] = {}
         self.uniques: dict[bytes, int] = {}
-        # by key, when the first of its changes was sent, when one had surely been made, and what they store; None for
-        # what is not known
+        # by key, when the first of its changes was sent, when one had surely been made, and these calls
         self.since: dict[int, int] = {}
         self.until: dict[int, int] = {}
-        self.values: dict[int, list[tuple[int, Optional[bytes]]]] = {}
+        self.changes: dict[int, list[int]] = {}
         self.touched: set[int] = set()
         self.expiring: set[int] = set()
         self.implied: dict[bytes, Optional[Item]] = {}
@@ -165,8 +169,7 @@ class Firsts:
             return
         if table.want[call]:
             self.until[key] = min(self.until.get(key, FOREVER), table.end[command])
-        is_known = kind in STORING and len(self.values.get(key, ())) < 8
-        self.values.setdefault(key, []).append((begin, table.value(call) if is_known else None))
+        self.changes.setdefault(key, []).append(call)
 
     def see(self, call: int) -> None:
         """Takes what a retrieval shows, if that is the first item of its key."""
@@ -188,13 +191,41 @@ class Firsts:
             self.found[name] = item
 
     def may_be_stored(self, key: int, item: Optional[Item], end: int) -> bool:
-        """Whether a change that was sent before a moment may have made this of its key."""
-        return any(begin < end and (item is None or value is None or value == item.value)
-                   for begin, value in self.values[key])
+        """Whether a change that was sent before a moment may have made this of its key; of many, that is taken to be so."""
+        table, changes = self.table, self.changes[key]
+        sent = [call for call in changes[: MOST_CHANGES + 1] if table.begin[table.command[call]] < end]
+        return len(sent) > MOST_CHANGES or any(self.can_make(call, item) for call in sent)
+
+    def can_make(self, call: int, item: Optional[Item]) -> bool:
+        """Whether a change may have made this of its key."""
+        table, kind = self.table, self.table.kind[call]
+        if table.want[call] & WANT_BITS == WANT_OF["failed"]:
+            return item is None
+        if item is None:
+            return kind not in STORING
+        if kind in (INCR, DECR):
+            return PADDED.fullmatch(item.value) is not None
+        return kind != DELETE and (kind not in STORING or table.value(call) == item.value)
 
     def changed(self) -> set[bytes]:
         """The keys that may have been changed, or that got an exptime."""
         return {self.table.keys[key] for key in self.touched | self.since.keys() if key != NO_KEY}
+
+
+def shown_in_order(table: Table, order: Order) -> Optional[int]:
+    """The CAS value that is shown of the item at first of a key, in an order of its calls."""
+    for call, mark in zip(order.calls, order.marks):
+        if mark:
+            return None
+        if table.want[call] & HAS_UNIQUE:
+            return table.seen[call]
+    return None
+
+
+def needed(table: Table, orders: Mapping[bytes, Order], known: Mapping[bytes, Item]) -> dict[bytes, Item]:
+    """The items that keys have at first in orders of their calls, if they were known with other CAS values."""
+    found = {key: (item, shown_in_order(table, orders[key])) for key, item in known.items() if key in orders}
+    return {key: item._replace(unique=unique) for key, (item, unique) in found.items() if unique not in (None, item.unique)}
 
 
 def may_expire(table: Table, command: int) -> bool:
@@ -221,9 +252,7 @@ def shown_by(names: list[str], given: dict[str, Any]) -> Shown:
 def line_of(names: list[str], given: dict[str, Any]) -> str:
     """The same as a line of JSON."""
     found = shown_by(names, given)
-    firsts, implied = ([[text_of(key), item and [item.flags, text_of(item.value), item.unique]]
-                        for key, item in some.items()] for some in (found.firsts, found.implied))
-    return json.dumps({"firsts": firsts, "implied": implied,
+    return json.dumps({"firsts": texts_of(found.firsts), "implied": texts_of(found.implied),
                        "changed": list(map(text_of, found.changed)), "all": found.changes_all,
                        "expiring": list(map(text_of, found.expiring)),
                        "uniques": [[text_of(key), unique] for key, unique in found.uniques.items()], "sure": found.is_sure})
@@ -233,10 +262,19 @@ def of_line(found: Any) -> Shown:
     """What such a line says; nothing is known if it says something else."""
     if not found or "firsts" not in found:
         return NOTHING_SHOWN
-    firsts, implied = ({bytes_of(key): item and Item(item[0], bytes_of(item[1]), item[2]) for key, item in found[name]}
-                       for name in ("firsts", "implied"))
+    firsts, implied = items_of(found["firsts"]), items_of(found["implied"])
     return Shown(firsts, implied, set(map(bytes_of, found["changed"])), found["all"], set(map(bytes_of, found["expiring"])),
                  {bytes_of(key): unique for key, unique in found["uniques"]}, found["sure"])
+
+
+def texts_of(items: Mapping[bytes, Optional[Item]]) -> list[Any]:
+    """Items by their keys, for JSON."""
+    return [[text_of(key), item and [item.flags, text_of(item.value), item.unique]] for key, item in items.items()]
+
+
+def items_of(texts: Iterable[Any]) -> dict[bytes, Optional[Item]]:
+    """The items of such texts."""
+    return {bytes_of(key): item and Item(item[0], bytes_of(item[1]), item[2]) for key, item in texts}
 
 
 def text_of(key: bytes) -> str:

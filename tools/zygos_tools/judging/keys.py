@@ -123,7 +123,7 @@ class Keys:
                 else self.order_of(calls)
         except Stuck as stuck:
             if not self.has_reasons:
-                raise Unknown("there is no order") from None
+                raise Unknown("there is no order", keys=names) from None
             from zygos_tools.judging.reasons import reason_of  # which takes keys itself
             raise reason_of(self, calls, stuck.at) from None
         except GaveUp:

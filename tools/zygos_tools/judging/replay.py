@@ -86,6 +86,8 @@ class Replay:
         self.losses = Counter[bytes]()
         self.pads: dict[bytes, bool] = {}
         self.replies: dict[int, list[Reply]] = {}
+        # the replies to calls that are not answered, each with the number in it
+        self.quiet: dict[int, tuple[str, int]] = {}
         self.places = places_of(table)
         for command, state in enumerate(table.state):
             if state & (LOST | ANSWERED) == LOST | ANSWERED:  # its answer said that it may not have been made
@@ -126,6 +128,8 @@ class Replay:
         flags = table.flags[call]
         name, answer = self.store.change(kind, shard, key, flags, value, given)
         self.note_pads(kind, key, old, self.store.items[shard].get(key))
+        if table.state[command] & QUIET:
+            self.quiet[call] = name, answer
         wanted = WANTS[want & WANT_BITS]
         if wanted not in (None, name) or wanted == "number" and table.seen[call] != answer:
             raise Unknown(self.why_otherwise([key], name), lines=[table.event(call).told()])
