@@ -7,7 +7,7 @@ usage: tests/stand_in.py judge [--warm] [--may-forget] [--shards N]
 It reads a capture, with --from an items file, and a replies file from standard input, and says `yes`, `no` or `unknown` as
 the program does. It knows `set`, `add`, `delete`, `get` and `gets`, and looks for an order in which calls that
 overlap come in any sequence; of those that explain the answers it takes the first, by the last bytes that were sent. So
-its searches are for a few commands that overlap only.
+its searches are for a few commands that overlap only. If commands on the key `hard` overlap, it finds no order.
 """
 import itertools
 import sys
@@ -99,6 +99,10 @@ def judged(text, words):
     calls, found = read_input(text, "--from" in words)
     if any(call.words[0] not in (b"get", b"gets", b"set", b"add", b"delete") for own in calls for call in own):
         return 7, b"unknown other connection 0 command 0\n"
+    hard = sorted((call for own in calls for call in own if call.key == b"hard"), key=lambda call: call.sent)
+    for one, other in zip(hard, hard[1:]):
+        if other.sent < one.ended:
+            return 7, f"unknown search connection {one.connection} command {one.number}\n".encode()
     items, bound = {one.key: (one.flags, one.unique, one.value) for one in found.items}, found.bound
     everything = list(itertools.chain(*calls))
     for key in sorted({call.key for call in everything}):

@@ -14,7 +14,7 @@ from spelled import bytes_of
 from thought import USUAL, WIDE, Draw, Memcached, in_sessions
 from zygos_tools.files.formats import (Call, Part, Segment, capture, close, cut_all, journal, pieces, read_capture,
                                        read_journal, replies, replies_file, segment)
-from zygos_tools.judging import mending
+from zygos_tools.judging import mending, narrowing
 from zygos_tools.judging.clock import Clock
 from zygos_tools.judging.judge import Judge
 from zygos_tools.protocol.pace import Pace
@@ -318,6 +318,25 @@ def pads_from_before():
         certified(f"items at first {seed}", files_of((drawn.capture(), drawn.replies()), is_warm=True))
 
 
+def times_are_narrowed():
+    """At the times of an order that was found, commands come one after the other, and all are answered."""
+    kinds = "get gets set setq cas incr decr incrq number delete add"
+    for seed in range(10):
+        kinds += " mget" * (seed == 5)
+        drawn = Draw(seed, 6, 20, 4, 3, kinds).run()
+        judge = Judge(drawn.capture(), outputs_of(drawn.replies()))
+        judge.run()
+        given, told = b"".join(narrowing.narrowed(judge).pieces([b"ZYG"])).split(b"ZYG" * 2)
+        records = read_capture(Part("capture", given)).records
+        again = Judge(given, outputs_of(b"ZYG" + told))
+        again.run()
+        same(f"{seed}, the commands", len(judge.table.verb), len(again.table.verb))
+        same(f"{seed}, which are answered", len(again.table.verb), sum(not record.text for record in records))
+        if seed < 5:
+            same(f"{seed}, one after the other", True, all(bool(one.text) == (at % 2 == 0) for at, one in enumerate(records)))
+            same(f"{seed}, in the order", True, list(judge.places()) == list(again.places()))
+
+
 def a_nul_is_warned_of():
     """Lines with a NUL are counted by the recorder, and values with one are not."""
     pace = Pace()
@@ -351,5 +370,5 @@ def keys_in_processes():
 
 Tests = cases(recordings_keep_their_times, added_connections_keep_times, lies_about_time_are_refused,
               five_faults_are_all_named, swapped_values_are_told, losses_by_exptime_are_counted, a_loss_that_another_key_shows,
-              what_memcached_reads_otherwise_is_no_fault, no_row_of_memcached_is_refused, counters_from_before, pads_from_before,
+              what_memcached_reads_otherwise_is_no_fault, no_row_of_memcached_is_refused, counters_from_before, pads_from_before, times_are_narrowed,
               a_nul_is_warned_of, flushes_are_kept_once, keys_in_processes)

@@ -330,6 +330,35 @@ def unknown_numbers_are_asked_for():
          (lambda found: (found[0], found[1][0]))(joined()))
 
 
+def hard_windows_are_searched():
+    """Of a window of which the program finds no order one is searched, and the program judges it at the times of this."""
+    x, y, look = b"set hard 0 0 1\r\nx\r\n", b"set hard 0 0 1\r\ny\r\n", b"get hard\r\n"
+    shown = {value: b"VALUE hard 0 1\r\n%s\r\nEND\r\n" % value for value in (b"x", b"y", b"z")}
+    for value in (b"x", b"y"):
+        unkept()
+        together(1, (0, x, STORED), (1, y, STORED), (2, look, shown[b"x"]))
+        together(2, (0, look, shown[value]), (1, look, shown[value]))
+        status, lines, _ = joined()
+        same(f"{value}, joined", (0, "order found, by the proved program, in 2 windows as one recording: 5 commands", JOINED), (status, *lines[:2]))
+        same(f"{value}, what is counted", "translated: commands at the times of an order that was searched ", lines[2][:64])
+    together(2, (0, look, shown[b"z"]), (1, look, shown[b"z"]))
+    status, lines, _ = joined()
+    same("not joined", (7, "unknown: window 2: key hard: it shows 'z' at first, and window 1 left"), (status, lines[0][:69]))
+    together(1, (0, x, STORED), (1, look, shown[b"y"]))
+    status, lines, _ = joined()
+    same("a lie that is not refuted", (7, "unknown: window 1: not proved: key hard: no"), (status, lines[0][:43]))
+
+
+def retrievals_are_dropped_by_their_keys():
+    """A retrieval of which there is no order is left out, and the others stay."""
+    window(1, (SET, STORED), (b"set b 0 0 1\r\nx\r\n", STORED))
+    window(2, (b"gets a\r\n", b"VALUE a 0 1 7\r\nx\r\nEND\r\n"), (b"gets b\r\n", b"VALUE b 0 1 8\r\ny\r\nEND\r\n"))
+    status, lines, _ = joined()
+    same("a lie about one key", (1, "no: window 2: key b: it shows 'y', CAS value 8 at first, which no order of window 1 leaves"),
+         (status, lines[0]))
+    same("and what was added", "translated: retrievals added at the end of a window 1", lines[-1])
+
+
 def what_a_window_shows():
     """First items are those that were shown before any change was sent, or that no change stores; others are implied."""
     gets = b"gets %s\r\n"
@@ -443,4 +472,4 @@ def one_window_with_items():
 Tests = cases(each_has_an_order, some_are_not_joined, nothing_is_no_fault, only_new_ones_are_judged, faults_are_named, gaps_break_the_chain, failures_are_not_kept,
               two_at_a_time, folders_are_refused, stale_reads_are_found, overlapping_stores_leave_either,
               changes_that_leave_nothing_are_asked_too, one_of_them_is_added, unknown_numbers_are_asked_for, gone_windows_stay_joined,
-              what_a_window_shows, items_to_begin_with, copies_ask_for_items, one_window_with_items, has_folder=True)
+              hard_windows_are_searched, retrievals_are_dropped_by_their_keys, what_a_window_shows, items_to_begin_with, copies_ask_for_items, one_window_with_items, has_folder=True)

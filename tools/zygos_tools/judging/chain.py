@@ -72,6 +72,8 @@ class Chain:
         self.shown: dict[int, Shown] = {}
         # by window, the items that later ones show of the keys that it was the last to change, once they are known
         self.wanted: Optional[dict[int, Items]] = None
+        # whether there was a window of which the program knew no order: then one is searched of the later ones too
+        self.is_searched = False
         # what the program said of windows of which it finds no order at all, and the files of windows when it was asked
         self.alone: dict[int, str] = {}
         self.files: dict[int, list[list[Any]]] = {}
@@ -170,10 +172,12 @@ class Chain:
     def asked_often(self, number: int, words: dict[str, Any]) -> Found:
         """What the program finds of a window, without the retrievals that stand in the way. If it knows no order, one is
         searched, in which all keys have at last what later windows show."""
-        found = self.asked(number, {**words, "unsearched": True}, self.added[number])
-        if SEARCHED in reason(found):
+        found: Found = {}
+        if not self.is_searched:
+            found = self.asked(number, {**words, "unsearched": True}, self.added[number])
+            self.is_searched = SEARCHED in reason(found)
+        if self.is_searched:
             self.add_wanted(number, is_all=True)
-            self.screen.show(f"window {number} of {self.last}: an order is searched")
             found = self.asked(number, words, self.added[number])
         for _ in range(MOST_TRIES):
             if found.get("verdict") == FOUND or found.get("needed") or not self.drop(number, found):
