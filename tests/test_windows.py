@@ -374,7 +374,9 @@ def what_a_window_shows():
     implied = {b"d": item(0, b"8", None), b"e": item(0, b"0", None), b"f": None, b"g": item(0, b"", None), b"h": item(0, b"0", 9),
                b"i": None}
     same("implied ones", implied, {key: one for key, one in found.implied.items() if key not in b"abc"})
-    same("changed", (set(b"a c d e g h i".split()), False, {b"c"}), (found.changed, found.changes_all, found.expiring))
+    same("changed", (set(b"a c d e g h i".split()), False, {b"c"}), (set(found.changed), found.changes_all, found.expiring))
+    makes = [found.changed[key].can_be(item(0, value, None)) for key in (b"a", b"c", b"d", b"g") for value in (b"y", b"7 ")]
+    same("what may be made of them", [True, False, False, False, False, True, True, True], makes)
     same("CAS values", ({b"a": 7, b"i": 20}, True), (found.uniques, found.is_sure))
     same("as a line", found, firsts.of_line(json.loads(firsts.line_of(["my.000001.cap", "my.000001.replies"], {}))))
     together(1, *SETS, (2, GET, b"VALUE a 0 1\r\nz\r\nEND\r\n"), (3, GET, HIT), (4, b"flush_all noreply\r\n", b""), (5, b"get b\r\n", b"END\r\n"))
@@ -392,7 +394,7 @@ def items_to_begin_with():
     with open("left", "wb") as file:
         file.write(formats.items_file(left))
     shown = firsts.Shown({b"a": item(1, b"y", 12), b"b": None, b"d": item(2, b"z", None)},
-                         {b"a": None, b"e": item(0, b"0", None), b"f": item(0, b"0", None)}, set(), False, set(), {}, True)
+                         {b"a": None, b"e": item(0, b"0", None), b"f": item(0, b"0", None)}, {}, False, set(), {}, True)
     wanted = [kept(b"a", 1, 12, b"y"), kept(b"c", 0, 9, b"x"), kept(b"d", 2, 0, b"z"), kept(b"e", 1, 5, b"x"), kept(b"f", 0, 0, b"0")]
     for name, items in (("left", formats.Items(12, wanted, [b"b"])),
                         ("", formats.Items(12, [wanted[0], wanted[2], wanted[4]._replace(key=b"e"), wanted[4]], []))):

@@ -323,17 +323,31 @@ class Chain:
     def wanted_items(self) -> dict[int, Items]:
         """By window, the items that later ones show at first, of the keys that it was the last to change."""
         if self.wanted is None:
-            self.wanted, last, flushed = defaultdict(dict), dict[bytes, int](), 0
+            self.wanted = defaultdict(dict)
+            changers: dict[bytes, list[int]] = defaultdict(list)
+            flushed = 0
             for number in range(self.first, self.last + 1):
                 shown = self.see(number) if number in self.windows else NOTHING_SHOWN
                 for key, item in shown.firsts.items():
-                    one = max(last.get(key, 0), flushed)
-                    old = self.wanted[one].get(key)
-                    if one in self.windows and not (old and item and old.unique is not None):
-                        self.wanted[one][key] = item
-                last.update(dict.fromkeys(shown.changed, number))
+                    self.want(key, item, [one for one in changers.get(key, ()) if one > flushed] or [flushed])
+                for key in shown.changed:
+                    changers[key].append(number)
                 flushed = number if shown.changes_all else flushed
         return self.wanted
+
+    def want(self, key: bytes, item: Optional[Item], changers: list[int]) -> None:
+        """Takes the item that a key had after these windows, which may have changed it: that of the last one, and of those
+        before it as long as what comes after them cannot have made it."""
+        assert self.wanted is not None
+        for one in reversed(changers):
+            if one not in self.windows:
+                return
+            old = self.wanted[one].get(key)
+            if key not in self.wanted[one] or old and item and old.unique is None and old[:2] == item[:2]:
+                self.wanted[one][key] = item
+            shown = self.see(one)
+            if item is None or shown.changes_all or shown.changed[key].can_be(item):
+                return
 
     def sources(self, number: int, keys: Iterable[bytes]) -> dict[int, set[bytes]]:
         """By window, which of these keys it was the last that may have changed, up to a window."""

@@ -11,6 +11,7 @@ from __future__ import annotations
 import json
 import os
 import re
+import zlib
 from collections.abc import Container, Iterable, Mapping
 from typing import Any, NamedTuple, Optional
 
@@ -93,15 +94,31 @@ def read_items(name: str, keys: Container[bytes]) -> tuple[dict[bytes, Item], se
 # ---- what a window shows
 
 
+class Makes(NamedTuple):
+    """What the calls of a window may make of a key: values by their sums, numbers, and others."""
+
+    sums: set[int]
+    numbers: bool
+    others: bool
+
+    def can_be(self, item: Item) -> bool:
+        """Whether an item may be made by them."""
+        return self.others or sum_of(item.value) in self.sums or self.numbers and PADDED.fullmatch(item.value) is not None
+
+
+# of a key that was touched, or whose item was removed
+NOTHING_MADE = Makes(set(), False, False)
+
+
 class Shown(NamedTuple):
     """What a window shows of its server: the items that keys surely had at first, or None of a key without one; those that
-    others may have had, by the answer to the first call on each; the keys that it may have changed, all of them if
-    `changes_all`; those that got an exptime; of keys the last CAS value that it shows; and whether it has nothing that a
-    memcached may have read otherwise, so that no other key was changed."""
+    others may have had, by the answer to the first call on each; what it may have made of the keys that it may have
+    changed, which are all of them if `changes_all`; those that got an exptime; of keys the last CAS value that it shows;
+    and whether it has nothing that a memcached may have read otherwise, so that no other key was changed."""
 
     firsts: dict[bytes, Optional[Item]]
     implied: dict[bytes, Optional[Item]]
-    changed: set[bytes]
+    changed: dict[bytes, Makes]
     changes_all: bool
     expiring: set[bytes]
     uniques: dict[bytes, int]
@@ -112,7 +129,12 @@ class Shown(NamedTuple):
         return self.changes_all or key in self.changed
 
 
-NOTHING_SHOWN = Shown({}, {}, set(), True, set(), {}, False)
+NOTHING_SHOWN = Shown({}, {}, {}, True, set(), {}, False)
+
+
+def sum_of(value: bytes) -> int:
+    """A sum of a value, which few others have."""
+    return zlib.crc32(value)
 
 
 class Firsts:
@@ -126,6 +148,7 @@ class Firsts:
         self.since: dict[int, int] = {}
         self.until: dict[int, int] = {}
         self.changes: dict[int, list[int]] = {}
+        self.makes: dict[int, Makes] = {}
         self.touched: set[int] = set()
         self.expiring: set[int] = set()
         self.implied: dict[bytes, Optional[Item]] = {}
@@ -165,11 +188,23 @@ class Firsts:
         if table.want[call] & WANT_BITS in UNCHANGED:
             return
         self.since.setdefault(key, begin)
+        self.note_value(call)
         if begin > self.until.get(key, FOREVER):
             return
         if table.want[call]:
             self.until[key] = min(self.until.get(key, FOREVER), table.end[command])
         self.changes.setdefault(key, []).append(call)
+
+    def note_value(self, call: int) -> None:
+        """Notes what a call may make of its key."""
+        table, kind, key = self.table, self.table.kind[call], self.table.key[call]
+        made = self.makes.get(key, NOTHING_MADE)
+        if kind in STORING:
+            sums = made.sums if key in self.makes else set()
+            sums.add(sum_of(table.value(call)))
+            made = made._replace(sums=sums)
+        self.makes[key] = made._replace(numbers=made.numbers or kind in (INCR, DECR),
+                                        others=made.others or kind in (APPEND, PREPEND))
 
     def see(self, call: int) -> None:
         """Takes what a retrieval shows, if that is the first item of its key."""
@@ -207,9 +242,10 @@ class Firsts:
             return PADDED.fullmatch(item.value) is not None
         return kind != DELETE and (kind not in STORING or table.value(call) == item.value)
 
-    def changed(self) -> set[bytes]:
-        """The keys that may have been changed, or that got an exptime."""
-        return {self.table.keys[key] for key in self.touched | self.since.keys() if key != NO_KEY}
+    def changed(self) -> dict[bytes, Makes]:
+        """What may have been made of the keys that may have been changed, or that got an exptime."""
+        return {self.table.keys[key]: self.makes.get(key, NOTHING_MADE) for key in self.touched | self.since.keys()
+                if key != NO_KEY}
 
 
 def shown_in_order(table: Table, order: Order) -> Optional[int]:
@@ -253,7 +289,8 @@ def line_of(names: list[str], given: dict[str, Any]) -> str:
     """The same as a line of JSON."""
     found = shown_by(names, given)
     return json.dumps({"firsts": texts_of(found.firsts), "implied": texts_of(found.implied),
-                       "changed": list(map(text_of, found.changed)), "all": found.changes_all,
+                       "changed": [[text_of(key), list(made.sums), *made[1:]] for key, made in found.changed.items()],
+                       "all": found.changes_all,
                        "expiring": list(map(text_of, found.expiring)),
                        "uniques": [[text_of(key), unique] for key, unique in found.uniques.items()], "sure": found.is_sure})
 
@@ -263,7 +300,8 @@ def of_line(found: Any) -> Shown:
     if not found or "firsts" not in found:
         return NOTHING_SHOWN
     firsts, implied = items_of(found["firsts"]), items_of(found["implied"])
-    return Shown(firsts, implied, set(map(bytes_of, found["changed"])), found["all"], set(map(bytes_of, found["expiring"])),
+    changed = {bytes_of(key): Makes(set(sums), *more) for key, sums, *more in found["changed"]}
+    return Shown(firsts, implied, changed, found["all"], set(map(bytes_of, found["expiring"])),
                  {bytes_of(key): unique for key, unique in found["uniques"]}, found["sure"])
 
 
