@@ -160,7 +160,7 @@ def edges():
 
 
 def crowded():
-    """The same of captures whose keys are in one bucket, or in one of its parts: more keys than fit in its row."""
+    """The same of captures whose keys are in one line of an index: more keys than it has slots for."""
     drawn(range(1000, 1020), crowded_capture, (1, 3))
 
 

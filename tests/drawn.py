@@ -1,11 +1,11 @@
 """Drawn captures: a few connections that send commands of all kinds, classic and meta, on the same few keys or on many keys
-of one bucket, and some faulty lines."""
+of one line of an index, and some faulty lines."""
 import functools
 import itertools
 
 from zygos_tools.files.formats import capture, close, segment
 from zygos_tools.protocol.meaning import FORMS
-from zygos_tools.protocol.model import bucket_of, part_of, shard_of
+from zygos_tools.protocol.model import hash_of, shard_of
 
 KEYS = [b"a", b"b", b"c", b"k" * 250]
 # the commands with a key and a number
@@ -87,21 +87,15 @@ def drawn_capture(draw, shards, keys=KEYS, first=()):
 
 
 @functools.lru_cache
-def one_bucket(count, front=b"", shards=1):
-    """Keys that begin alike, on one shard and in one bucket of it."""
-    alike = (key for number in itertools.count() if bucket_of(key := front + b"%d" % number) == 7)
-    return list(itertools.islice((key for key in alike if shard_of(key, shards) == 0), count))
-
-
-@functools.lru_cache
-def one_part(count, front=b"", shards=1):
-    """Keys that begin alike, on one shard and in one part of one bucket of it."""
-    alike = (key for number in itertools.count() if bucket_of(key := front + b"%d" % number) == 7 and part_of(key) == 5)
-    return list(itertools.islice((key for key in alike if shard_of(key, shards) == 0), count))
+def alike(count, bits, front=b"", shards=1):
+    """Keys that begin alike, on one shard, and whose hashes have the same first bits: they are in one line of its index, as
+    long as that has no more lines than there are numbers of so many bits."""
+    found = (key for number in itertools.count() if hash_of(key := front + b"%d" % number) >> 32 - bits == 7)
+    return list(itertools.islice((key for key in found if shard_of(key, shards) == 0), count))
 
 
 def crowded_capture(draw, shards):
-    """A drawn capture on keys of one bucket, or of one part of it, most of which are stored first."""
-    keys = draw.choice((one_bucket, one_part))(40, shards=shards)
+    """A drawn capture on keys of one line of an index, most of which are stored first."""
+    keys = alike(40, draw.choice((8, 13)), shards=shards)
     stored = (b"set %s 0 0 1\r\n%d\r\n" % (key, draw.randrange(9)) for key in draw.sample(keys, draw.randrange(10, 41)))
     return drawn_capture(draw, shards, keys, [segment(0, b"".join(stored))])

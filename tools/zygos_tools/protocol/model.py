@@ -47,16 +47,6 @@ def shard_of(key: bytes, shards: int) -> int:
     return hash_of(key) % shards
 
 
-def bucket_of(key: bytes) -> int:
-    """The bucket of a key in its shard: the first eight bits of its hash."""
-    return hash_of(key) >> 24
-
-
-def part_of(key: bytes) -> int:
-    """The part of its bucket that a key is in once the bucket has parts: the next five bits of its hash."""
-    return hash_of(key) >> 19 & 31
-
-
 def call_of(command: Command, key: bytes) -> Call:
     """The call of a command on one of its keys."""
     name = command.call or ("get" if command.verb == "gets" else command.verb)
