@@ -39,9 +39,9 @@ option, 3 an error in a file, 4 a failed read, 5 a failed write, 6 too little me
 
 If all keys are judged, no files are written, and ends of answers are known or --times none is given, the proved program
 `./zygos judge` is asked first, if it is there. After its `yes` nothing is searched, and the first line is `order
-found, by the proved program, ..`. A `no` that it proves begins with `proved no: ..`. If only the search finds that there
-is no order, the first line is `unknown: not proved: ..`. If the program does not know a command, it is asked again about
-what the recording is translated to, and the first line of a verdict says so.
+found, by the proved program, ..`. A `no` that it proves begins with `proved no: ..`; one of the search alone is then
+`unknown: not proved: ..`. If the program does not know a command, it is asked again about what the recording is
+translated to, and the first line says so.
 """
 from __future__ import annotations
 
