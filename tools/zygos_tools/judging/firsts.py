@@ -13,7 +13,7 @@ import os
 import re
 import zlib
 from collections.abc import Container, Iterable, Mapping
-from typing import Any, NamedTuple, Optional
+from typing import AbstractSet, Any, NamedTuple, Optional
 
 from zygos_tools.files.formats import Item as Kept
 from zygos_tools.files.formats import (END, MOST_CONNECTIONS, MOST_KEY, Items, big, items_bound, items_file, items_records,
@@ -97,7 +97,7 @@ def read_items(name: str, keys: Container[bytes]) -> tuple[dict[bytes, Item], se
 class Makes(NamedTuple):
     """What the calls of a window may make of a key: values by their sums, numbers, and others."""
 
-    sums: set[int]
+    sums: AbstractSet[int]
     numbers: bool
     others: bool
 
@@ -107,7 +107,7 @@ class Makes(NamedTuple):
 
 
 # of a key that was touched, or whose item was removed
-NOTHING_MADE = Makes(set(), False, False)
+NOTHING_MADE = Makes(frozenset(), False, False)
 
 
 class Shown(NamedTuple):
@@ -200,7 +200,7 @@ class Firsts:
         table, kind, key = self.table, self.table.kind[call], self.table.key[call]
         made = self.makes.get(key, NOTHING_MADE)
         if kind in STORING:
-            sums = made.sums if key in self.makes else set()
+            sums = made.sums if isinstance(made.sums, set) else set[int]()
             sums.add(sum_of(table.value(call)))
             made = made._replace(sums=sums)
         self.makes[key] = made._replace(numbers=made.numbers or kind in (INCR, DECR),
