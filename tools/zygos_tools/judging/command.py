@@ -312,7 +312,7 @@ class Judging:
             narrowed = narrowing.narrowed(judge)
         except Verdict as verdict:
             return [verdict]
-        answer = narrowed and self.answered(narrowed.pieces)
+        answer = self.answered(narrowed.pieces) if narrowed else None
         if answer and answer.word == "yes":
             self.answer, self.translation, self.checked = answer, narrowed, answer.line
             raise Explained

@@ -71,7 +71,7 @@ class Narrowed:
             yield from self.send(one)
             yield from self.answer(one)
 
-    def send(self, command: int) -> Iterator[bytes]:
+    def send(self, command: int) -> Iterable[bytes]:
         """Sends a command."""
         connection, frame = self.table.connection[command], self.table.original(command)
         self.sent[connection] += 1
