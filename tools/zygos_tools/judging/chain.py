@@ -66,8 +66,9 @@ class Chain:
         self.windows = {window.number: window for window in windows if window.is_there()}
         self.first, self.last = windows[0].number, windows[-1].number
         self.links: dict[int, Link] = {}
-        # the retrievals that are added to a window, and those that were tried
+        # the retrievals that are added to a window, those that were left out again, and those that were tried
         self.added: dict[int, Items] = defaultdict(dict)
+        self.left_out: dict[int, Items] = defaultdict(dict)
         self.tried: set[tuple[int, bytes, Optional[Item]]] = set()
         self.shown: dict[int, Shown] = {}
         # by window, the items that later ones show of the keys that it was the last to change, once they are known
@@ -153,14 +154,15 @@ class Chain:
         if self.is_joined(number, found, before):
             return number + 1
         again = self.mend(number, found) if before else 0
-        if not again and self.added[number]:
-            self.added[number].clear()
+        if not again and self.added[number] and not self.is_searched:
+            self.leave_out(number, list(self.added[number]))
             again = number
         if again:
             return again
         if before and found.get("answered"):
             broken = [before.items, *self.broken(number, found)]
-            found = self.asked(number, self.words_for_part(number), {})
+            self.added[number].update(self.left_out.pop(number, {}))
+            found = self.asked_often(number, self.words_for_part(number))
             if self.is_joined(number, found, None, broken):
                 return number + 1
         self.alone[number] = reason(found)
@@ -193,9 +195,13 @@ class Chain:
         some = [key for key in added if named([key]) in keys]
         if not some and (not keys or REFUSED in reason(found)):
             some = list(added)[len(added) // 2 :]
-        for key in some:
-            del added[key]
+        self.leave_out(number, some)
         return bool(some)
+
+    def leave_out(self, number: int, keys: Iterable[bytes]) -> None:
+        """Leaves out retrievals of these keys that were added to a window."""
+        for key in keys:
+            self.left_out[number][key] = self.added[number].pop(key)
 
     def words_for_part(self, number: int) -> dict[str, Any]:
         """The words for a window that begins a part: from items that it may have begun with, of those that were left last
