@@ -318,6 +318,18 @@ def pads_from_before():
         certified(f"items at first {seed}", files_of((drawn.capture(), drawn.replies()), is_warm=True))
 
 
+def uniques_beside_counts():
+    """A retrieval that overlaps an `incr` may show the CAS value after it with the number before it, and no other may."""
+    for late, word in ((False, "unknown"), (True, "no")):
+        steps = [(0, b"set n 0 0 3\r\n100\r\n"), (0, b""), (0, b"incr n 1\r\n"), (1, b"gets n\r\n"), (0, b""), (1, b""),
+                 (2, b"gets n\r\n"), (2, b"")]
+        if late:
+            steps[3:5] = steps[4:2:-1]
+        told = replies([b"STORED\r\n101\r\n", b"VALUE n 0 3 7\r\n100\r\nEND\r\n", b"VALUE n 0 3 7\r\n101\r\nEND\r\n"])
+        sent = capture(3, [segment(connection, text) for connection, text in steps])
+        same(f"late {late}", word, verdict(sent, outputs_of(told))[0])
+
+
 def times_are_narrowed():
     """At the times of an order that was found, commands come one after the other, and all are answered."""
     kinds = "get gets set setq cas incr decr incrq number delete add"
@@ -370,5 +382,5 @@ def keys_in_processes():
 
 Tests = cases(recordings_keep_their_times, added_connections_keep_times, lies_about_time_are_refused,
               five_faults_are_all_named, swapped_values_are_told, losses_by_exptime_are_counted, a_loss_that_another_key_shows,
-              what_memcached_reads_otherwise_is_no_fault, no_row_of_memcached_is_refused, counters_from_before, pads_from_before, times_are_narrowed,
-              a_nul_is_warned_of, flushes_are_kept_once, keys_in_processes)
+              what_memcached_reads_otherwise_is_no_fault, no_row_of_memcached_is_refused, counters_from_before, pads_from_before,
+              uniques_beside_counts, times_are_narrowed, a_nul_is_warned_of, flushes_are_kept_once, keys_in_processes)

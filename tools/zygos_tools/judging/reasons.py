@@ -7,7 +7,7 @@ forgotten. So the calls that are left have no order either, and that can be seen
 from __future__ import annotations
 
 import copy
-from bisect import bisect_left
+from bisect import bisect_left, bisect_right
 from collections.abc import Iterable, Iterator, Sequence
 from dataclasses import replace
 
@@ -56,6 +56,31 @@ def may_pad(event: Event) -> bool:
     if event.kind == INCR:
         return number < amount
     return number == 0 or len(str(number + amount)) > len(str(number))
+
+
+def beside_counts(events: Iterable[Event]) -> list[Event]:
+    """The retrievals of a key that show a CAS value and overlap an `incr` or `decr` of it. If another client reads the
+    item, memcached makes a new one, and gives both the new CAS value, which that client may then show."""
+    events = list(events)
+    counts = sorted((event.begin, event.end) for event in events
+                    if event.kind in (INCR, DECR) and event.want in ("number", None))
+    begins = [begin for begin, _ in counts]
+    latest: list[int] = []
+    for _, end in counts:
+        latest.append(max(end, latest[-1] if latest else end))
+    found = []
+    for event in events:
+        at = bisect_right(begins, event.end)
+        if event.kind == GET and event.unique is not None and at and latest[at - 1] >= event.begin:
+            found.append(event)
+    return found
+
+
+def without_unique(event: Event) -> Event:
+    """A retrieval of which the CAS value is not looked at."""
+    event = copy.copy(event)
+    event.unique = None
+    return event
 
 
 def is_odd_number(event: Event) -> bool:
@@ -161,6 +186,9 @@ class Reason:
                 self.has_order_with_joins():
             return ("a value may have been joined to a padded number, which memcached goes on counting, or begins"
                     " with a number")
+        if self.has_order_without_uniques():
+            return ("a retrieval beside an `incr` or `decr` may show the CAS value after it with the number before it, if"
+                    " memcached has several threads")
         if not self.states.loses and any(map(has_exptime, self.all)) and self.may_be_lost(self.all):
             return "an item may have been lost, as the key has an exptime: --may-forget allows losses"
         if self.keys.is_warm and not self.states.loses and self.may_expire():
@@ -189,6 +217,12 @@ class Reason:
         other = Reason(self.keys, calls, self.at)
         other.is_known = self.is_known
         return not (self.is_known and other.never_made()) and not other.is_stuck(other.all)
+
+    def has_order_without_uniques(self) -> bool:
+        """Whether there may be an order where retrievals that overlap a count of their key may show any CAS value."""
+        beside = {event.id for name in self.names for event in beside_counts(one for one in self.all if one.key == name)}
+        events = [without_unique(event) if event.id in beside else event for event in self.all]
+        return bool(beside) and not self.is_stuck(events)
 
     def may_join_a_pad(self, name: bytes) -> bool:
         """Whether a number of the key may have got a pad, then a joined value, and then was counted again: of such a
